@@ -1,6 +1,6 @@
-//! The tests of gs_port_system's objects: the standard streams, its files, and a door that listens.
+//! The tests of gs_port_system's objects: the standard streams, its files, and a TCP listener.
 //!
-//! They are in a crate of their own, since a crate with tests is proved twice.
+//! They are in a separate crate, since a crate with tests is proved twice.
 #![tactic(auto)]
 
 #[cfg(test)]

@@ -21,10 +21,10 @@ fn the_standard_streams_answer(rt: HostRuntime) {
     assert!(rt; !matches!(source.read(&mut block), ReadAnswer::Failed));
 }
 
-/// The most bytes that `read_file` may be asked for.
+/// The most bytes that a call of `read_file` may request.
 const LARGEST: usize = 16_777_216;
 
-/// What reading a file answers: the number of its bytes, or that it failed.
+/// Reads a file and returns the number of its bytes, and whether it failed.
 fn outcome<F: Files>(alloc: Global, files: &mut F, name: &str, max: usize) -> (usize, bool) {
     match read_file(alloc, files, name, max.min(LARGEST)) {
         Ok(text) => (text.as_bytes().len(), false),
@@ -54,7 +54,7 @@ fn reads_files_of_the_system(rt: HostRuntime) -> Result<(), Fail> {
     Ok(())
 }
 
-/// Accepts a connection, answers what one read of it gives by the same bytes, and finishes it.
+/// Accepts a connection, replies with the bytes of one read, and finishes it.
 fn echo_once<D: Door>(door: &mut D) -> AcceptAnswer
     requires none_open { D.is_open door.old ≡ false }
     requires listening { (D.aside door.old).opened ≡ true }
@@ -124,7 +124,7 @@ fn scripted_files_answer_by_their_script(rt: HostRuntime) {
     assert_eq!(rt; outcome(rt.alloc(), &mut files, "three", 4), (0, true));
 }
 
-/// What the first accept of a scripted door answers.
+/// Returns the answer of the first accept of a scripted listener.
 fn first_accept(calls: ScriptedCalls) -> AcceptAnswer {
     let mut door = TcpDoor::new(calls);
     match door.open("here") {
@@ -133,7 +133,7 @@ fn first_accept(calls: ScriptedCalls) -> AcceptAnswer {
     }
 }
 
-/// Reads so often, until a read gives nothing, and returns how often one gave bytes.
+/// Reads until a read gives nothing, at most `most` times. Returns how often one gave bytes.
 fn reads_given<C: Conn>(conn: &mut C, most: usize) -> usize
     requires { C.is_open conn.old ≡ true }
     ensures { C.is_open conn.new ≡ true }
@@ -148,7 +148,7 @@ fn reads_given<C: Conn>(conn: &mut C, most: usize) -> usize
     }
 }
 
-/// Writes so often, until a write fails, and returns how often one took bytes.
+/// Writes until a write fails, at most `most` times. Returns how often one took bytes.
 fn writes_taken<C: Conn>(conn: &mut C, most: usize) -> usize
     requires { C.is_open conn.old ≡ true }
     ensures { C.is_open conn.new ≡ true }
@@ -162,7 +162,7 @@ fn writes_taken<C: Conn>(conn: &mut C, most: usize) -> usize
     }
 }
 
-/// Accepts a connection, reads and writes it so often, and finishes it: how often that moved bytes.
+/// Accepts a connection, reads and writes it that often, and finishes it. Returns how often a read and a write moved bytes.
 fn moves_of<D: Door>(door: &mut D, reads: usize, writes: usize) -> (usize, usize)
     requires none_open { D.is_open door.old ≡ false }
     requires listening { (D.aside door.old).opened ≡ true }
@@ -177,7 +177,7 @@ fn moves_of<D: Door>(door: &mut D, reads: usize, writes: usize) -> (usize, usize
     (given, taken)
 }
 
-/// How often the first connection of a scripted door moves bytes.
+/// Counts the reads and writes of a scripted listener's first connection that move bytes.
 fn first_moves(calls: ScriptedCalls, reads: usize, writes: usize) -> (usize, usize) {
     let mut door = TcpDoor::new(calls);
     match door.open("here") {
@@ -199,7 +199,7 @@ fn interrupted_calls_of_a_connection_are_made_again(rt: HostRuntime) {
         GIVES,
     ];
     assert_eq!(rt; first_moves(ScriptedCalls::new(reading), 2, 1), (2, 1));
-    // (the clock ends what is interrupted for ever)
+    // (the clock ends a connection that is interrupted for ever)
     let forever = ScriptedCalls::new([
         GIVES,
         GIVES,

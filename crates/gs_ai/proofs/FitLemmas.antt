@@ -97,7 +97,7 @@ fitting (p ∷ ps) value e f g =
     and_true (fits p piece) (each_fits ps rest) (and_true _ _ (all_of_part p piece both.0) own)
     (fitting ps rest (not_mapped _ _ both.1) (and_second (keeps_check (p, piece)) _ f) (and_second (keeps_date (p, piece)) _ g))
 
--- what does not fit, with characters and check digits in order, has a wrong date
+-- a value that does not fit, but has the right characters and check digits, has a wrong date
 pub date_wrong : (parts : List Part) (value : List ℕ) → each_fits parts value ≡ false → wrong_character parts value ≡ None → list_all keeps_check (pieces parts value) ≡ true → list_all keeps_date (pieces parts value) ≡ false
 date_wrong parts value h e f = elim (true_or_false (list_all keeps_date (pieces parts value))) [
   | inl t ↦ absurd (let g = fitting parts value e f t in let bad : true ≡ false = sym g ∙ h in cc)

@@ -1,4 +1,4 @@
--- The errors of rows, one after the other.
+-- The errors of rows, row by row.
 use Rattle.std.proofs.Common.{◌≡◌, ℕ, zero, suc, ◌+◌, ◌<◌, not, Bool, true, false, cond, List, [], ◌∷◌, ◌++◌, length, take, map, filter, position, Some, None, slice_get, get_or, refl, sym, ap, ◌∙◌, arith, ◌⊎◌, inl, inr, true≢false}
 use Rattle.std.specs.List.{flat_map, enumerate_from, list_any, list_all}
 use Rattle.gs_ai.specs.declared.errors.AiFault.{AiFault}

@@ -76,7 +76,7 @@ not_any p q (x ∷ xs) e = elim (true_or_false (p x)) [
   | inr t ↦ let f = rw t at e in rw t (not_any p q xs f)
 ]
 
--- if no row after the first with the code has it too
+-- the case in which no row after the first one with the code has it too
 only_any : {X : Type 0} (p q : X → Bool) (xs : List X) (x : X) → find p xs ≡ Some x → ((i j : ℕ) (a b : X) → slice_get xs i ≡ Some a → slice_get xs j ≡ Some b → p a ≡ true → p b ≡ true → i ≡ j) → list_any (λ y. p y && q y) xs ≡ q x
 only_any p q [] x e one = absurd (let f : None ≡ Some x = e in cc)
 only_any p q (y ∷ ys) x e one = elim (true_or_false (p y)) [

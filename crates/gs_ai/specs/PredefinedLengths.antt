@@ -2,7 +2,7 @@
 use Rattle.std.specs.Prelude.{ℕ, ◌+◌, ◌-◌, ◌*◌, ◌==◌, List, [], ◌∷◌, Option, Some, None, find}
 use Rattle.std.specs.Option.{option_map, option_and_then}
 
--- trusted, own: the first two digits of an AI, as a number, and the length of AI and value together
+-- trusted, own: the first two digits of an AI, read as a number, and the length of AI and value together
 abbrev pub predefined_lengths : List (ℕ × ℕ)
 predefined_lengths =
     (0, 20) ∷ (1, 16) ∷ (2, 16) ∷ (3, 16) ∷ (4, 18)

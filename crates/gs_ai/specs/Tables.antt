@@ -32,7 +32,7 @@ abbrev pub are_distinct : List (List ℕ) → Bool
 are_distinct [] = true
 are_distinct (code ∷ codes) = not (list_any (bytes_eq code) codes) && are_distinct codes
 
--- trusted, own: holds if the parts are only `n14c`: 14 digits, of which the last is the check digit
+-- trusted, own: holds if the parts are only `n14c`: 13 digits and their check digit
 abbrev pub is_gtin : List Part → Bool
 is_gtin (NumCheck k ∷ []) = k == 14
 is_gtin _ = false
@@ -49,11 +49,11 @@ keeps_role_of Qualifier row = is_empty row.qualifiers
 keeps_role_of Attribute row = is_empty row.qualifiers
 keeps_role_of Other _ = false
 
--- trusted, own: the row keeps what its own role asks for
+-- trusted, own: the row satisfies the rules of its role
 abbrev pub keeps_role : AiRow → Bool
 keeps_role row = keeps_role_of row.role row
 
--- trusted, own, after GS1 General Specifications section 3.2: the row by itself is valid
+-- trusted, own, after GS1 General Specifications section 3.2: the row is valid, regardless of the others
 unfoldable pub is_row : AiRow → Bool
 is_row row =
     is_code row.code && are_parts row.parts && keeps_role row && are_distinct row.qualifiers
@@ -120,13 +120,13 @@ table_errors rows =
     flat_map (λ row. row_errors row.0 (take row.0 rows) row.1) (enumerate_from 0 rows)
     ++ flat_map (λ row. list_errors rows row.0 row.1) (enumerate_from 0 rows)
 
--- trusted, own: What holds of the rows of every table.
+-- trusted, own: The rules of the rows of every table.
 pub record KeepsRules (rows : List AiRow) : Type 0 where
-  -- each row by itself is valid
+  -- each row is valid, regardless of the others
   pub rows_in_order : (i : ℕ) (row : AiRow) → slice_get rows i ≡ Some row → (is_row row ≡ true) × (keeps_predefined row ≡ true)
   -- no code begins another
   pub codes_apart : (i j : ℕ) (a b : AiRow) → slice_get rows i ≡ Some a → slice_get rows j ≡ Some b → begins a.code b.code ≡ true → i ≡ j
-  -- what a row lists is the code of a qualifier, and of no key
+  -- each code that a row lists is that of a qualifier, and of no key
   pub lists_qualifiers : (i : ℕ) (row : AiRow) → slice_get rows i ≡ Some row → (list_all (is_qualifier_of rows) row.qualifiers ≡ true) × (list_any (is_key_of rows) row.qualifiers ≡ false)
 
 -- trusted, own: the index of the row whose code begins the text

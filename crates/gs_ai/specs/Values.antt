@@ -62,7 +62,7 @@ abbrev pub keeps_date : Part × List ℕ → Bool
 keeps_date (part.Date, digits) = is_date digits
 keeps_date (_, _) = true
 
--- trusted, GS1 General Specifications, sections 3.2, 7.9 and 7.12: nothing, or the first error that fits: the length, a
+-- trusted, GS1 General Specifications, sections 3.2, 7.9 and 7.12: nothing, or the first error that applies: the length, a
 -- character, a check digit, a date
 abbrev pub parts_error : List Part → List ℕ → Option ValueFault
 parts_error parts value =

@@ -4,12 +4,12 @@ ghost use Rattle.gs_ai.specs.declared.errors.AiFault.TheVariants.{Memory as memo
 use gs_chars::Memory;
 use std::alloc::{AllocError, AllocFailed};
 
-/// Why rows are not table. Rows are counted from 0.
+/// Why rows are not a table. Rows are counted from 0.
 #[derive(Clone, Copy, Debug)]
 pub enum AiFault {
-    /// The row by itself is out of form, or lists a code that is not that of a qualifier.
+    /// The row is invalid regardless of the others, or lists a code that is not that of a qualifier.
     BadAi(usize),
-    /// The code of the first row begins that of the second, a later one, or the other way round.
+    /// The code of the first row begins that of the second, a later one, or the reverse.
     CodePrefix(usize, usize),
     /// The row lists the code of a key as a qualifier.
     KeyIsQualifier(usize),

@@ -68,7 +68,7 @@ fn is_gtin(parts: &[Part]) -> bool
     }
 }
 
-/// Returns whether the row by itself is valid.
+/// Returns whether the row is valid, regardless of the others.
 #[tactic(auto, unfolding(crate::specs::Tables::is_row))]
 pub fn is_row(row: &AiRow) -> bool
     ensures { result ≡ is_row row.now }

@@ -28,7 +28,7 @@ pub enum Part {
     Other,
 }
 
-/// What an application identifier is in an identity.
+/// The role of an application identifier in an identity.
 #[derive(Clone, Copy, Debug)]
 pub enum Role {
     /// It names a thing.
@@ -37,7 +37,7 @@ pub enum Role {
     Qualifier,
     /// It says something about the thing.
     Attribute,
-    /// A text that is none of these.
+    /// Any other text.
     Other,
 }
 

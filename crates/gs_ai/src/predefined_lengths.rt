@@ -41,8 +41,8 @@ impl Predefined {
         }
     }
 
-    /// Returns the length of AI and value together, if the AI's first two digits are in the list, and `None` if and only if they
-    /// are not. The AI has at least two digits.
+    /// Returns the length of AI and value together, if the AI's first two digits are in the list. Returns `None` if and only if
+    /// they are not. The AI has at least two digits.
     pub fn length_of(&self, code: &[u8]) -> Option<usize>
         requires long { 2 ≤ length code.now }
         requires digits { IsTrue (are_digits code.now) }

@@ -42,7 +42,7 @@ fn places_at(alloc: Global, start: usize, rows: &[AiRow]) -> Result<Vec<usize>, 
     Ok(places)
 }
 
-/// For each number of two digits the indexes of the rows whose codes begin with them.
+/// Returns, for each number of two digits, the indexes of the rows whose codes begin with them.
 pub fn starts_of(alloc: Global, rows: &[AiRow]) -> Result<Vec<List<usize>>, Memory>
     ensures { IfOk result (λ starts. AreStarts rows.now starts.items) }
 {

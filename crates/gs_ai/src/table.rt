@@ -48,8 +48,8 @@ impl Model for AiTable {
 
 impl AiTable {
     /// Returns the table of the rows, in their order. A rejection is the first of the errors of the rows: row by row `BadAi`,
-    /// `CodePrefix`, `PredefinedLength`, then row by row `KeyIsQualifier` and `BadAi` of the qualifiers that it lists. `Memory`
-    /// is out of memory, and may come instead of any answer.
+    /// `CodePrefix`, `PredefinedLength`, then row by row `KeyIsQualifier` and `BadAi` of the qualifiers that it lists. May
+    /// return `Memory` instead of any answer.
     pub fn new(alloc: Global, rows: Vec<AiRow>) -> Result<AiTable, AiFault>
         ensures made { IfOk result (λ table. (table ≡ rows.items) × (table_errors rows.items ≡ [])) }
         ensures rejected { IfErr result (λ error. error ≢ AiFault.Memory
@@ -141,7 +141,8 @@ impl AiTable {
     }
 
     /// Returns the length of AI and value together, if the first two digits of the row's code are in the list of predefined
-    /// lengths (GS1 General Specifications, figure 7.8.5-2), and `None` if and only if they are not. The row is one of the table.
+    /// lengths. Returns `None` if and only if they are not (GS1 General Specifications, figure 7.8.5-2). The row is one of the
+    /// table.
     pub fn predefined(&self, row: usize) -> Option<usize>
         requires { row < length self.now }
         ensures { result ≡ option_and_then (λ r. predefined_length r.code) (slice_get self.now row) }

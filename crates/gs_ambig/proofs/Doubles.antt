@@ -116,7 +116,7 @@ first_double machines i j word h f = record {
 pub none_upto : (machines : List AutoForm) (i j n : ℕ) → SharesNone machines i j → n ≤ j → SharesNone machines i n
 none_upto machines i j n h l k symbols a b = h k symbols a (omega arith)
 
--- what follows from an answer follows from it wherever it is
+-- an implication between facts carries over to the answers that satisfy the first
 
 pub some_follows : {X E : Type 0} (P Q : X → Type 0) → ((x : X) → P x → Q x) → (r : Result (Option X) E) → IfOk r (λ found. IfSome found P) → IfOk r (λ found. IfSome found Q)
 some_follows P Q f (Ok (Some x)) h = f x h

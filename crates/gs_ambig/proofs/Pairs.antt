@@ -27,7 +27,7 @@ marks_more m n p q pair marks new h l e w d number c =
           rw (first, second) d
     ]
 
--- the edges of the first state, as far as they were gone by
+-- those edges of the first state that have been handled
 abbrev pub DeadBy : AutoForm → AutoForm → List Edge → List Edge → Type 0
 DeadBy m n edges others = (symbol next other : ℕ) → Fits edges symbol next → Fits others symbol other → IsDead m n next other
 
@@ -45,7 +45,7 @@ no_leads m n p q h far (s ∷ symbols) [] us w v = w
 no_leads m n p q h far (s ∷ symbols) (t ∷ ts) [] w v = v
 no_leads m n p q h far (s ∷ symbols) (t ∷ ts) (u ∷ us) w v = h s t u w.0 v.0 symbols (record { run = ts; other_run = us; walk = w.1; other_walk = v.1 })
 
--- all edges were gone by
+-- all edges have been handled
 pub dead_end : (m n : AutoForm) (p q : ℕ) (edges others : List Edge) (i : ℕ) (accepting : Bool) → DeadBy m n (take i edges) others → length edges ≤ i → edges ≡ edges_at m.table p → others ≡ edges_at n.table q → (IsTrue accepting ↔ ((p ≡ accept_of m) × (q ≡ accept_of n))) → accepting ≡ false → IsDead m n p q
 dead_end m n p q edges others i accepting h l e f a b symbols leads =
     let all : DeadBy m n edges others = rw (take_all i edges l) at h in

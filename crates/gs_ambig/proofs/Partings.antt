@@ -10,7 +10,7 @@ use Rattle.gs_grammar_machine.specs.Machines.{AutoForm, accept_of}
 use Rattle.gs_ambig.specs.Searches.{LeadsBehind, IsDead, IsDeadBehind, Parts, IsSingle, HasNoFork, MarksSingle}
 use Rattle.gs_ambig.proofs.Steps.{fits_more, fits_at}
 
--- forks of the edges that were gone by
+-- forks of the edges that have been handled
 
 pub fork_more : (m : AutoForm) (edges others : List Edge) (i : ℕ) (edge : Edge) → HasNoFork m (take i edges) others → i < length edges → edge ≡ get_or edges i edge → IsDeadBehind m m edge others (edge.to + 1) → HasNoFork m (take (i + 1) edges) others
 fork_more m edges others i edge h l e d symbol next other f g b = elim (fits_more edges i edge symbol next l e f) as (λ _. IsDead m m next other) [

@@ -32,7 +32,7 @@ set_others bits word number l w other n =
     let same = set_apart bits word number other l w n in
     (λ s. sym same ∙ s, λ s. same ∙ s)
 
--- more bits, of which none is set
+-- more bits, none of them set
 pub marked_wider : (bits wider numbers : List ℕ) → AreMarked bits numbers → ((other : ℕ) → IsSet wider other ↔ IsSet bits other) → AreMarked wider numbers
 marked_wider bits wider numbers a same = record {
   marked = λ other. (λ s. (a.marked other).0 ((same other).0 s), λ h. (same other).1 ((a.marked other).1 h));

@@ -20,7 +20,7 @@ fits_push (first ∷ edges) edge symbol state (inr f) = elim (fits_push edges ed
   | inr e ↦ inr e
 ]
 
--- what fits the first edges and one more
+-- edges that fit among the first ones and one more
 pub fits_more : (edges : List Edge) (i : ℕ) (edge : Edge) (symbol state : ℕ) → i < length edges → edge ≡ get_or edges i edge → Fits (take (i + 1) edges) symbol state → Fits (take i edges) symbol state ⊎ FitsEdge edge symbol state
 fits_more edges i edge symbol state l e f =
     let front : take (i + 1) edges ≡ take i edges ++ edge ∷ [] = take_more edges i edge l ∙ ap (λ (x : Edge). take i edges ++ x ∷ []) (sym e) in
@@ -44,7 +44,7 @@ pair_second p q others l = mul-add-mod_self_right p others q ∙ mod-eq_of_lt l
 pub self_at : (edges : List Edge) (i : ℕ) (edge : Edge) → i < length edges → get_or edges i edge ≡ get_or edges i (get_or edges i edge)
 self_at edges i edge l = get_or_default edges i edge (get_or edges i edge) l
 
--- what follows from what is found follows from it wherever it is
+-- an implication between facts carries over to results that have a found value
 pub found_follows : {X E : Type 0} (P Q : X → Type 0) → ((x : X) → P x → Q x) → (r : Result (Option X) E) → IfFound r P → IfFound r Q
 found_follows P Q f (Ok (Some x)) h = f x h
 found_follows P Q f (Ok None) h = tt

@@ -11,7 +11,7 @@ IsSet bits number = bit_at (slice_index bits (number / 64)) (number % 64) ≡ 1
 pub record AreMarked (bits numbers : List ℕ) : Type 0 where
   pub marked : (number : ℕ) → IsSet bits number ↔ Contains numbers number
 
--- Two states of one set of bits, the old and the new. The bit of each other number is unchanged.
+-- Two states of one set of bits, the old and the new. The bit of every other number is unchanged.
 abbrev pub SameBesides : ℕ → List ℕ → List ℕ → Type 0
 SameBesides number old new = (other : ℕ) → other ≢ number → (IsSet new other ↔ IsSet old other)
 

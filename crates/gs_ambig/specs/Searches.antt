@@ -1,4 +1,4 @@
--- What the search over pairs of states finds. These definitions are the search's own.
+-- The findings of the search over pairs of states. These definitions are the search's own.
 use Rattle.std.specs.Prelude.{◌≡◌, ℕ, ◌<◌, ◌≤◌, ◌/◌, ◌%◌, List, ◌∷◌, Option, Result, IfOk, IfSome, IfNone}
 use Rattle.std.specs.List.{Contains}
 use Rattle.gs_grammar_machine.specs.declared.edge.Edge.{Edge}
@@ -6,11 +6,11 @@ use Rattle.gs_grammar_machine.specs.Walks.{Fits, edges_at, Walk}
 use Rattle.gs_grammar_machine.specs.Machines.{AutoForm, states_of, accept_of}
 use Rattle.gs_grammar_machine.specs.MachinesSupport.{start_of}
 
--- trusted, own: the search has found something, and it is so of that
+-- trusted, own: holds if the search has found something with this property
 abbrev pub IfFound : {X E : Type 0} → Result (Option X) E → (X → Type 0) → Type 0
 IfFound answer is_so = IfOk answer (λ found. IfSome found is_so)
 
--- trusted, own: the search has found nothing, and this is so
+-- trusted, own: holds if the search has found nothing, and this fact holds
 abbrev pub IfNotFound : {X E : Type 0} → Result (Option X) E → Type 0 → Type 0
 IfNotFound answer is_so = IfOk answer (λ found. IfNone found is_so)
 
@@ -41,8 +41,8 @@ BothAccept m n symbols = Leads m n (start_of m) (start_of n) symbols
 abbrev pub NoneInCommon : AutoForm → AutoForm → Type 0
 NoneInCommon m n = IsDead m n (start_of m) (start_of n)
 
--- the list goes by this edge in the first machine, and in the second to a state that is not below the least, and from
--- there leads both to their accepting states
+-- the list takes this edge in the first machine, and in the second an edge to a state that is not below the least; its rest
+-- leads both to their accepting states
 pub record LeadsBehind (m n : AutoForm) (edge : Edge) (q least : ℕ) (symbols : List ℕ) : Type 0 where
   pub symbol : ℕ
   pub rest : List ℕ
@@ -54,7 +54,7 @@ pub record LeadsBehind (m n : AutoForm) (edge : Edge) (q least : ℕ) (symbols :
   pub high : least ≤ next
   pub leads : Leads m n edge.to next rest
 
--- no list leads on from this edge and one of these edges of the second machine to a state that is not below the least
+-- no list leads on from this edge and one of these edges of the second machine whose state is not below the least
 abbrev pub IsDeadBehind : AutoForm → AutoForm → Edge → List Edge → ℕ → Type 0
 IsDeadBehind m n edge edges least = (symbol next : ℕ) → edge.lo ≤ symbol → symbol ≤ edge.hi → Fits edges symbol next → least ≤ next → IsDead m n edge.to next
 

@@ -33,7 +33,7 @@ fn search_fork(
 }
 
 /// Returns a list of symbols with two different walks from this state to the accepting one. `None` is returned if and only if
-/// there is none. States from which there is none are marked, and are not gone to again.
+/// there is none. States from which there is none are marked, and are not visited again.
 pub fn search_forks(
     alloc: Global,
     m: &Auto,

@@ -1,7 +1,7 @@
 //! The search for a list of symbols with two different accepting runs, in one machine or in two.
 //!
-//! - `check` answers `Clear` if and only if no list of symbols has two different accepting runs, and else the first pair of
-//!   machines with such a list, and the list.
+//! - `check` answers `Clear` if and only if no list of symbols has two different accepting runs. Otherwise it answers the first
+//!   pair of machines with such a list, and the list.
 //! - `PairSearch` searches one machine or two, for a caller that goes through the pairs itself.
 //!
 //! # Example

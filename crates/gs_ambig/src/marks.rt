@@ -6,8 +6,8 @@ use gs_chars::Memory;
 use std::alloc::Global;
 use std::marker::Model;
 
-/// A set of numbers, a bit for each, that is emptied in the time of what was put in. Contracts see the numbers in the order in
-/// which they were put in.
+/// A set of numbers, a bit for each. Emptying it takes the time of the insertions. Contracts see the numbers in the order of
+/// insertion.
 #[derive(Drop)]
 pub struct Marks {
     bits: Vec<u64>,

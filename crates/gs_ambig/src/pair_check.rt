@@ -60,8 +60,8 @@ fn verdict_of(alloc: Global, machines: &[Auto], search: &mut PairSearch) -> Resu
 }
 
 /// Returns whether some list of symbols has two different accepting runs, in one machine or in two. `Clear` is returned if and
-/// only if none has. `Double` names the first pair i, j, i at most j, in the order of i and then of j, that shares a list, and
-/// carries such a list as its symbols. Out of memory may come instead of each.
+/// only if none has. `Double` names the first pair i, j that shares a list, with i at most j, in the order of i and then of j.
+/// Its symbols are such a list. May return `Memory` instead.
 pub fn check(alloc: Global, machines: &[Auto]) -> Result<Verdict, Memory>
     ensures { IfOk result (λ verdict. IsVerdict machines.now verdict) }
 {

@@ -18,7 +18,7 @@ pub struct PairSearch {
     single: Marks,
 }
 
-/// Empties a set, and makes room for the pairs of the machines' states. Pairs that are too many for a number are too many for
+/// Empties a set, and makes room for the pairs of the machines' states. If their number exceeds a `usize`, it also exceeds
 /// memory.
 fn make_ready(dead: &mut Marks, m: &Auto, n: &Auto) -> Result<(), Memory>
     ensures { OnOk result ((dead.new ≡ []) × (states_of m.now * states_of n.now < 2 ^ 64)) }

@@ -8,7 +8,7 @@ use gs_chars::Memory;
 use gs_grammar_machine::{Auto, Edge};
 use std::alloc::Global;
 
-/// Returns the number of a pair of states, where the second machine has this many.
+/// Returns the number of a pair of states, if the second machine has this many.
 fn pair_number(p: usize, q: usize, states: usize, others: usize) -> usize
     requires first { p < states }
     requires second { q < others }
@@ -31,7 +31,7 @@ fn common_symbol(edge: &Edge, other: &Edge) -> Option<u8>
     }
 }
 
-/// What was found after a symbol, with the symbol at the start.
+/// Inserts the symbol at the start of the word that was found after it.
 pub fn with_front(symbol: u8, mut word: Vec<u8>) -> Result<Option<Vec<u8>>, Memory>
     ensures found { IfFound result (λ whole. whole.items ≡ symbol ∷ word.items) }
     ensures some { IfNotFound result ⊥ }
@@ -47,8 +47,8 @@ fn are_accepting(m: &Auto, n: &Auto, p: usize, q: usize) -> bool
     p == m.accept() && q == n.accept()
 }
 
-/// Returns a list of symbols that leads both machines from these states to their accepting states. `None` is returned if and only
-/// if there is none. Pairs of states from which none leads are marked, and are not gone to again.
+/// Returns a list of symbols that leads both machines from these states to their accepting states. `None` is returned if and
+/// only if there is none. Pairs of states from which none leads are marked, and are not visited again.
 #[cycle(search)]
 pub fn search(
     alloc: Global,
@@ -83,8 +83,8 @@ pub fn search(
     Ok(None)
 }
 
-/// Returns the same of lists of symbols that go by this edge in the first machine, and in the second by an edge from q to a state
-/// that is not below the least. The state p, which the edge leaves, tells how far the search can still go.
+/// Returns the same for lists of symbols that take this edge in the first machine. In the second they take an edge from q to a
+/// state that is not below the least. The state p, which the edge leaves, bounds how far the search can still go.
 #[cycle(search)]
 pub fn search_behind(
     alloc: Global,

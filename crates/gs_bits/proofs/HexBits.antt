@@ -47,7 +47,7 @@ pair_decoded i a b high low text bytes ha hb h =
     let pair : pair_value a b i ≡ Ok (high * 16 + low) = rw (ha, hb) refl in
     cons_ok (high * 16 + low) (decode_pairs (i + 2) text) bytes (sym (decode_pairs-ok_pair i a b (high * 16 + low) text pair) ∙ h)
 
--- what decodes has the bits of its digits
+-- a text that is decoded has the bits of its digits
 pub bits_of_decoded : (i : ℕ) (text bytes : List ℕ) → decode_pairs i text ≡ Ok bytes → bits_of_bytes bytes ≡ bits_of_hex text
 unfolding decode_pairs bits_of_bytes
 bits_of_decoded i [] bytes h =
@@ -66,7 +66,7 @@ bits_of_decoded i (a ∷ b ∷ text) bytes h =
 all_digits : (text : List ℕ) → AllPass (λ c. is_some (hex_digit_value c)) text → AllPass is_hex_digit text
 all_digits text h = λ k d within. sym (ap is_some (same_value (get_or text k d))) ∙ h k d within
 
--- what a decoding into room answers
+-- the answer of a decoding into room
 answer_of : (r : Result (List ℕ) FromHexError) (answer : Result Unit FromHexError) (out : List ℕ)
     → MatchResult r (λ bytes. (answer ≡ Ok tt) × (out ≡ bytes)) (λ e. answer ≡ Err e)
     → (answer ≡ Ok tt → r ≡ Ok out) × ((e : FromHexError) → answer ≡ Err e → r ≡ Err e)

@@ -2,7 +2,7 @@ ghost use Rattle.std.specs.Prelude.{◌≡◌, ◌*◌, ◌≤◌, length, take}
 ghost use Rattle.gs_bits.specs.Bits.{bits_of};
 ghost use Rattle.gs_bits.specs.PackedBits.{bits_of_bytes};
 
-/// Returns the bits of a byte, one after the other.
+/// Returns the bits of a byte, from the highest.
 #[tactic(auto, unfolding(crate::specs::Bits::bits_of))]
 fn bits_of_byte(byte: u8) -> [u8; 8]
     ensures { result ≡ bits_of 8 byte }
@@ -19,7 +19,7 @@ fn bits_of_byte(byte: u8) -> [u8; 8]
     ]
 }
 
-/// Writes the bits of some bytes to the start of the symbols, one after the other.
+/// Writes the bits of some bytes to the start of the symbols, byte by byte.
 pub(crate) fn spread(bytes: &[u8], symbols: &mut [u8])
     requires small { length bytes.now ≤ 64 }
     requires room { 8 * length bytes.now ≤ length symbols.old }

@@ -19,7 +19,7 @@ digit_in_set82 c h =
     let high : c ≤ 57 = leb-true c 57 (and_second (leb 48 c) (leb c 57) h) in
     ranges_of_set82 c (omega arith) ∙ in_range c low high
 
--- what holds of each listed number holds of one that is listed
+-- a fact of each listed number holds for one that is listed
 pub listed_all : (p : ℕ → Bool) (c : ℕ) (xs : List ℕ) → list_any (λ x. eqb x c) xs ≡ true → list_all p xs ≡ true → p c ≡ true
 listed_all p c [] listed all = absurd (let e : false ≡ true = listed in cc)
 listed_all p c (x ∷ xs) listed all = elim (true_or_false (eqb x c)) as (λ _. p c ≡ true) [

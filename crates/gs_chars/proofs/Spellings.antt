@@ -40,7 +40,7 @@ one_spelling c d w v x y (inl p) (inr q) e = plain_escaped c d w v x y p.0 p.1 q
 one_spelling c d w v x y (inr p) (inl q) e = let r = plain_escaped d c v w y x q.0 q.1 p.1 (sym e) in (sym r.0, sym r.1)
 one_spelling c d w v x y (inr p) (inr q) e = both_escaped c d w v x y p.1 q.1 e
 
--- what a text begins with that goes on after a spelling
+-- the start of a text that goes on after a spelling
 abbrev pub Fronts : List ℕ → ℕ → Type 0
 Fronts text c =
     ((0 < length text) × (is_plain (get_or text 0 0) ≡ true))
@@ -62,7 +62,7 @@ spelled_front text c len b =
       | inr q ↦ escape_front text (drop len text) (take len text) c whole q.1 q.0
     ]
 
--- what leaves no spelling at the start
+-- the cases without a spelling at the start
 pub unspelled : (text : List ℕ) → (is_plain (get_or text 0 0) ≡ false) → ((c : ℕ) → 2 < length text → get_or text 0 0 ≡ 37 → hex_value (get_or text 1 0) ≡ Some (c / 16) → hex_value (get_or text 2 0) ≡ Some (c % 16) → is_escaped c ≡ true → ⊥) → (c len : ℕ) → BeginsWithSpelling text c len → ⊥
 unspelled text plain escape c len b =
     elim (spelled_front text c len b) as (λ _. ⊥) [

@@ -72,7 +72,7 @@ pub no_value : {X : Type 0} (o : Option X) → is_some o ≡ false → o ≡ Non
 no_value (Some x) h = absurd (let e : true ≡ false = h in cc)
 no_value None h = refl
 
--- what there is passes the test
+-- a value that exists passes the test
 pub some_passes : {X : Type 0} (test : X → Bool) (o : Option X) → option_map_or test o false ≡ true → (x : X) × (o ≡ Some x) × (test x ≡ true)
 some_passes test None h = absurd (let e : false ≡ true = h in cc)
 some_passes test (Some x) h = (x, refl, h)
@@ -92,7 +92,7 @@ same_bytes a = (bytes_eq-Decides a a).1 refl
 pub not_empty : {X : Type 0} (xs : List X) → false ≡ (length xs == 0) → 0 < length xs
 not_empty xs h = grind (arith, nat_tests)
 
--- two lists with nothing in them, one after the other
+-- the concatenation of two empty lists
 pub none_of_both : {X : Type 0} (xs ys : List X) → xs ≡ [] → ys ≡ [] → xs ++ ys ≡ []
 none_of_both xs ys e f = rw (e, f) refl
 
@@ -107,7 +107,7 @@ none_behind (x ∷ xs) ys e = absurd (let f : x ∷ (xs ++ ys) ≡ [] = e in cc)
 pub nil_parts : {X : Type 0} (xs ys : List X) → xs ++ ys ≡ [] → (xs ≡ []) × (ys ≡ [])
 nil_parts xs ys e = (none_in_front xs ys e, none_behind xs ys e)
 
--- the first item of two lists, one after the other
+-- the first item of two concatenated lists
 pub first_of_front : {X : Type 0} (xs ys : List X) (x : X) → slice_get xs 0 ≡ Some x → slice_get (xs ++ ys) 0 ≡ Some x
 first_of_front [] ys x e = absurd (let f : None ≡ Some x = e in cc)
 first_of_front (y ∷ xs) ys x e = e

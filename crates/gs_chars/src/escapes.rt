@@ -63,8 +63,8 @@ fn upper_digit(n: u8) -> u8
     if n < 10 { b'0' + n } else { b'A' + (n - 10) }
 }
 
-/// Writes the one spelling of a character of the 82, with upper-case letters, and returns its number of bytes (TDS 2.0, sections
-/// 6.3.1 and 7.1). The bytes of `out` after it are unchanged. The character is one of the 82.
+/// Writes the one spelling of a character of the 82, with upper-case letters (TDS 2.0, sections 6.3.1 and 7.1). Returns its
+/// number of bytes. The bytes of `out` after it are unchanged. The character is one of the 82.
 pub fn write_escape(c: u8, out: &mut [u8; 3]) -> usize
     requires { IsTrue (is_in_set82 c) }
     ensures len { result ≡ length (written_spelling c) }
@@ -79,8 +79,8 @@ pub fn write_escape(c: u8, out: &mut [u8; 3]) -> usize
     }
 }
 
-/// States that a text that begins with the written spelling of a character is read as that character, with that number of bytes,
-/// and as no other.
+/// States how a text is read that begins with the written spelling of a character: as that character, with that number of
+/// bytes, and as no other.
 pub fn written_spelling_is_read()
     ensures read { WrittenSpellingIsRead }
     ensures alone { NoOtherSpellingIsRead }

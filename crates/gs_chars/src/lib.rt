@@ -1,4 +1,4 @@
-//! Characters, texts, check digits and escapes: what every other crate is on.
+//! Characters, texts, check digits and escapes: the base of every other crate.
 //!
 //! - `CharSet` is the digits, or the 82 characters of GS1 General Specifications, figure 7.11-1. `are_digits` and `are_visible`
 //!   return whether all bytes of a text are digits, or visible characters; `count_digits` returns the number of leading digits.

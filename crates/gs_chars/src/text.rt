@@ -10,10 +10,10 @@ use std::alloc::Global;
 use std::cmp::Ordering;
 use std::marker::Model;
 
-/// The most bytes of a text that is read: of the text of a line, or of one that a library reads by itself.
+/// The most bytes of a text that is read: of the text of a line, or of one that a library reads.
 pub const LONGEST_TEXT: usize = 2048;
 
-/// A list of bytes, of whatever characters. Two texts are ordered by their bytes. At most 24 bytes take no memory.
+/// A list of arbitrary bytes. Two texts are ordered by their bytes. At most 24 bytes are held without allocation.
 #[derive(Debug)]
 pub struct Text {
     bytes: SmallVec<u8, 24>,

@@ -1,4 +1,4 @@
--- What a class says fits its key and its element, and is laid out as the identity of the class.
+-- The fields of a class fit its key and its element, and are laid out as the identity of the class.
 use Rattle.std.proofs.Common.{◌≡◌, ℕ, ◌-◌, true, false, List, [], ◌∷◌, Option, Some, Ok, is_some, find, refl, sym, ◌∙◌}
 use Rattle.std.specs.Option.{option_map_or}
 use Rattle.std.proofs.lemmas.List.{append-nil}
@@ -33,7 +33,7 @@ use Rattle.gs_class.specs.MeaningsSupport.{FitsClass, kind_of}
 use Rattle.gs_class.specs.Sets.{class_of}
 use Rattle.gs_class.proofs.KeptClasses.{KeptClass}
 
--- ---- what fits a class
+-- ---- fields that fit a class
 
 characters_there : (found : Option AiRow) (element : AiRow) (most : ℕ) → found ≡ Some element → characters_of element.parts ≡ Some most → option_map_or (λ (row : AiRow). is_some (characters_of row.parts)) found false ≡ true
 characters_there found element most e f = rw (e, f) refl
@@ -60,7 +60,7 @@ room_is ais row kept = rw (kept.element_found, kept.room.characters) refl
 none_stands : (ais : List AiRow) (row : ClassRow) (kept : KeptClass ais row) (value : List ℕ) → stands_for_none ais (record { code = row.element; value = value }) ≡ false
 none_stands ais row kept value = rw (kept.element_found, kept.room.none) refl
 
--- what the values of the items of a row say fits its class
+-- the fields of the values of a row's items fit its class
 pub fits_class : (ais : List AiRow) (row : ClassRow) (kept : KeptClass ais row) (values words : List (List ℕ)) → EachWord (alone (present row.items)) values words → FitsClass ais (class_of row) (said_by (class_of row) values)
 fits_class ais row kept values words each =
     let parts = present row.items in

@@ -1,4 +1,4 @@
--- The first error of lists of errors, one after the other.
+-- The first error of concatenated lists of errors.
 use Rattle.std.proofs.Common.{◌≡◌, List, [], ◌∷◌, ◌++◌, refl, ap, inl, inr}
 use Rattle.std.specs.Prelude.{Result, Ok, Err}
 use Rattle.gs_chars.specs.Answers.{OrError, first_or}

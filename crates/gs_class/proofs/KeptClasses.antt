@@ -1,4 +1,4 @@
--- What holds of the rows of classes that no rule rejects.
+-- Facts of the rows of classes that no rule rejects.
 use Rattle.std.proofs.Common.{◌≡◌, ℕ, ◌+◌, ◌-◌, ◌≤◌, ◌&&◌, nat_le, nat_lt, not, if◌then◌else◌, Bool, true, false, List, [], ◌∷◌, ◌++◌, take, position, Option, Some, None, bytes_eq, slice_get, refl, sym, arith, option_map}
 use Rattle.std.specs.Prelude.{option_to_list}
 use Rattle.std.specs.List.{enumerate_from, flat_map, find, list_all, list_any}
@@ -85,7 +85,7 @@ is_room (Some row) most h = (row, refl, by (is_empty row.none) refl h)
     by true e h = record { none = e; characters = h }
     by false e h = absurd (let f : None ≡ Some most = h in cc)
 
--- ---- what a row keeps
+-- ---- the rules that a row satisfies
 
 pub record KeptClass (ais : List AiRow) (row : ClassRow) : Type 0 where
   pub key : AiRow
@@ -219,7 +219,7 @@ class_at ais rows i row none at =
 pub agree_at : (ais : List AiRow) (rows : List ClassRow) (i : ℕ) (row : ClassRow) → class_rejections ais rows ≡ [] → slice_get rows i ≡ Some row → list_all (agrees row) (take i rows) ≡ true
 agree_at ais rows i row none at = (rules_kept ais (take i rows) row (not_rejected_at ais rows i row none at).is).agree
 
--- what making a class asks of its row
+-- the conditions for making a class of its row
 pub record CanBeMade (row : ClassRow) : Type 0 where
   pub lead : row.lead ≤ 1
   pub gcp : row.gcp ≤ 12

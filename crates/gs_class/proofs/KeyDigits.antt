@@ -1,4 +1,4 @@
--- The digits of the key of an identity of the table, and what a class takes of them.
+-- The digits of the key of an identity of the table, and those that a class takes.
 use Rattle.std.proofs.Common.{◌≡◌, ℕ, zero, suc, ◌+◌, ◌-◌, ◌≤◌, nat_le, true, List, [], ◌∷◌, ◌++◌, length, take, drop, None, refl, arith, length-append}
 use Rattle.std.specs.List.{list_all}
 use Rattle.std.specs.Prelude.{bytes_eq}

@@ -45,7 +45,7 @@ some_judged (Ok set) good = let some = some_answer set.level (good set refl) in 
 not_clear : (set : ClassRows) (i j : ℕ) (text : List ℕ) → IsClear set → ShowsFirstShare set.level i j text → ⊥
 not_clear set i j text clear shows = clear (ambiguous_of (item_lists set.level.options) i j shows.w shows.share.share)
 
--- what a judged answer is
+-- the form of a judged answer
 data Judgement (set : ClassRows) (answer : Result ClassRows ClassLoadFault) : Type 0 where
   loads : answer ≡ Ok set → IsClear set → Judgement set answer
   shares : (i j : ℕ) (text : List ℕ) → answer ≡ Err (Ambiguous i j text) → ShowsFirstShare set.level i j text → Judgement set answer

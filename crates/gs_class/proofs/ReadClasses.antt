@@ -1,4 +1,4 @@
--- What a reading in the level of a set says.
+-- The class and fields of a reading in the level of a set.
 use Rattle.std.proofs.Common.{◌≡◌, ℕ, ◌<◌, List, [], ◌++◌, length, Some, slice_get, get_or, sym, ap, subst, ◌∙◌}
 use Rattle.std.proofs.lemmas.Option.{slice_get_within}
 use Rattle.gs_chars.proofs.TruthsAndLists.{read_at}
@@ -48,7 +48,7 @@ module _ (ais : List AiRow) (set : ClassRows) (text : List ℕ) (option : ℕ) (
       let same : own.class ≡ class = cc in
       rw same at own.fits
 
-  -- the text is a class URI of what the values say
+  -- the text is a class URI of the fields of the values
   pub is_class : (class : Class) (identity : Elements) → class ≡ get_or classes option class → identity ≡ class_identity class (said_by class values) → IsClass set text identity
   is_class class identity read is = record {
     derivation = one.derivation;
@@ -69,7 +69,7 @@ digits_read ais class said prefix rest fits rules a b = rw (a, b) (digits_fit ai
 pub key_written : (class : Class) (said : KeyFields) (old new prefix rest : List ℕ) → old ≡ [] → prefix ≡ said.prefix → rest ≡ said.rest → new ≡ old ++ with_check (key_digits class.lead prefix rest) → new ≡ with_check (key_digits class.lead said.prefix said.rest)
 key_written class said old new prefix rest none a b e = rw (none, a, b) at e
 
--- ---- what the code names
+-- ---- the element that the code names
 
 pub one_here : (set : ClassRows) (level : LevelForm) (text : List ℕ) (option : ℕ) (values : List (List ℕ)) → level ≡ set.level → OneDerivation (item_lists level.options) text option values → OneDerivation (item_lists set.level.options) text option values
 one_here set level text option values same one = subst (λ (l : LevelForm). OneDerivation (item_lists l.options) text option values) same one

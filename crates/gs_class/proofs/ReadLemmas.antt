@@ -1,4 +1,4 @@
--- What the items of an array are read as, one by one.
+-- The readings of the items of an array, one by one.
 use Rattle.std.proofs.Common.{◌≡◌, ℕ, ◌+◌, ◌≤◌, List, [], ◌∷◌, ◌++◌, length, take, map, Option, Some, None, unwrap_or, slice_get, refl, ap, arith}
 use Rattle.std.specs.Option.{option_and_then}
 use Rattle.std.proofs.lemmas.List.{map-append}

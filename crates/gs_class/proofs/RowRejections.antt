@@ -1,4 +1,4 @@
--- The rejections of a row by the tests that they come of, and of rows one after the other.
+-- The rejections of a row by the tests that give them, and of rows, row by row.
 use Rattle.std.proofs.Common.{◌≡◌, ℕ, ◌+◌, ◌<◌, ◌≤◌, not, Bool, true, false, List, [], ◌++◌, length, take, Option, Some, None, option_map, get_or, refl}
 use Rattle.std.specs.Prelude.{Result, Ok, Err, option_to_list}
 use Rattle.std.specs.List.{flat_map, enumerate_from}

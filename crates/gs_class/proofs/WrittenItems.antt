@@ -103,7 +103,7 @@ only_place field (p ∷ parts) one (suc k) named h at f = elim (true_or_false (i
       rw (position-cons (is_field field) p.0 (fields_of parts), t, rest, next) refl
 ]
 
--- ---- what the items hold
+-- ---- the values that the items hold
 
 literal_holds : (item : Item) → is_class_item (None, item) ≡ true → why_not item [] ≡ None
 literal_holds (Lit text) h = refl
@@ -262,7 +262,7 @@ all_held class items identity can none k item value low at held =
       | inr other ↦ rw (← field.2) (can.others k item field.0 at field.1 other)
     ]
 
--- what `write_text` answers of the values of a class
+-- the answer of `write_text` for the values of a class
 pub written_answer : (class : Class) (items : List Item) (identity : Elements) (can : CanWrite class items identity) (said : KeyFields) (fields : List (Option Field)) (values given : List (List ℕ)) (text : List ℕ)
     → said ≡ said_of class identity → fields ≡ class.fields → values ≡ values_for said fields → given ≡ values → AreHeld items given → text ≡ written items given → OrMemory (Ok text) (by_items class identity items)
 written_answer class items identity can said fields values given text a b d e held wrote =

@@ -215,7 +215,7 @@ are_placed ais identity row made found =
       other = λ j pair at. found_kept (is_other row.qualifiers identity.key) (λ (p : Pair). bytes_eq pair.code p.code) pairs pair (own_ascending (filter (is_other row.qualifiers identity.key) pairs) j pair (rw attributes at at));
     }
 
--- a code that passes the test is not in a list of which none passes
+-- a code that passes the test is not in a list without passing codes
 unlisted : (p : List ℕ → Bool) (code : List ℕ) (codes : List (List ℕ)) → p code ≡ true → list_any p codes ≡ false → list_any (bytes_eq code) codes ≡ false
 unlisted p code [] passes none = refl
 unlisted p code (other ∷ codes) passes none =
@@ -223,7 +223,7 @@ unlisted p code (other ∷ codes) passes none =
     let differs : bytes_eq code other ≡ false = false_from (bytes_eq code other) (λ same. true≢false (sym passes ∙ ap p (equal_bytes code other same) ∙ both.0)) in
     rw differs (unlisted p code codes passes both.1)
 
--- ---- what a class takes, over plain lists
+-- ---- the digits that a class takes, over plain lists
 
 -- the element has a pair among the qualifiers if there are no attributes
 pair_there : (qualifiers attributes : List Pair) (element other : List ℕ) → attributes ≡ [] → element ≡ other → is_some (pair_with (qualifiers ++ attributes) other) ≡ true → (pair : Pair) × (pair_with qualifiers element ≡ Some pair)
@@ -337,7 +337,7 @@ module _ (ais : List AiRow) (rules : KeepsRules ais) (set : ClassRows) (identity
   of_kind : IsOfKind (kind_of s.class) identity
   of_kind = record { key = sym pair_is.0; qualifiers = qualifier_code; attributes = no_attributes }
 
-  -- ---- what the class takes
+  -- ---- the digits that the class takes
 
   kept_kind : KeptKind ais (kind_of s.class)
   kept_kind = subst (λ (c : Class). KeptKind ais (kind_of c)) (sym its_row.class_is) (kind_kept ais its_row.row its_kept)

@@ -16,7 +16,7 @@ use Rattle.gs_class.specs.Documents.{form_errors, rows_of}
 use Rattle.gs_class.specs.Rules.{class_rejections}
 use Rattle.gs_class.specs.Sets.{ClassRows, IsClear, set_of}
 
--- ---- what the rules answer
+-- ---- the answers of the rules
 
 -- trusted, own: the answer of the rules to rows: their set, or their first rejection
 abbrev pub ruled_rows : List AiRow → List ClassRow → Result ClassRows ClassLoadFault
@@ -41,7 +41,7 @@ IsJudged set (Ok made) = (made ≡ set) × IsClear set
 IsJudged set (Err (Ambiguous i j text)) = ShowsFirstShare set.level i j text
 IsJudged set (Err _) = ⊥
 
--- trusted, own: the answer, by that of the rules: what they reject is rejected, and the set that they make is judged
+-- trusted, own: the answer, by that of the rules: their rejection, or the judgement of the set that they make
 abbrev pub Judged : Result ClassRows ClassLoadFault → Result ClassRows ClassLoadFault → Type 0
 Judged (Err error) answer = answer ≡ Err error
 Judged (Ok set) answer = IsJudged set answer

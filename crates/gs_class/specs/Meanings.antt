@@ -1,4 +1,5 @@
--- What a class URI names: TDS 2.0, 'EPC Class URIs', by the derivations of TDT 2.0, section 3, and the key layout of TDS 2.0, section 7.
+-- The meaning of a class URI: TDS 2.0, 'EPC Class URIs', by the derivations of TDT 2.0, section 3, and the key layout of TDS
+-- 2.0, section 7.
 use Rattle.std.specs.Prelude.{◌≡◌, ℕ, List, [], ◌∷◌, Some, slice_get, Result, Ok, Err}
 use Rattle.gs_ident.specs.Elements.{Elements}
 use Rattle.gs_grammar.specs.Derivations.{Derivation}
@@ -19,7 +20,8 @@ class_identity class said = record {
   attributes = [];
 }
 
--- trusted, TDS 2.0, 'EPC Class URIs': what the values of the items of a class say: the company prefix, the rest and the lot
+-- trusted, TDS 2.0, 'EPC Class URIs': the fields in the values of the items of a class: the company prefix, the rest and the
+-- lot
 abbrev pub said_by : Class → List (List ℕ) → KeyFields
 said_by class values = record {
   prefix = value_of Gcp class.fields values;
@@ -37,8 +39,8 @@ pub record IsClass (set : ClassRows) (text : List ℕ) (identity : Elements) : T
   pub named : slice_get set.classes derivation.option ≡ Some class
   pub is : identity ≡ class_identity class (said_by class derivation.values)
 
--- trusted, TDS 2.0, 'EPC Class URIs': The result of `read_class`: the identity of which the text is a class URI, or that there is
--- none. `Memory` may come instead.
+-- trusted, TDS 2.0, 'EPC Class URIs': The result of `read_class`: the identity that the text is a class URI of, or that there
+-- is none. `Memory` may be returned instead.
 abbrev pub ReadsAs : ClassRows → List ℕ → Result Elements ClassFault → Type 0
 ReadsAs set text (Ok identity) = IsClass set text identity
 ReadsAs set text (Err NoReading) = (identity : Elements) → IsClass set text identity → ⊥

@@ -13,7 +13,7 @@ use Rattle.gs_class.specs.declared.class.Class.{Class}
 abbrev pub kind_of : Class → Kind
 kind_of class = record { name = class.name; key = class.key; lead = class.lead; serial = Ai class.element; further = [] }
 
--- what a class says fits its key and its element, by the rules of classes
+-- the fields of a class fit its key and its element, by the rules of classes
 pub record FitsClass (ais : List AiRow) (class : Class) (said : KeyFields) : Type 0 where
   pub fit : FitKind ais (kind_of class) said
   pub k : ℕ

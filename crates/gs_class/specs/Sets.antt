@@ -1,4 +1,4 @@
--- Sets of classes: what contracts see of them, and the rows that they are made of.
+-- Sets of classes: the view that contracts have of them, and the rows that they are made of.
 use Rattle.std.specs.Prelude.{◌≡◌, false, List, [], map}
 use Rattle.gs_ai.specs.declared.row.AiRow.{AiRow}
 use Rattle.gs_grammar.specs.Ambiguity.{IsUnambiguous}

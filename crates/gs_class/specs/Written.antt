@@ -44,14 +44,14 @@ is_extra class pair = not (bytes_eq class.key pair.code) && not (bytes_eq class.
 abbrev pub lot_of : Class → Elements → List ℕ
 lot_of class identity = option_map_or (λ (pair : Pair). pair.value) (pair_with (others_of identity) class.element) []
 
--- ---- what the items of a class hold
+-- ---- the values that the items of a class hold
 
 -- trusted, TDS 2.0, section 7: the digits of a key before its check digit, which is the last
 abbrev pub unchecked : List ℕ → List ℕ
 unchecked value = take (length value - 1) value
 
--- trusted, TDS 2.0, section 7: What an identity says by a class: the company prefix after the lead digits, the rest with these at
--- the start, and the lot.
+-- trusted, TDS 2.0, section 7: The fields of an identity by a class: the company prefix after the lead digits, the rest with
+-- these at the start, and the lot.
 abbrev pub said_of : Class → Elements → KeyFields
 said_of class identity = record {
   prefix = take class.gcp (drop class.lead (unchecked identity.key.value));

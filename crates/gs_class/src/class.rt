@@ -4,7 +4,7 @@ use gs_tables::Field;
 /// A class of things that a class URI names: the facts of an option of a set apart from its items.
 #[derive(Drop)]
 pub struct Class {
-    /// The name, as class URIs have it.
+    /// The name, as written in class URIs.
     pub name: Text,
     /// The code of the key.
     pub key: Text,

@@ -49,13 +49,14 @@ impl Model for ClassSet {
 }
 
 impl ClassSet {
-    /// Returns the set that a document in JSON gives: an object with exactly `version`, the number 1, and `classes`, an array of
-    /// objects with exactly `name`, `key`, `lead`, `element`, `gcp` and `items`. Returns the first rejection in this order.
+    /// Returns the set that a document in JSON gives: an object with exactly `version`, the number 1, and `classes`, an array
+    /// of objects with exactly `name`, `key`, `lead`, `element`, `gcp` and `items`. Returns the first rejection in this order.
     /// `Json`: the bytes are not JSON text, or the document or a row does not have this form. `Version`: the version is not 1.
-    /// `Limit`: more than 256 classes, or 24 items of one. Then row by row `BadItem` for its first bad item, `Size`, `Mismatch`
-    /// if it breaks a rule given the table and the earlier rows, `Duplicate` for the first earlier row of one name and company
-    /// prefix length. Last `Ambiguous`: the first pair of rows that shares a text, and such a text. Returns `Ok` if and only if
-    /// none of these applies: the rows satisfy the rules, and no text has two readings. May return `Memory` instead.
+    /// `Limit`: more than 256 classes, or 24 items of one. Then, row by row, four rejections. `BadItem`: its first bad item.
+    /// `Size`. `Mismatch`: it breaks a rule given the table and the earlier rows. `Duplicate`: the first earlier row of one
+    /// name and company prefix length. Last `Ambiguous`: the first pair of rows that shares a text, and such a text. Returns
+    /// `Ok` if and only if none of these applies: the rows satisfy the rules, and no text has two readings. May return `Memory`
+    /// instead.
     pub fn load(alloc: Global, table: &AiTable, bytes: &[u8]) -> Result<ClassSet, ClassLoadFault>
         ensures answer { OrMemory (LoadAnswer table.now bytes.now) result }
         ensures of_table { IfOk result (IsOfTable table.now) }

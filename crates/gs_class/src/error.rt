@@ -11,8 +11,8 @@ pub enum ClassLoadFault {
     Version,
     /// There are more than 256 classes, or more than 24 items of one.
     Limit,
-    /// The item at the last index, of the class at the first, is not an item of a text, breaks a bound, or belongs to another
-    /// field.
+    /// The item at the last index, of the class at the first, is bad. It is not an item of a text, breaks a bound, or belongs
+    /// to another field.
     BadItem(usize, usize),
     /// The items of the class have more than 512 symbols together.
     Size(usize),
@@ -20,7 +20,7 @@ pub enum ClassLoadFault {
     Mismatch(usize),
     /// The classes at the two indexes have one name and one length of the company prefix.
     Duplicate(usize, usize),
-    /// The classes at the two indexes, which may be one class, are the first pair that shares a text, and this is such a text.
+    /// The classes at the two indexes, which may be one class, are the first pair that shares a text. This is such a text.
     Ambiguous {
         /// The index of the first of the two classes.
         i: usize,

@@ -28,8 +28,8 @@ pub fn what_is_written_is_read(table: &AiTable)
     let _ = table.rows();
 }
 
-/// States that all bytes have exactly one result of `ClassSet::load`, apart from the text of an ambiguous set, and that so have
-/// the built-in rows of `ClassSet::builtin`.
+/// States that all bytes have exactly one result of `ClassSet::load`, apart from the text of an ambiguous set. The built-in
+/// rows of `ClassSet::builtin` have one too.
 pub fn classes_have_one_answer()
     ensures some { (ais : List AiRow) (bytes : List ℕ) →
         (answer : Result ClassRows ClassLoadFault) × LoadAnswer ais bytes answer }

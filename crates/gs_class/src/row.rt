@@ -1,10 +1,10 @@
 use gs_chars::{List, Text};
 use gs_tables_document::FieldItem;
 
-/// A class as a document has it, before it is judged.
+/// A class of a document, before it is judged.
 #[derive(Drop)]
 pub struct ClassRow {
-    /// The name, as class URIs have it.
+    /// The name, as written in class URIs.
     pub name: Text,
     /// The code of the key.
     pub key: Text,

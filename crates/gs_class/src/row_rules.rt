@@ -88,7 +88,7 @@ fn fits_parts(ais: &AiTable, row: &ClassRow, parts: &[Part]) -> bool
     }
 }
 
-/// Returns whether the row is that of a key with at most one digit before the company prefix, lists the element, and the items
+/// Returns whether the row's key fits: it has at most one digit before the company prefix, lists the element, and the items
 /// fit.
 #[tactic(auto, unfolding(crate::specs::Rules::fits_key))]
 fn fits_key(ais: &AiTable, row: &ClassRow, key: &AiRow) -> bool

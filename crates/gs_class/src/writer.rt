@@ -17,7 +17,7 @@ use gs_prefix::PrefixList;
 use gs_tables::Field;
 use std::alloc::Global;
 
-/// What an identity says by a class.
+/// The fields of an identity by a class.
 #[derive(Drop)]
 struct Said {
     /// The company prefix.
@@ -93,14 +93,14 @@ fn lot_of<'a>(class: &Class, identity: &'a Identity) -> &'a [u8]
     }
 }
 
-/// Returns the bytes after that many, as far as there are any.
+/// Returns the bytes after the first `count`, if there are any.
 fn behind(text: &[u8], count: usize) -> &[u8]
     ensures { result.now ≡ drop count text.now }
 {
     &text[count.min(text.len())..]
 }
 
-/// Returns the first bytes, as many as there are.
+/// Returns the first `count` bytes, or all if there are fewer.
 fn front(text: &[u8], count: usize) -> &[u8]
     ensures { result.now ≡ take count text.now }
 {

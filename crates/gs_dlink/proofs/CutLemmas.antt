@@ -10,7 +10,7 @@ use Rattle.gs_chars.proofs.TruthsAndLists.{false_from, or_second, true_or_false}
 use Rattle.gs_dlink.specs.Uris.{authority_end, authority_from, ends_authority, is_slash, scheme_end, part_pairs, pieces_behind, query_pairs, query_parts, segments, separates_parts, Written}
 use Rattle.gs_dlink.specs.UrisSupport.{LastSlash, NoSlash}
 
--- ---- what the searches of `memchr` give
+-- ---- the results of the searches of `memchr`
 
 none_any : (test : ℕ → Bool) (text : List ℕ) → ((k : ℕ) → k < length text → test (get_or text k 0) ≡ false) → list_any test text ≡ false
 none_any test [] none = refl

@@ -27,7 +27,7 @@ are_free text = list_all is_free text
 pub equal_number : (a b : ℕ) → (a == b) ≡ true → a ≡ b
 equal_number a b h = grind (arith, nat_tests)
 
--- what holds of each number of a list holds of one that it has
+-- a fact of each number of a list holds for one that it has
 member_passes : (test : ℕ → Bool) (xs : List ℕ) (c : ℕ) → list_any (λ x. x == c) xs ≡ true → list_all test xs ≡ true → test c ≡ true
 member_passes test [] c h each = absurd (true≢false (sym h))
 member_passes test (x ∷ xs) c h each = elim (true_or_false (x == c)) [

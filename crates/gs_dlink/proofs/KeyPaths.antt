@@ -19,7 +19,7 @@ first_pair code value = record { at = code.at; code = code.text; value = value.t
 same_some : {X : Type 0} (a b : X) → Some a ≡ Some b → a ≡ b
 same_some a b h = cc
 
--- what a pair before others leaves
+-- the rest after a pair that is before others
 tail_of : (w : Written) (o : Option (List Written)) (pairs : List Written) → option_map (λ rest. w ∷ rest) o ≡ Some pairs → (rest : List Written) × (o ≡ Some rest) × (pairs ≡ w ∷ rest)
 tail_of w None pairs h = absurd (let g : None ≡ Some pairs = h in cc)
 tail_of w (Some rest) pairs h = (rest, refl, sym (same_some (w ∷ rest) pairs h))
@@ -43,7 +43,7 @@ in_front (x ∷ y ∷ f) u d h = elim (in_front f u d h) [
 
 -- ---- codes in the order of a list
 
--- what no code of the list is, no code in its order is
+-- a code that is not in the list is not in its order
 pub none_in_order : (test : List ℕ → Bool) (list codes : List (List ℕ)) → list_any test list ≡ false → is_in_order list codes ≡ true → list_any test codes ≡ false
 none_in_order test list [] none h = refl
 none_in_order test [] (code ∷ codes) none h = absurd (true≢false (sym h))
@@ -111,7 +111,7 @@ module _ (table : List AiRow) (rules : KeepsRules table) where
   abbrev path_if : List Written → Option (List Written)
   path_if pairs = path_or table (Some pairs) None
 
-  -- what the segments before a key are does not matter
+  -- the segments before a key may be any
   pub path_from_key : (f u : List Piece) (s : Written) (d : List Written) → paired u ≡ Some (s ∷ d) → is_key s.code ≡ true → list_any is_key (codes_of d) ≡ false → key_path table (f ++ u) ≡ path_if (s ∷ d)
   unfolding key_path
   path_from_key [] [] s d h key none = absurd (let g : Some [] ≡ Some (s ∷ d) = h in cc)

@@ -1,4 +1,4 @@
--- The result for a path with its query, by the places at which it is cut, and for a link by the place after its authority.
+-- The result for a path with its query, by the places at which it is cut. For a link it goes by the place after the authority.
 use Rattle.std.proofs.Common.{◌≡◌, ℕ, ◌+◌, ◌≤◌, true, false, List, ◌++◌, length, take, drop, Option, Some, None, All, refl, sym, ap, ◌∙◌, inl, inr}
 use Rattle.std.specs.Prelude.{Result, Ok, Err}
 use Rattle.std.specs.List.{position_or_len}

@@ -45,7 +45,7 @@ abbrev pub path_or : List AiRow → Option (List Written) → Option (List Writt
 path_or table None other = other
 path_or table (Some pairs) other = if is_key_path table pairs then Some pairs else other
 
--- by law one_key_path: the key path in which the segments end, where they end in one
+-- by law one_key_path: the key path in which the segments end, if they end in one
 unfoldable pub key_path : List AiRow → List Piece → Option (List Written)
 key_path table [] = None
 key_path table (segment ∷ segments) = path_or table (paired (segment ∷ segments)) (key_path table segments)

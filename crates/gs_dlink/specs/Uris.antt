@@ -11,11 +11,11 @@ use Rattle.gs_ai.specs.Tables.{is_empty}
 abbrev pub is_slash : ℕ → Bool
 is_slash c = is_byte 47 c
 
--- trusted, own: what ends an authority: `/`, `?` or `#` (section 3.2)
+-- trusted, own: a byte that ends an authority: `/`, `?` or `#` (section 3.2)
 abbrev pub ends_authority : ℕ → Bool
 ends_authority c = c == 47 || c == 63 || c == 35
 
--- trusted, own: what separates the parts of a query: `&` or `;`
+-- trusted, own: a byte that separates the parts of a query: `&` or `;`
 abbrev pub separates_parts : ℕ → Bool
 separates_parts c = c == 38 || c == 59
 

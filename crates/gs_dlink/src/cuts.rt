@@ -12,7 +12,7 @@ pub(crate) fn authority_len(text: &[u8]) -> usize
     memchr3(b'/', b'?', b'#', text).unwrap_or(text.len())
 }
 
-/// Returns the place of the first byte that separates parts of a query, `&` or `;`, counted from 0, or the length of the text.
+/// Returns the offset, from 0, of the first byte that separates parts of a query, `&` or `;`, or the text's length.
 pub fn part_len(text: &[u8]) -> usize
     ensures place { result ≡ position_or_len separates_parts text.now }
     ensures within { result ≤ length text.now }

@@ -20,8 +20,8 @@ pub fn one_key_path(table: &AiTable)
     let _ = table.rows();
 }
 
-/// States that the link that is written of an identity of the table, under every allowed stem, names the identity's pairs, and so
-/// does its canonical link.
+/// States that a link written of an identity of the table, under every allowed stem, names the identity's pairs. So does the
+/// identity's canonical link.
 pub fn written_link_is_read(table: &AiTable)
     ensures written { (stem : List ℕ) (identity : Elements) → stem_ok stem ≡ true
         → IsMadeWith table.now identity → IsLink table.now (spelled stem identity) (pairs_of identity) }

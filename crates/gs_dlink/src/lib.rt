@@ -6,7 +6,7 @@
 //!
 //! # Example
 //!
-//! A link of a shop with its own path before the key, an escape, a query parameter that is not an element, and a fragment. The
+//! A shop's link with its own path before the key, an escape, a query parameter that is not an element, and a fragment. The
 //! gate runs this case, for which crates/vectors_texts/src/digital_links.rt makes the call.
 //!
 //! ```text

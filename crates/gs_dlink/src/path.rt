@@ -88,7 +88,7 @@ fn with_key<'a>(
     Ok(Some(path))
 }
 
-/// Returns the pairs of the key path in which the path ends: the segments are looked at from the end, two at a time, up to the
+/// Returns the pairs of the key path in which the path ends. It examines the segments from the end, two at a time, up to the
 /// code of a key.
 pub(crate) fn key_path<'a>(
     alloc: Global,

@@ -33,8 +33,8 @@ fn ends_in_slash(stem: &[u8]) -> bool
     !stem.is_empty() && stem[stem.len() - 1] == b'/'
 }
 
-/// Returns whether a link may be written under the stem: 1 to 1,024 bytes from 33 to 126 that begin with `http://` or `https://`
-/// in lower case and a byte that is not a slash, have no `?` and no `#`, and do not end in a slash.
+/// Returns whether a link may be written under the stem. A stem has 1 to 1,024 bytes from 33 to 126. It begins with `http://`
+/// or `https://` in lower case and a byte that is not a slash. It has no `?` and no `#`, and does not end in a slash.
 #[tactic(auto, unfolding(crate::specs::Stems::stem_ok))]
 pub fn stem_ok(stem: &[u8]) -> bool
     ensures { result ≡ stem_ok stem.now }

@@ -1,4 +1,4 @@
-/// A pair of a link, lent by it, with the place of its code in the whole text and the row of its code, which is looked up once.
+/// A pair of a link, lent by it, with the offset of its code in the whole text. The row of its code is looked up once.
 /// Contracts see place, code and value; `IsPlaced` says that the row is that of the code.
 #[derive(Clone, Copy)]
 pub(crate) struct WrittenPair<'a> {

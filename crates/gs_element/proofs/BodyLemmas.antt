@@ -1,4 +1,4 @@
--- Texts without what a reader may send at the start.
+-- Texts without the bytes that a barcode scanner may send at the start.
 use Rattle.std.proofs.Common.{◌≡◌, ℕ, ◌≤◌, true, false, List, ◌∷◌, length, drop, eqb, find, Option, Some, None, refl, arith}
 use Rattle.std.specs.Option.{option_map_or}
 use Rattle.std.proofs.lemmas.List.{length-drop}

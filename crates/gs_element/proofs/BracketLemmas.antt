@@ -43,7 +43,7 @@ some_code code ok = by code (code_long code ok)
 closed_known : (code text : List ℕ) → is_empty code ≡ false → closed_code code (41 ∷ text) ≡ Some (code, text)
 closed_known code text some = rw some refl
 
--- the code is what the text has at the start
+-- the code is the start of the text
 pub code_known : (code text : List ℕ) → is_code code ≡ true → code_front (40 ∷ (code ++ 41 ∷ text)) ≡ Some (code, text)
 code_known code text ok =
     let front = digits_before code 41 text (code_digits code ok) no_end in

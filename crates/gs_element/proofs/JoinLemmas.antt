@@ -13,7 +13,7 @@ IsBlocked Element text = (pair : Pair) (after : List ℕ) → Element pair text 
 abbrev pub IsGreedy : Form → List ℕ → List ℕ → Type 0
 IsGreedy Element text next = (pair : Pair) (after : List ℕ) → Element pair text after → (after ≡ next) ⊎ (IsBlocked Element after × (length next < length after))
 
--- What makes joins and errors of a form unique.
+-- The reasons why joins and errors of a form are unique.
 pub record IsKnown (Element : Form) (error_of : List ℕ → Option ElementFault) : Type 0 where
   -- an element is a part of the text that is not empty
   pub ends : (pair : Pair) (text after : List ℕ) → Element pair text after → (before : List ℕ) × (text ≡ before ++ after) × (0 < length before)
@@ -62,7 +62,7 @@ module _ (Element : Form) where
   joined_more [] pair text rest next e h = (next, subst (λ (x : List ℕ). Element pair x next) (sym e) h, refl)
   joined_more (p ∷ pairs) pair text rest next j h = (j.0, j.1, joined_more pairs pair j.0 rest next j.2 h)
 
-  -- what holds of the pair of each element holds of all pairs
+  -- a fact of the pair of each element holds for all pairs
   pub all_joined : (P : Pair → Type 0) → ((pair : Pair) (text after : List ℕ) → Element pair text after → P pair) → (pairs : List Pair) (text rest : List ℕ) → Joined Element pairs text rest → All P pairs
   all_joined P each [] text rest j = All-nil P
   all_joined P each (p ∷ pairs) text rest j = All-cons P p pairs (each p text j.0 j.1) (all_joined P each pairs j.0 rest j.2)

@@ -3,7 +3,7 @@ use Rattle.std.specs.Prelude.{◌≡◌, ℕ, ◌+◌, ◌≤◌, List, [], ◌�
 use Rattle.gs_ai.specs.declared.errors.ElementFault.{ElementFault}
 use Rattle.gs_ai.specs.declared.pair.Pair.{Pair}
 
--- trusted, own: what an element is, by a text, its pair and the text that follows it
+-- trusted, own: the definition of an element, by a text, its pair and the text that follows it
 abbrev pub Form : Type 1
 Form = Pair → List ℕ → List ℕ → Type 0
 

@@ -113,7 +113,7 @@ others_kept field fields values k value place other fails =
     let same = named field at.0 at.2 in
     kept (is_field other) fields values k at.0 value at.1 (ap (is_field other) same ∙ fails)
 
--- ---- what an option says, its values taken out one after the other
+-- ---- the fields of an option, whose values are taken out one at a time
 
 -- the value of a field after others were taken out, one step further
 moved : (field : Field) (fields : List (Option Field)) (given before now next : List (List ℕ)) → next ≡ now → value_at field fields now ≡ value_at field fields before → value_at field fields before ≡ value_at field fields given → value_at field fields next ≡ value_at field fields given

@@ -1,4 +1,4 @@
--- What the rules of tables keep of the filter of an option: its value is one digit.
+-- The consequence of the rules of tables for the filter of an option: its value is one digit.
 use Rattle.std.proofs.Common.{◌≡◌, ℕ, ◌&&◌, ◌==◌, ◌≤◌, not, Bool, true, false, List, [], ◌∷◌, map, Some, None, decimal, refl, ◌∙◌, arith}
 use Rattle.std.specs.Prelude.{IfSome, ◌%◌}
 use Rattle.std.specs.List.{list_all}

@@ -1,4 +1,4 @@
--- What the rules of tables keep of an EPC of the set fits its kind.
+-- The fields of an EPC of the set, by the rules of tables, fit its kind.
 use Rattle.std.proofs.Common.{◌≡◌, ℕ, List, length, Some, slice_get, get_or, ◌<◌, sym, subst, ◌∙◌}
 use Rattle.std.proofs.lemmas.Option.{slice_get_within}
 use Rattle.gs_chars.proofs.TruthsAndLists.{read_at}
@@ -21,7 +21,7 @@ use Rattle.gs_epc.proofs.KeptFields.{AreHeld}
 use Rattle.gs_epc.proofs.KeptRules.{fits_further, fits_prefix, fits_room}
 use Rattle.gs_epc.specs.Layout.{fields_in}
 
--- what values of an option's items say fits the kind of the option
+-- the fields of values of an option's items fit the kind of the option
 fits_values : (set : TableRows) (level : LevelName) (items : List Item) (info : OptInfo) (values words : List (List ℕ)) (kept : KeptOption set level items info) → EachWord items values words
     → FitKind set.ais kept.kind (record { prefix = value_of Gcp info.fields values; rest = value_of Rest info.fields values; piece = value_of Piece info.fields values; total = value_of Total info.fields values; serial = value_of Serial info.fields values })
 fits_values set level items info values words kept held =
@@ -32,7 +32,7 @@ fits_values set level items info values words kept held =
     let further = subst (λ (lengths : List ℕ). FitsFurther lengths (value_of Piece (fields_of kept.parts) values) (value_of Total (fields_of kept.parts) values)) (sym kept.of_kind.further) own in
     rw kept.fields_are (record { of_kind = kept.of_kind; prefix_least = fit.prefix_least; prefix_most = fit.prefix_most; fits = fit.fits; further = further; room = room })
 
--- what the rules of tables keep of an EPC of the set fits its kind
+-- the fields of an EPC of the set, by the rules of tables, fit its kind
 pub fit_kind : (set : TableRows) (epc : Epc) → IsShaped set → IsOfSet set epc → (kind : Kind) × (slice_get set.kinds epc.kind ≡ Some kind) × FitKind set.ais kind (fields_in epc)
 fit_kind set epc shaped of_set =
     let kept = options_kept set of_set.level shaped of_set.option of_set.items of_set.info of_set.of_level of_set.said in

@@ -119,7 +119,7 @@ zero_first parts (c ∷ value) kept =
     let first : c ≡ 48 = is_zero c (cons_none (λ x. not (is_of_part Zero x)) c [] wrong).0 in
     record { others = value; front = ap (λ (d : ℕ). d ∷ value) first; long = omega arith; short = omega arith; checks = kept.checks }
 
--- what a key's tail has to be
+-- the conditions for a key's tail
 pub record IsTail (form : KeyForm) (tail behind : List ℕ) : Type 0 where
   pub some : is_some (tail_of form) ≡ true → tail ≡ behind
   pub none : is_none (tail_of form) ≡ true → tail ≡ []

@@ -173,7 +173,7 @@ serial_in_order ais row form (Ai code) serial rule room =
     let are : is_characters ais code ≡ true = and_right (is_none (tail_of form) && list_any (bytes_eq code) row.qualifiers) (is_characters ais code) rule in
     All-cons (IsInOrder ais) (record { code = code; value = serial }) [] (record { fits = serial_by_row (find (has_code code) ais) serial are room }) (All-nil (IsInOrder ais))
 
--- ---- what fits a kind
+-- ---- fields that fit a kind
 
 -- the value of the key is one of its row's
 pub value_in_order : (ais : List AiRow) (kind : Kind) (fields : KeyFields) (fit : FitKind ais kind fields) → is_row fit.of_kind.row ≡ true

@@ -1,4 +1,4 @@
--- What a reading names, by what its EPC says.
+-- The identity of a reading, by the fields of its EPC.
 use Rattle.std.proofs.Common.{◌≡◌, ℕ, List, refl}
 use Rattle.std.specs.Prelude.{IfErr, IfOk, Result, Ok, Err}
 use Rattle.gs_grammar.specs.Derivations.{OneDerivation}
@@ -21,6 +21,6 @@ pub names_one : (set : TableRows) (level : LevelName) (symbols : List ℕ) (opti
 names_one set level symbols option values seen info (Ok named) same said one is failed = record { said = Ok (epc_of info values); read = says set level symbols option values info (epc_of info values) said one refl; names = rw same at is }
 names_one set level symbols option values seen info (Err error) same said one is failed = record { said = Err Memory; read = tt; names = failed }
 
--- what the bits of a text of digits name is what the text names
+-- the identity of the bits of a text of digits is that of the text
 pub names_hex : (set : TableRows) (text bits : List ℕ) (answer : Result Named EpcFault) → IsHex text → bits ≡ bits_of_hex text → Names set (ReadsAs set Binary bits) answer → Names set (ReadsHex set text) answer
 names_hex set text bits answer hex e h = record { said = h.said; read = hex_answer set text bits h.said hex e h.read; names = h.names }

@@ -50,7 +50,7 @@ none_stands field (i ∷ items) h = elim (true_or_false (is_field field i.0)) [
   | inr e ↦ rw e (none_stands field items (rw e at h))
 ]
 
--- ---- what nothing leaves out
+-- ---- fields that keep everything
 
 nothing_left : (text : List ℕ) → not (is_empty text) ≡ false → [] ≡ text
 nothing_left [] h = refl

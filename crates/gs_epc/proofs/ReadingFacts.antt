@@ -1,4 +1,4 @@
--- What an option of a set says by the values of a derivation.
+-- The fields of an option of a set by the values of a derivation.
 use Rattle.std.proofs.Common.{◌≡◌, ℕ, ◌*◌, ◌<◌, List, length, Some, slice_get, get_or, refl, ap, ◌∙◌, arith}
 use Rattle.std.proofs.lemmas.List.{length-map}
 use Rattle.std.specs.Prelude.{◌%◌, ◌↔◌, IfSome, IsOk, Result, Ok, Err}
@@ -66,7 +66,7 @@ pub filter_of_said : (set : TableRows) (level : LevelName) (option : ℕ) (value
 filter_of_said set level option values info shaped h =
     filter_kept set level h.items info values h.words (options_kept set level shaped option h.items info h.of_level h.said) h.held
 
--- ---- what it says
+-- ---- its fields
 
 pub of_set : (set : TableRows) (level : LevelName) (option : ℕ) (values : List (List ℕ)) (info : OptInfo) (epc : Epc) → IsSaid set level option values info → epc ≡ epc_of info values → IsOfSet set epc
 of_set set level option values info epc h fields =

@@ -1,4 +1,4 @@
--- The candidates before an option, and what the last of them does not hold.
+-- The candidates before an option, and the field that the last of them does not hold.
 use Rattle.std.proofs.Common.{◌≡◌, ℕ, zero, suc, ◌+◌, ◌<◌, ◌≤◌, true, false, List, [], ◌∷◌, length, Some, None, slice_get, get_or, Ok, Err, refl, sym, ap, subst, ◌∙◌, arith, inl, inr}
 use Rattle.std.proofs.lemmas.Bool.{cases_eq, cases_lt}
 use Rattle.std.proofs.lemmas.List.{length-map}
@@ -54,7 +54,7 @@ module _ (set : TableRows) (level : LevelName) (epc : Epc) where
       cc
   rejected i candidate field why (inr out) holds = let both : Some field ≡ None = sym out.left ∙ holds.whole in cc
 
-  -- what one view of a candidate holds, each holds
+  -- the fields that one view of a candidate holds, each holds
   holds_as_well : (i : ℕ) (one other : Candidate set level epc i) → HoldsAll set level epc other → HoldsAll set level epc one
   holds_as_well i one other holds =
       let options : Some other.items ≡ Some one.items = sym other.of_level ∙ one.of_level in

@@ -1,4 +1,4 @@
--- What one candidate writes, or does not hold.
+-- The text that one candidate writes, or the field that it does not hold.
 use Rattle.std.proofs.Common.{◌≡◌, ℕ, ◌%◌, ◌<◌, ◌==◌, ◌&&◌, not, true, List, length, map, Option, Some, None, slice_get, get_or, refl, sym, ap, ◌∙◌, arith, inl, inr}
 use Rattle.std.specs.Option.{option_map}
 use Rattle.std.proofs.lemmas.Bool.Decides.{nat_tests}
@@ -27,7 +27,7 @@ use Rattle.gs_epc.specs.declared.epc.Epc.{Epc}
 use Rattle.gs_epc.specs.Candidates.{Candidate, left_out, value_for, values_for}
 use Rattle.gs_epc.specs.Writes.{field_at, HoldsAll, Rejects, text_on}
 
--- ---- what the rules keep of a candidate
+-- ---- the consequences of the rules for a candidate
 
 pub candidate_kept : (set : TableRows) (level : LevelName) (epc : Epc) (i : ℕ) (candidate : Candidate set level epc i) → IsShaped set → KeptOption set level candidate.items candidate.info
 candidate_kept set level epc i candidate shaped = options_kept set level shaped i candidate.items candidate.info candidate.of_level candidate.said
@@ -48,7 +48,7 @@ whole set items info kept =
     let both = and_parts (not (is_empty info.encoding) && is_one is_filter (items_of_field Filter kept.parts)) (size_of_all (alone kept.parts) % 16 == 0) kept.of_level in
     rw kept.items_are (eighth (size_of_all (alone kept.parts)) both.1)
 
--- ---- what kind of symbols an option has
+-- ---- the kind of symbols that an option has
 
 -- a level's symbols are bits, or they are not
 level_bits : (set : TableRows) (level : LevelName) → IsShaped set → (level_rows level set).level.bit_level ≡ is_bits level

@@ -1,5 +1,5 @@
--- What tags and EPC URIs say: the values of the fields of an option. TDT 2.0, section 3 (options and fields), and TDS 2.0,
--- section 6.3 (the schemes).
+-- The contents of tags and EPC URIs: the values of the fields of an option. TDT 2.0, section 3 (options and fields), and TDS
+-- 2.0, section 6.3 (the schemes).
 use Rattle.std.specs.Prelude.{◌≡◌, ℕ, List, [], Option, Some, option_map, slice_get, zip}
 use Rattle.std.specs.List.{find}
 use Rattle.std.specs.Option.{option_map_or}
@@ -28,7 +28,7 @@ value_of field fields values = option_map_or (λ value. value) (value_at field f
 abbrev pub filter_of : List (Option Field) → List (List ℕ) → Option ℕ
 filter_of fields values = option_map decimal_value (value_at Filter fields values)
 
--- trusted, TDT 2.0, section 3; TDS 2.0, section 6.3: what an option says by the values of its items
+-- trusted, TDT 2.0, section 3; TDS 2.0, section 6.3: the fields of an option by the values of its items
 abbrev pub epc_of : OptInfo → List (List ℕ) → Epc
 epc_of info values = record {
   kind = info.kind;

@@ -19,7 +19,7 @@ use Rattle.gs_epc.specs.Layout.{KeyFields, parts_at}
 
 -- ---- the parts of a key's value
 
--- trusted, own: the value after the leading zero, where the parts begin with one
+-- trusted, own: the value after the leading zero, if the parts begin with one
 abbrev pub behind_zero : List Part → List ℕ → List ℕ
 behind_zero (Zero ∷ _) value = drop 1 value
 behind_zero _ value = value
@@ -125,7 +125,7 @@ epc_of_key kind n fields =
       serial = fields.serial;
     }
 
--- trusted, own: what an identity says by the kind of this index and a prefix of n, unless its serial is missing
+-- trusted, own: the fields of an identity by the kind of this index and a prefix of n, unless its serial is missing
 abbrev pub epc_at : TableRows → ℕ → Elements → ℕ → Option Epc
 epc_at set kind identity n =
     option_and_then (λ (row : Kind). option_map (epc_of_key kind n) (take_apart set.ais row identity n))
@@ -138,7 +138,7 @@ pub record IsOfKind (kind : Kind) (identity : Elements) : Type 0 where
   pub attributes : identity.attributes ≡ []
 
 -- trusted, TDS 2.0, section 7: Holds if the result is that of `fields_of`: the fields of the identity, or that its serial is
--- missing. `Memory` may come instead.
+-- missing. `Memory` may be returned instead.
 abbrev pub IsTakenApart : TableRows → ℕ → Elements → ℕ → Result Epc FieldsFault → Type 0
 IsTakenApart set kind identity n (Ok epc) = epc_at set kind identity n ≡ Some epc
 IsTakenApart set kind identity n (Err MissingSerial) = epc_at set kind identity n ≡ None

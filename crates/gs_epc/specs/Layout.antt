@@ -17,8 +17,8 @@ use Rattle.gs_tables_document.specs.declared.kind.SerialAt.TheVariants.{Nowhere,
 use Rattle.gs_tables.specs.Tables.{TableRows}
 use Rattle.gs_epc.specs.declared.epc.Epc.{Epc}
 
--- trusted, own: what a key says by its kind: the company prefix, the rest, the piece and the total, which are empty if the kind
--- has none, and the serial
+-- trusted, own: the fields of a key by its kind: the company prefix, the rest, the piece and the total, which are empty if the
+-- kind has none, and the serial
 pub record KeyFields : Type 0 where
   pub prefix : List ℕ
   pub rest : List ℕ
@@ -100,7 +100,7 @@ lay ais kind fields = record {
   attributes = [];
 }
 
--- trusted, TDS 2.0, section 7: the identity is the layout of what an EPC says, by the kind that it names
+-- trusted, TDS 2.0, section 7: the identity is the layout of the fields of an EPC, by the kind that it names
 pub record IsLaidOut (set : TableRows) (epc : Epc) (identity : Elements) : Type 0 where
   pub kind : Kind
   pub named : slice_get set.kinds epc.kind ≡ Some kind

@@ -19,7 +19,7 @@ NamesSaid set (Ok epc) (Ok named) = IsNamed set epc named
 NamesSaid set (Err error) (Err reason) = reason ≡ error
 NamesSaid set _ _ = ⊥
 
--- trusted, own: what a text names by the EPC that it says, or why it says none
+-- trusted, own: the identity of a text by the EPC that it spells, or why it spells none
 pub record Names (set : TableRows) (Reads : Result Epc EpcFault → Type 0) (answer : Result Named EpcFault)
     : Type 0 where
   pub said : Result Epc EpcFault

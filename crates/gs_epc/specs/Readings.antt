@@ -24,14 +24,14 @@ pub record Says (set : TableRows) (level : LevelName) (symbols : List ℕ) (epc 
   pub fields : epc ≡ epc_of info values
 
 -- trusted, TDS 2.0, sections 6, 12 and 14: Holds if the result is the EPC of the one derivation of these symbols of a level, or
--- that there is none. `Memory` may come instead.
+-- that there is none. `Memory` may be returned instead.
 abbrev pub ReadsAs : TableRows → LevelName → List ℕ → Result Epc EpcFault → Type 0
 ReadsAs set level symbols (Ok epc) = Says set level symbols epc
 ReadsAs set level symbols (Err NoReading) = Derivation (options_of level set) symbols → ⊥
 ReadsAs set level symbols (Err Memory) = Unit {0}
 ReadsAs set level symbols (Err (Hex error)) = ⊥
 
--- trusted, own: why a text is not a hexadecimal text of at most 128 digits: the first that fits
+-- trusted, own: why a text is not a hexadecimal text of at most 128 digits: the first reason that applies
 abbrev pub IsHexFault : List ℕ → HexFault → Type 0
 IsHexFault text OddDigits = length text % 2 ≡ 1
 IsHexFault text Full = (length text % 2 ≡ 0) × (128 < length text)
@@ -44,7 +44,7 @@ pub record IsHex (text : List ℕ) : Type 0 where
   pub digits : AllPass is_hex_digit text
 
 -- trusted, TDS 2.0, section 14; the order of errors is own: Holds if the result is why the text is not a text of hexadecimal
--- digits, or the result for its bits. `Memory` may come instead.
+-- digits, or the result for its bits. `Memory` may be returned instead.
 abbrev pub ReadsHex : TableRows → List ℕ → Result Epc EpcFault → Type 0
 ReadsHex set text (Err (Hex error)) = IsHexFault text error
 ReadsHex set text (Err Memory) = Unit {0}

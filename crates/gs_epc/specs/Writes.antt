@@ -87,7 +87,7 @@ module _ (set : TableRows) (level : LevelName) (epc : Epc) where
 
   -- trusted, own: Holds if the result is that of writing an EPC in a level: the text of the first candidate that holds every
   -- field; that there is no candidate; or that none holds every field, with the field that the last does not hold. `Memory` may
-  -- come instead.
+  -- be returned instead.
   abbrev pub WritesAs : Result (List ℕ) EpcWriteFault → Type 0
   WritesAs (Ok text) = Writes text
   WritesAs (Err NoOption) = (i : ℕ) → Candidate set level epc i → ⊥

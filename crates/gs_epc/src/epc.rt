@@ -1,6 +1,6 @@
 use gs_chars::Text;
 
-/// What a tag or an EPC URI says (TDS 2.0, section 6.3): the fields of an option of a table set.
+/// The contents of a tag or an EPC URI (TDS 2.0, section 6.3): the fields of an option of a table set.
 #[derive(Drop)]
 pub struct Epc {
     /// The index of the kind.

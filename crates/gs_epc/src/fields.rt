@@ -50,7 +50,7 @@ fn take_value(alloc: Global, field: Field, fields: &[Option<Field>], values: &mu
     }
 }
 
-/// Returns the EPC of an option by the values of its items, which are moved out, with a copy of the name of its encoding.
+/// Returns the EPC of an option by the values of its items. It moves the values out and copies the name of the encoding.
 fn taken(alloc: Global, info: &OptInfo, encoding: Text, values: &mut [Text]) -> Epc
     requires encoding { encoding ≡ info.now.encoding }
     requires filter { IfSome (value_at Field.Filter info.now.fields values.now) IsFilter }

@@ -13,21 +13,21 @@ use gs_ident::Identity;
 use gs_tables::{SerialAt, TableSet, are_characters};
 use std::alloc::Global;
 
-/// Returns the first bytes of a value, as many as there are.
+/// Returns the first `count` bytes of a value, or all if there are fewer.
 fn front(value: &[u8], count: usize) -> &[u8]
     ensures { result.now ≡ take count value.now }
 {
     &value[..count.min(value.len())]
 }
 
-/// Returns the bytes of a value after that many.
+/// Returns the bytes of a value after the first `count`.
 fn behind(value: &[u8], count: usize) -> &[u8]
     ensures { result.now ≡ drop count value.now }
 {
     &value[count.min(value.len())..]
 }
 
-/// Returns the value after the leading zero, where the parts begin with one.
+/// Returns the value after the leading zero, if the parts begin with one.
 fn behind_zero<'a>(parts: &[Part], value: &'a [u8]) -> &'a [u8]
     ensures { result.now ≡ behind_zero parts.now value.now }
 {
@@ -190,8 +190,8 @@ fn serial_in<'a>(
     }
 }
 
-/// Returns the value of a key of a kind of the set, by the kind's index, from the company prefix on (TDS 2.0, section 7): the
-/// rest after a leading zero and the lead digits, if there is any.
+/// Returns the value of a key of a kind of the set from the company prefix on (TDS 2.0, section 7). A leading zero and the lead
+/// digits, if there are any, are left out. The kind is given by its index.
 pub fn value_from_prefix<'a>(set: &TableSet, kind: usize, value: &'a [u8]) -> &'a [u8]
     requires { kind < length set.now.kinds }
     ensures { result.now ≡ value_from_prefix set.now kind value.now }
@@ -218,10 +218,10 @@ fn copied(alloc: Global, lent: &LentEpc<'_>) -> Result<Epc, Memory>
     })
 }
 
-/// Returns the fields of an identity by a kind of the set, by the kind's index, and the company prefix length (TDS 2.0, section
-/// 7): prefix, reference, piece, total and serial, with an empty encoding and no filter value. If the value of the key is too
-/// short, so are they. Returns `MissingSerial` if and only if the kind has a serial, the identity lacks it, and no text means its
-/// absence.
+/// Returns the fields of an identity by a kind of the set and the company prefix length (TDS 2.0, section 7). The kind is given
+/// by its index. The fields are prefix, reference, piece, total and serial, with an empty encoding and no filter value. If the
+/// value of the key is too short, so are they. Returns `MissingSerial` if and only if the kind has a serial, the identity has
+/// none, and no text means its absence.
 pub fn lent_fields_of<'a>(
     set: &'a TableSet,
     kind: usize,

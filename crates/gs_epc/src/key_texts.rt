@@ -4,7 +4,7 @@ ghost use Rattle.gs_epc.specs.Layout.{fields_in};
 use crate::epc::Epc;
 use std::marker::Model;
 
-/// The lent fields of an EPC's key: each text as `Epc` has it.
+/// The lent fields of an EPC's key, each with the text of that in `Epc`.
 #[derive(Drop)]
 pub(crate) struct KeyTexts<'a> {
     pub(crate) prefix: &'a [u8],

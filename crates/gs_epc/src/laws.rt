@@ -14,16 +14,16 @@ ghost use Rattle.gs_epc.specs.Writes.{ReadsText, Writes, same_fields};
 
 use gs_tables::TableSet;
 
-/// Taking apart undoes laying out: the identity of an EPC of the set, taken apart by its kind and prefix length, gives
-/// back its prefix, rest, piece, total and serial.
+/// States that taking apart undoes laying out. The identity of an EPC of the set, taken apart by its kind and prefix length,
+/// gives back its prefix, rest, piece, total and serial.
 pub fn taking_apart_undoes_laying_out()
     ensures { (set : TableRows) (epc : Epc) (identity : Elements) → IsShaped set → IsOfSet set epc
         → IsLaidOut set epc identity
         → epc_at set epc.kind identity epc.gcp ≡ Some (record epc { encoding = []; filter = None }) }
 {}
 
-/// States that laying out undoes taking apart: if an identity of the set's application identifiers has only the key of a kind and
-/// its serial, the fields that it is taken apart to, by any company prefix length, are laid out to that identity.
+/// States that laying out undoes taking apart for an identity of the set's application identifiers. The identity has only the
+/// key of a kind and its serial. Its fields, taken apart by any company prefix length, are laid out to that identity.
 pub fn laying_out_undoes_taking_apart(set: &TableSet)
     ensures { (kind n : ℕ) (row : Kind) (identity : Elements) (epc : Epc)
         → slice_get set.now.kinds kind ≡ Some row → IsOfKind row identity
@@ -34,7 +34,7 @@ pub fn laying_out_undoes_taking_apart(set: &TableSet)
     let _ = set.ais().rows();
 }
 
-/// States that a text that is written by loaded tables is read as the same fields, by the encoding of the option that wrote it.
+/// States that a text written by loaded tables is read as the same fields, by the encoding of the option that wrote it.
 pub fn what_is_written_is_read()
     ensures { (set : TableRows) (level : LevelName) (epc : Epc) (text : List ℕ) → IsLoaded set
         → HasFilterOn level epc.filter → (writes : Writes set level epc text)

@@ -3,8 +3,8 @@ ghost use Rattle.std.specs.Prelude.{◌≡◌};
 use crate::epc::Epc;
 use std::marker::Model;
 
-/// What a tag or an EPC URI says, each text lent: the fields of `Epc`. The rest is in two parts, so that none is copied to join
-/// them.
+/// The contents of a tag or an EPC URI, each text lent: the fields of `Epc`. The rest is in two parts, so that none is copied
+/// to join them.
 #[derive(Drop)]
 pub struct LentEpc<'a> {
     /// The index of the kind.

@@ -1,5 +1,4 @@
-//! EPCs: the EPC of tag bits and of EPC URIs by the tables, the identity that it names, and the texts that are written of an
-//! identity.
+//! EPCs: the EPC that tag bits and EPC URIs give by the tables, the identity that it names, and the texts of an identity.
 //!
 //! - `read_hex`, `read_tag` and `read_pure` give the fields of an EPC; `write_hex`, `write_tag` and `write_pure` its text.
 //! - `name_hex`, `name_tag` and `name_pure` give at once the identity that a text names, its filter value and its encoding.

@@ -18,7 +18,7 @@ use gs_grammar_level::{Reading, read_bits, read_text};
 use gs_tables::{LevelName, OptInfo, TableSet};
 use std::alloc::Global;
 
-/// Returns what an EPC names, given the option and the values of its items. Moves no value, so that no EPC is made.
+/// Returns the identity of an EPC, given the option and the values of its items. Moves no value, so that no EPC is made.
 fn named_by(
     alloc: Global,
     set: &TableSet,
@@ -43,7 +43,7 @@ fn named_by(
     })
 }
 
-/// Returns what the EPC of a reading of symbols in a level names.
+/// Returns the identity of the EPC of a reading of symbols in a level.
 fn named(
     alloc: Global,
     set: &TableSet,
@@ -64,8 +64,8 @@ fn named(
     }
 }
 
-/// Returns what the bits of a tag name: the identity that `read_hex` and `identity_of` give, in fewer steps, with the errors of
-/// `read_hex`.
+/// Returns the identity of the bits of a tag, which `read_hex` and `identity_of` also give. It takes fewer steps and has the
+/// errors of `read_hex`.
 pub fn name_hex(alloc: Global, set: &TableSet, text: &[u8]) -> Result<Named, EpcFault>
     ensures names { Names set.now (ReadsHex set.now text.now) result }
     ensures with_table { IfOk result (λ named. IsMadeWith set.now.ais named.identity) }
@@ -77,7 +77,7 @@ pub fn name_hex(alloc: Global, set: &TableSet, text: &[u8]) -> Result<Named, Epc
     }
 }
 
-/// Returns what a text of a level names.
+/// Returns the identity of a text of a level.
 fn name_level(
     alloc: Global,
     set: &TableSet,
@@ -90,8 +90,8 @@ fn name_level(
     named(alloc, set, level, read_text(alloc, set.level(level), text))
 }
 
-/// Returns what an EPC tag URI names: the identity that `read_tag` and `identity_of` give, in fewer steps, with the errors of
-/// `read_tag`.
+/// Returns the identity of an EPC tag URI, which `read_tag` and `identity_of` also give. It takes fewer steps and has the
+/// errors of `read_tag`.
 pub fn name_tag(alloc: Global, set: &TableSet, text: &[u8]) -> Result<Named, EpcFault>
     ensures names { Names set.now (ReadsAs set.now LevelName.Tag text.now) result }
     ensures with_table { IfOk result (λ named. IsMadeWith set.now.ais named.identity) }
@@ -99,8 +99,8 @@ pub fn name_tag(alloc: Global, set: &TableSet, text: &[u8]) -> Result<Named, Epc
     name_level(alloc, set, LevelName::Tag, text)
 }
 
-/// Returns what an EPC pure identity URI names: the identity that `read_pure` and `identity_of` give, in fewer steps, with the
-/// errors of `read_pure`.
+/// Returns the identity of an EPC pure identity URI, which `read_pure` and `identity_of` also give. It takes fewer steps and
+/// has the errors of `read_pure`.
 pub fn name_pure(alloc: Global, set: &TableSet, text: &[u8]) -> Result<Named, EpcFault>
     ensures names { Names set.now (ReadsAs set.now LevelName.Pure text.now) result }
     ensures with_table { IfOk result (λ named. IsMadeWith set.now.ais named.identity) }

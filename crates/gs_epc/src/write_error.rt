@@ -6,7 +6,7 @@ use thiserror::Error;
 /// Why an identity is not taken apart.
 #[derive(Clone, Copy, Debug, Error)]
 pub enum FieldsFault {
-    /// The kind has a serial, the identity lacks it, and no text means its absence.
+    /// The kind has a serial, the identity has none, and no text means its absence.
     #[error("the identity lacks the serial that its kind has")]
     MissingSerial,
     /// Out of memory.

@@ -141,10 +141,11 @@ pub fn write_level(
 }
 
 /// Returns the bits of an EPC in upper-case hexadecimal digits (TDS 2.0, section 14). The candidates are the options of bits of
-/// the EPC's kind and company prefix length and, if its encoding is not empty, of that encoding, in their order. The first that
-/// holds every field writes. Returns `NoOption` if and only if there is no candidate. Returns `CannotHold` if and only if there
-/// are some and none holds every field; it names the first field, in the order of the items, that the last does not hold. A
-/// reference or serial without an item comes after all items and has to be empty. The EPC has a filter value of at most 7.
+/// the EPC's kind and company prefix length, in their order. If its encoding is not empty, they also have that encoding. The
+/// first that holds every field writes. Returns `NoOption` if and only if there is no candidate. Returns `CannotHold` if and
+/// only if there are some and none holds every field. It names the first field, in the order of the items, that the last
+/// candidate does not hold. A reference or serial without an item follows all items and has to be empty. The EPC has a filter
+/// value of at most 7.
 pub fn write_hex(alloc: Global, set: &TableSet, epc: &Epc) -> Result<Text, EpcWriteFault>
     requires { HasFilter epc.now.filter }
     ensures { WritesAs set.now LevelName.Binary epc.now result }
@@ -161,8 +162,8 @@ pub fn write_tag(alloc: Global, set: &TableSet, epc: &Epc) -> Result<Text, EpcWr
     write_level(alloc, set, LevelName::Tag, epc)
 }
 
-/// Returns the EPC pure identity URI of an EPC (TDS 2.0, section 6), by the options of pure identity URIs as `write_hex` by those
-/// of bits. The encoding and the filter value of the EPC are not used.
+/// Returns the EPC pure identity URI of an EPC (TDS 2.0, section 6). It uses the options of pure identity URIs as `write_hex`
+/// uses those of bits. The encoding and the filter value of the EPC are not used.
 pub fn write_pure(alloc: Global, set: &TableSet, epc: &Epc) -> Result<Text, EpcWriteFault>
     ensures { WritesAs set.now LevelName.Pure epc.now result }
 {

@@ -18,7 +18,7 @@ pub record Ways (items : List Item) (w : List ℕ) : Type 0 where
   pub found : Found
   pub finds : Finds items w found
 
--- the number of ways in which the item and then the items derive the list, with a word of the item shorter than the cut
+-- the number of ways in which the item and then the items derive the list, if the item's word is shorter than the cut
 record WaysBefore (item : Item) (items : List Item) (w : List ℕ) (cut : ℕ) : Type 0 where
   found : Found
   finds : FindsBefore item items w cut found

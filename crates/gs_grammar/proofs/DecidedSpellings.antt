@@ -94,7 +94,7 @@ front_decided : (w : List ℕ) → Front w ⊎ HasNoFront w
 front_decided [] = inr (empty_front [] refl)
 front_decided (x ∷ w) = by_first x w (is_plain x) refl
 
--- what a list spells, by its first spelling and then the rest
+-- the characters that a list spells, by its first spelling and then the rest
 pub record Spelled (w : List ℕ) : Type 0 where
   pub n : ℕ
   pub many : SpellsMany n w

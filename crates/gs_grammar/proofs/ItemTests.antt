@@ -25,7 +25,7 @@ between_is low high n h = (grind (arith, nat_tests), grind (arith, nat_tests))
 pub is_between_of : (low high n : ℕ) → low ≤ n → n ≤ high → is_between low high n ≡ true
 is_between_of low high n h k = grind (arith, nat_tests)
 
--- a test of what the words are is a test of words
+-- a test of the language of the words is a test of words
 pub of_language : (item : Item) (w : List ℕ) (answer : Bool) → (IsTrue answer ↔ Language item w) → IsTrue answer ↔ IsWord item w
 of_language item w answer e = (λ t. (language_is item w).1 (e.0 t), λ h. e.1 ((language_is item w).0 h))
 
@@ -69,7 +69,7 @@ numstr_no_bits bits hi w none h = none (decimal_value (49 ∷ h.0)) h.1.2
 
 -- spelled characters
 
--- two counts of what a list spells are one
+-- two counts of the characters that a list spells are one
 same_count : (m n : ℕ) (w : List ℕ) → SpellsMany m w → SpellsMany n w → m ≡ n
 same_count m n w a b =
     let same = ap length (spelled_fixes a.value b.value w w a.spelled b.spelled refl) in
@@ -193,7 +193,7 @@ bits_writes item bits w (inr (inr i)) h = numstr_writes item bits i.0 w i.1 h
 
 -- packed characters
 
--- two counts of what a list packs are one
+-- two counts of the characters that a list packs are one
 same_packed : (m n : ℕ) (w : List ℕ) → PacksMany m w → PacksMany n w → m ≡ n
 same_packed m n w a b =
     let same = ap length (packed_fixes a.value b.value w a.packed b.packed) in
@@ -226,7 +226,7 @@ ascii_value item lo hi bits w out i h p =
 pub ascii_unpacked : (lo hi bits : ℕ) (w out : List ℕ) (answer : Bool) → (IsTrue answer ↔ IsWord (Ascii7 lo hi bits) w) → answer ≡ true → IsPacked out w → Word (Ascii7 lo hi bits) out w
 ascii_unpacked lo hi bits w out answer e t p = ascii_value (Ascii7 lo hi bits) lo hi bits w out refl (e.0 t) p
 
--- a list is a word if and only if a reader finds what the word is
+-- a list is a word if and only if a reader finds its contents
 
 known_none : (item : Item) (w : List ℕ) (answer : Bool) → answer ≡ false → (IsWord item w → ⊥) → IsTrue answer ↔ IsWord item w
 known_none item w answer e none = (λ t. absurd (let f : false ≡ true = sym e ∙ t in cc), λ i. absurd (none i))

@@ -31,7 +31,7 @@ lifted level more w d = record { option = d.option; items = d.items; values = d.
 abbrev last_derivation : (level : List (List Item)) (items : List Item) (w : List ℕ) (values words : List (List ℕ)) → Derives items w values words → Derivation (level ++ items ∷ []) w
 last_derivation level items w values words d = record { option = length level; items = items; values = values; words = words; of_level = get_last level items; derives = d }
 
--- what a derivation of all options is: one of the options before, or one by the last option
+-- the cases of a derivation of all options: one of the options before, or one by the last option
 record ByLast (level : List (List Item)) (items : List Item) (w : List ℕ) (option : ℕ) (values words : List (List ℕ)) : Type 0 where
   place : option ≡ length level
   derives : Derives items w values words

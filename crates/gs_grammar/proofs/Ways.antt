@@ -38,7 +38,7 @@ pub record TwoCuts (item : Item) (items : List Item) (w : List ℕ) : Type 0 whe
   pub split' : AtCut item items w place'
   pub differ : place ≡ place' → split.words ≡ split'.words → ⊥
 
--- the number of ways in which the item and then the items derive the list, with a word of the item shorter than the cut
+-- the number of ways in which the item and then the items derive the list, if the item's word is shorter than the cut
 abbrev pub FindsBefore : Item → List Item → List ℕ → ℕ → Found → Type 0
 FindsBefore item items w cut Never = (k : ℕ) → k < cut → AtCut item items w k → ⊥
 FindsBefore item items w cut Once = OneCut item items w cut
@@ -52,13 +52,13 @@ joined_found Once Once = Twice
 joined_found Once Twice = Twice
 joined_found Twice more = Twice
 
--- what the options of the level read: nothing, the one derivation by this option, or two derivations
+-- the readings of the options of the level: nothing, the one derivation by this option, or two derivations
 abbrev pub FindsInLevel : List (List Item) → List ℕ → FoundOption → Type 0
 FindsInLevel level w NoOption = Derivation level w → ⊥
 FindsInLevel level w (OneOption option) = (values : List (List ℕ)) × OneDerivation level w option values
 FindsInLevel level w TwoReadings = TwoDerivations level w
 
--- what the options before this one read, and this option, together
+-- the readings of the options before this one, and of this option, together
 abbrev pub joined_option : FoundOption → ℕ → Found → FoundOption
 joined_option NoOption option Never = NoOption
 joined_option NoOption option Once = OneOption option

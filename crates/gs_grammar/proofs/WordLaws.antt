@@ -54,7 +54,7 @@ none_bad bit_level items h k d l =
 pub all_items : (bit_level : Bool) (items : List Item) → position (is_bad bit_level) items ≡ None → All IsItem items
 all_items bit_level items h k d l = of_level bit_level (get_or items k d) (none_bad bit_level items h k d l)
 
--- what the bounds of an item say
+-- the facts that the bounds of an item give
 pub int_bounds : (greatest : ℕ) → IsItem (Int greatest) → greatest < 2 ^ 64
 int_bounds greatest h = grind (arith, nat_tests)
 

@@ -1,5 +1,5 @@
--- Ambiguous levels: lists of symbols with two different derivations, and how a text shows such a list. What a load of tables
--- rejects as ambiguous is given by these.
+-- Ambiguous levels: lists of symbols with two different derivations, and how a text shows such a list. By these a load of
+-- tables rejects a level as ambiguous.
 use Rattle.std.specs.Prelude.{◌≡◌, ℕ, ◌+◌, ◌<◌, ◌≤◌, ◌⊎◌, Bool, if◌then◌else◌, List, All, Some, map}
 use Rattle.std.specs.List.{slice_get}
 use Rattle.gs_grammar.specs.declared.item.Item.{Item}

@@ -16,7 +16,7 @@ WordFixesValue = (item : Item) (value other w : List ℕ) → Word item value w 
 abbrev pub DigitsWriteTheirNumber : Type 0
 DigitsWriteTheirNumber = (bits n : ℕ) (value w : List ℕ) → Word (NumPad bits n) value w → number_of_word (NumPad bits n) w ≡ decimal_value value
 
--- trusted, own: the number of a word of a numeral in bits, up to a greatest below 2 to the 64, is the number that its value
+-- trusted, own: the number of a word of a numeral in bits, whose greatest is below 2 to the 64, is the number that its value
 -- writes
 abbrev pub NumeralWritesItsNumber : Type 0
 NumeralWritesItsNumber =

@@ -1,4 +1,4 @@
--- What contracts see of an option and of a level.
+-- The view that contracts have of an option and of a level.
 use Rattle.std.specs.Prelude.{◌≡◌, ◌<◌, ◌≤◌, Bool, List, All, map, Some, None, position}
 use Rattle.gs_grammar.specs.declared.item.Item.{Item}
 use Rattle.gs_grammar.specs.declared.error.OptFault.{OptFault}

@@ -1,4 +1,4 @@
--- What the search for splits of one option finds. The definition is the search's own.
+-- The findings of the search for splits of one option. The definition is the search's own.
 use Rattle.std.specs.Prelude.{ℕ, ◌≤◌, List, take, drop, length}
 use Rattle.gs_grammar.specs.declared.item.Item.{Item}
 use Rattle.gs_grammar.specs.Words.{Word}

@@ -24,7 +24,7 @@ first_reason char size zero large =
 abbrev pub GivesReason : Result (Unit {0}) Why → Option Why → Type 0
 GivesReason answer reason = MatchResult answer (λ _. reason ≡ None) (λ why. reason ≡ Some why)
 
--- trusted, own: digits begin with a zero that is not the whole of them
+-- trusted, own: there is a leading zero before other digits
 abbrev pub has_leading_zero : List ℕ → Bool
 has_leading_zero value = nat_lt 1 (length value) && (slice_index value 0 == 48)
 
@@ -46,7 +46,7 @@ why_not (NumStr bits hi) value = first_reason (not (are_digits value)) (not (is_
 why_not (Ascii7 lo hi bits) value = first_reason (not (are_in_set82 value)) (not (is_between lo hi (length value) && nat_le (7 * length value) bits)) false false
 why_not _ value = first_reason false (not (length value == 0)) false false
 
--- trusted, own: the items hold their values, as far as the first n
+-- trusted, own: the first n items hold their values
 abbrev pub AreHeldBefore : List Item → List (List ℕ) → ℕ → Type 0
 AreHeldBefore items values n = (k : ℕ) (item : Item) (value : List ℕ) → k < n → slice_get items k ≡ Some item → slice_get values k ≡ Some value → why_not item value ≡ None
 
@@ -78,7 +78,7 @@ abbrev pub IsWriteFault : List Item → List (List ℕ) → WriteFault → Type 
 IsWriteFault items values (CannotHold k why) = IsFirstRejection items values k why
 IsWriteFault items values Memory = Unit {0}
 
--- trusted, own: the same of a call that takes no memory
+-- trusted, own: the same of a call that does not allocate
 abbrev pub IsHoldError : List Item → List (List ℕ) → WriteFault → Type 0
 IsHoldError items values (CannotHold k why) = IsFirstRejection items values k why
 IsHoldError items values Memory = ⊥

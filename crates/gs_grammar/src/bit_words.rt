@@ -12,7 +12,7 @@ pub fn are_zeros(symbols: &[u8], n: usize) -> bool
     symbols.len() == n && symbols.iter().all(|symbol| *symbol == 0)
 }
 
-/// Returns the number that the symbols are in this many bits, the highest first. `None` is returned if and only if they are not
+/// Returns the number that the symbols are in this many bits, the highest first. Returns `None` if and only if they are not a
 /// number in that many bits. There are at most 64 bits.
 pub fn number_in_bits(symbols: &[u8], bits: usize) -> Option<u64>
     requires { bits ≤ 64 }

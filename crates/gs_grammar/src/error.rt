@@ -15,7 +15,7 @@ pub enum Why {
     /// The number of characters is not allowed, or packed they have no room in the bits; of a decimal text this is the empty
     /// one.
     Length,
-    /// A decimal text begins with a zero that is not the whole of it.
+    /// A decimal text has a leading zero before other digits.
     Zero,
     /// The number is above the greatest, or has no room in the bits.
     Large,

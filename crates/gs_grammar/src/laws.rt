@@ -16,8 +16,8 @@ pub fn words_without_values()
     ensures { (item : Item) (w : List ℕ) → IsWord item w ↔ Language item w }
 {}
 
-/// States that the number of a whole word, for an item that is a number in bits, is the number that its value writes, after a 1
-/// if the item is `NumStr`.
+/// States, for an item that is a number in bits, that the number of a whole word is the number that its value writes. For
+/// `NumStr`, the digits follow a 1.
 pub fn word_writes_its_value()
     ensures digits { DigitsWriteTheirNumber }
     ensures numeral { NumeralWritesItsNumber }
@@ -58,8 +58,8 @@ pub fn unambiguous_levels_read_alone()
     ensures { UnambiguousLevelsReadAlone }
 {}
 
-/// It is decidable of each level of items in their bounds whether it is ambiguous: it is not, or some pair of its options is
-/// the first that shares a list.
+/// States that each level of items in their bounds is decided: it is not ambiguous, or some pair of its options is the first
+/// that shares a list.
 pub fn each_level_is_judged()
     ensures { (level : List (List Item)) → AreItems level → IsUnambiguous level ⊎ HasFirstShare level }
 {}

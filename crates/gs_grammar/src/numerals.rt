@@ -38,7 +38,7 @@ pub fn has_at_most_digits(number: u64, n: u8) -> bool
     number < 10u64.pow(u32::from(n))
 }
 
-/// Returns whether digits begin with a zero that is not the whole of them.
+/// Returns whether there is a leading zero before other digits.
 pub fn has_leading_zero(symbols: &[u8]) -> bool
     ensures { result ≡ has_leading_zero symbols.now }
 {

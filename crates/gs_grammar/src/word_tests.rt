@@ -36,7 +36,7 @@ pub fn is_integer(symbols: &[u8], max: u64) -> bool
     }
 }
 
-/// Writes the characters that the symbols spell to the start of `out`, and returns their number, if the symbols are a word of the
+/// Writes the characters that the symbols spell to the start of `out`. Returns their number, if the symbols are a word of the
 /// item `Esc`.
 pub fn spell_within(symbols: &[u8], lo: u8, hi: u8, out: &mut [u8]) -> Option<usize>
     requires few { hi ≤ 64 }
@@ -87,8 +87,8 @@ pub fn number_within(symbols: &[u8], bits: u8, max: u64) -> Option<u64>
     Some(number)
 }
 
-/// Returns the number of the symbols in bits and the count of its digits after the first, if they are a word of the item
-/// `NumStr`.
+/// Returns the number of the symbols in bits, and the count of its digits after the first. Returns `None` if they are not a
+/// word of the item `NumStr`.
 pub fn number_behind_one(symbols: &[u8], bits: u8, hi: u8) -> Option<(u64, u8)>
     requires narrow { bits ≤ 64 }
     requires few { hi ≤ 12 }

@@ -1,4 +1,4 @@
--- Rows that were added to a table, one after the other.
+-- Rows that were added to a table one at a time.
 use Rattle.std.proofs.Common.{◌≡◌, ℕ, ◌<◌, ◌+◌, ◌-◌, List, [], ◌∷◌, ◌++◌, length, zero, suc, Result, Ok, Err, IfOk, refl, sym, ◌∙◌, ap, arith, length-append, ◌≤◌, drop, get_or}
 use Rattle.std.proofs.lemmas.List.{append_assoc, append-nil, drop_more, drop_all}
 use Rattle.gs_grammar_machine.specs.declared.edge.Edge.{Edge}
@@ -8,7 +8,7 @@ use Rattle.gs_grammar_compile.specs.Tables.{edge, lit_table, run_table, fill_tab
 pub one_more : (whole new : List (List Edge)) (row : List Edge) → new ≡ whole ++ row ∷ [] → length new ≡ length whole + 1
 one_more whole new row e = let m = ap length e in let l = length-append whole (row ∷ []) in omega arith
 
--- one row more, before what is still to come
+-- one row more, before the rows to come
 pub next_row : (whole new rest : List (List Edge)) (row : List Edge) → new ≡ whole ++ row ∷ [] → new ++ rest ≡ whole ++ row ∷ rest
 next_row whole new rest row e = ap (λ (rows : List (List Edge)). rows ++ rest) e ∙ append_assoc whole (row ∷ []) rest
 
@@ -115,7 +115,7 @@ bound_step left less greatest rest whole once twice all l s h e f g =
     let here : whole ++ bound_table (suc less) greatest (length whole) ≡ all = ap (λ (k : ℕ). whole ++ bound_table k greatest (length whole)) (sym same) ∙ h in
     ap (λ (k : ℕ). twice ++ bound_table less k (length twice)) g ∙ bound_two less greatest whole once twice all here e f
 
--- what follows from an answer follows from it wherever it is
+-- an implication between facts carries over to `Ok` answers
 pub ok_follows : {X E : Type 0} (P Q : X → Type 0) → ((x : X) → P x → Q x) → (r : Result X E) → IfOk r P → IfOk r Q
 ok_follows P Q f (Ok x) h = f x h
 ok_follows P Q f (Err e) h = tt

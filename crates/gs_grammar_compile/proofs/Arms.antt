@@ -1,4 +1,4 @@
--- A state reads what its edges read.
+-- A state reads the lists that its edges read.
 use Rattle.std.proofs.Common.{◌≡◌, ◌⊎◌, ℕ, ◌<◌, ◌≤◌, List, [], ◌∷◌, refl, sym, ◌∙◌, inl, inr, arith}
 use Rattle.gs_grammar_machine.specs.declared.edge.Edge.{Edge}
 use Rattle.gs_grammar_machine.specs.Walks.{Fits, edges_at, Walk}
@@ -99,7 +99,7 @@ cons_word table edge edges q language others r arms s w t ts (inl f) x =
     inl (f.0, f.1, r.word w ts a)
 cons_word table edge edges q language others r arms s w t ts (inr f) x = inr (arms.word s w t ts f x)
 
--- one edge more, whose lists are none of the others
+-- one edge more, whose lists are not among the others
 pub arms_cons : (table : List (List Edge)) (edge : Edge) (edges : List Edge) (q : ℕ) (language : List ℕ → Type 0) (others : ℕ → List ℕ → Type 0) → Reads table edge.to q language → Arms table edges q others → ((s : ℕ) (w : List ℕ) → ByEdge edge language s w → others s w → ⊥) → Arms table (edge ∷ edges) q (Either (ByEdge edge language) others)
 arms_cons table edge edges q language others r arms apart = record {
   some = cons_some table edge edges q language others r arms;

@@ -15,11 +15,11 @@ use Rattle.gs_grammar_compile.proofs.Spread.{arms_both}
 use Rattle.gs_grammar_compile.proofs.Runs.{IsRun, reads_edge}
 use Rattle.gs_grammar_compile.proofs.Bounds.{small, number_cons}
 
--- n bits whose number is so
+-- n bits whose number has the property
 abbrev pub IsBits : ℕ → (ℕ → Type 0) → List ℕ → Type 0
 IsBits n is_so w = IsRun 0 1 n w × is_so (number_of w)
 
--- a bit, and after it n bits whose number is so
+-- a bit, and after it n bits whose number has the property
 abbrev pub IsHalf : ℕ → ℕ → (ℕ → Type 0) → ℕ → List ℕ → Type 0
 IsHalf bit n is_so s w = (s ≡ bit) × IsBits n is_so w
 
@@ -91,7 +91,7 @@ From n number y = number % 2 ^ n ≤ y
 abbrev pub UpTo : ℕ → ℕ → ℕ → Type 0
 UpTo n number y = y ≤ number % 2 ^ n
 
--- what is left of a number after its bit
+-- the rest of a number after its bit
 rest_with : (n number : ℕ) → has_bit n number ≡ true → number % 2 ^ suc n ≡ 2 ^ n + number % 2 ^ n
 rest_with n number t =
     let split : number % 2 ^ (1 + n) ≡ number / 2 ^ n % 2 ^ 1 * 2 ^ n + number % 2 ^ n = mod-pow-add number 1 n in

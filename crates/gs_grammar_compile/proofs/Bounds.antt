@@ -54,7 +54,7 @@ lower_back : (n next : ℕ) (w : List ℕ) → IsRun 0 1 (suc n) w → Begins (B
 lower_back n next [] h = h
 lower_back n next (s ∷ w) h = h
 
--- the first state, where the greatest begins with the bit 1
+-- the first state, if the greatest begins with the bit 1
 
 abbrev High : ℕ → ℕ → ℕ → ℕ → ℕ → List ℕ → Type 0
 High n greatest next lower = Either (ByEdge (edge 1 1 next) (IsBounded n (greatest - 2 ^ n))) (ByEdge (edge 0 0 lower) (IsRun 0 1 n))
@@ -87,7 +87,7 @@ high_back n greatest next lower g (suc (suc s) ∷ w) h = absurd (let b = h.0.1 
 high_apart : (n greatest next lower s : ℕ) (w : List ℕ) → ByEdge (edge 1 1 next) (IsBounded n (greatest - 2 ^ n)) s w → ByEdge (edge 0 0 lower) (IsRun 0 1 n) s w → ⊥
 high_apart n greatest next lower s w h k = let a = h.0 in let b = k.1 in omega arith
 
--- the first state, where it begins with the bit 0
+-- the first state, if it begins with the bit 0
 
 low_there : (n greatest next : ℕ) (w : List ℕ) → Begins (ByEdge (edge 0 0 next) (IsBounded n greatest)) w → IsBounded (suc n) greatest w
 low_there n greatest next [] h = absurd h
@@ -112,7 +112,7 @@ low_back n greatest next g (suc s ∷ w) h = absurd (
     omega arith
     )
 
--- both states, where n bits are left
+-- both states, with n bits left
 pub record ReadsBound (table : List (List Edge)) (n greatest base q : ℕ) : Type 0 where
   pub first : Reads table base q (IsBounded n greatest)
   pub second : Reads table (lower_state n base) q (IsRun 0 1 n)

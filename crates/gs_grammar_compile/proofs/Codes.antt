@@ -102,7 +102,7 @@ reads_trie table (suc n) front base next q language h l r =
     let state = reads_state table base q row (Fork (base + 1) (base + 2 ^ suc n) (Code (suc n) (front + front) language) (Code (suc n) (front + front + 1) language)) (has_head table base row (low ++ high) h) (omega arith) arms in
     reads_as table base q (Begins (Fork (base + 1) (base + 2 ^ suc n) (Code (suc n) (front + front) language) (Code (suc n) (front + front + 1) language))) (Code (suc (suc n)) front language) state (fork_there (suc n) front (base + 1) (base + 2 ^ suc n) language) (fork_back (suc n) front (base + 1) (base + 2 ^ suc n) language)
 
--- the bits of a code and what is after them
+-- the bits of a code and the symbols after them
 pub record Coded (n front : ℕ) (language : List ℕ → Type 0) (w : List ℕ) : Type 0 where
   pub bits : List ℕ
   pub rest : List ℕ

@@ -183,7 +183,7 @@ pub digits_spelt : (h l : ℕ) → AreDigits h l → Spelt h l
 digits_spelt h l (inl d) = subst (λ (x : ℕ). Spelt x l) (sym d.0) (two_spelt l d.1)
 digits_spelt h l (inr d) = subst (λ (x : ℕ). Spelt x l) (sym d.0) (three_spelt l d.1)
 
--- a percent sign is none of the characters that are spelled as themselves
+-- a percent sign is not a character that is spelled as itself
 pub percent_not_plain : InRanges plain_ranges 37 → ⊥
 percent_not_plain (inl h) = let a = h.0 in omega arith
 percent_not_plain (inr (inl h)) = let a = h.0 in omega arith

@@ -226,7 +226,7 @@ inside_ascii lo hi bits base end o f e =
     let whole : Inside base end (characters_table lo hi bits base end ++ run_table 0 0 (bits - 7 * lo) (base + 127 * hi)) = inside_append base end (characters_table lo hi bits base end) (run_table 0 0 (bits - 7 * lo) (base + 127 * hi)) front tail in
     subst (λ (k : ℕ). Inside base end (characters_table lo hi bits base k ++ run_table 0 0 (bits - 7 * lo) (base + 127 * hi))) e whole
 
--- what the bounds of items say
+-- the facts that the bounds of items give
 pub esc_bounds : (lo hi : ℕ) → IsItem (Esc lo hi) → (1 ≤ lo) × (lo ≤ hi)
 esc_bounds lo hi h = (grind (arith, nat_tests), grind (arith, nat_tests))
 

@@ -1,4 +1,4 @@
--- Items that are read one after the other: their words and the runs through their borders.
+-- Items that are read in sequence: their words and the runs through their borders.
 use Rattle.std.proofs.Common.{◌≡◌, ℕ, ◌<◌, ◌≤◌, ◌+◌, ◌-◌, ◌||◌, eqb, true, List, [], ◌∷◌, ◌++◌, length, get_or, take, drop, suc, Some, refl, sym, ◌∙◌, ap, inl, inr, arith, add-one}
 use Rattle.std.specs.Prelude.{nat_le, nat_lt, ◌&&◌}
 use Rattle.std.specs.List.{slice_get, list_all}

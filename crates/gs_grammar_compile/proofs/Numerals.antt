@@ -23,7 +23,7 @@ pub record IsFree (n : ℕ) (w : List ℕ) : Type 0 where
   pub some : 1 ≤ length w
   pub most : length w ≤ n
 
--- from one to n digits, which where they are n write no number above the rest
+-- from one to n digits, which write no number above the rest if they are n
 pub record IsTight (n rest : ℕ) (w : List ℕ) : Type 0 where
   pub digits : IsTrue (are_digits w)
   pub some : 1 ≤ length w
@@ -113,11 +113,11 @@ value_small n w d l = value_below w n d l
 value_cons : (n s : ℕ) (w : List ℕ) → length w ≡ n → decimal_value (s ∷ w) ≡ (s - 48) * 10 ^ n + decimal_value w
 value_cons n s w l = ap (λ (k : ℕ). (s - 48) * 10 ^ k + decimal_value w) l
 
--- the least first digit is 48, or 49 where it may be not a zero unless it stands alone
+-- the least first digit is 48, or 49 if it may be a zero only as the single digit
 abbrev TightBy : ℕ → ℕ → ℕ → ℕ → ℕ → ℕ → ℕ → List ℕ → Type 0
 TightBy low n digit rest next end = Either (ByEdge (edge low (47 + digit) (end - suc n)) (IsFree (suc n))) (Either (ByEdge (edge (48 + digit) (48 + digit) next) (IsTight (suc n) rest)) (Either (ByEdge (edge (above_digit n digit) 57 (end - n)) (FreeOrEnd n)) (ByEdge (edge 48 57 end) IsEmpty)))
 
--- a first digit that is below the least stands alone
+-- a first digit that is below the least is the only digit
 abbrev pub FirstFrom : ℕ → List ℕ → Type 0
 FirstFrom low w = get_or w 0 0 < low → length w ≡ 1
 
@@ -250,7 +250,7 @@ apart_higher : (n digit end s : ℕ) (w : List ℕ) → ByEdge (edge (above_digi
 apart_higher zero digit end s w h k = let a = h.0 in let b = h.1 in omega arith
 apart_higher (suc n) digit end s w h k = no_free (suc n) (rw k.2 at h.2)
 
--- a state where some digits may follow
+-- a state after which some digits may follow
 pub reads_tight_more : (table : List (List Edge)) (low n digit rest base next q : ℕ) → 48 ≤ low → low ≤ 48 + digit → low ≤ 49 → digit ≤ 9 → rest < 10 ^ suc n → edges_at table base ≡ tight_edges low (suc n) digit next q → base < q → Ascends table → Reads table (q - suc n) q (IsFree (suc n)) → Reads table (q - n) q (FreeOrEnd n) → Reads table next q (IsTight (suc n) rest) → Reads table base q (λ w. IsTight (suc (suc n)) (digit * 10 ^ suc n + rest) w × FirstFrom low w)
 reads_tight_more table low n digit rest base next q f m u g r e l a lower higher same =
     let end = arms_one table (edge 48 57 q) q IsEmpty (reads_end table q q a refl) in

@@ -1,4 +1,4 @@
--- The table of packed characters reads what packs that many.
+-- The table of packed characters reads the lists that pack that many.
 use Rattle.std.proofs.Common.{◌≡◌, ℕ, ◌<◌, ◌≤◌, ◌+◌, ◌-◌, ◌*◌, ◌^◌, true, List, [], ◌∷◌, ◌++◌, length, replicate, zero, suc, refl, sym, ◌∙◌, ap, subst, inl, inr, arith, length-append}
 use Rattle.std.specs.List.{flat_map}
 use Rattle.std.proofs.lemmas.Bool.{cases_eq}
@@ -70,7 +70,7 @@ coded_packed lo n bits w few c =
     let most = r.most in
     record { value = number_of c.bits ∷ r.value; packed = subst (λ (x : List ℕ). IsPacked (number_of c.bits ∷ r.value) x) (sym joined) front; least = omega arith; most = omega arith; count = omega arith }
 
--- what a packed value that is not empty begins with
+-- the start of a packed value that is not empty
 pub record Fronted (c : ℕ) (value w : List ℕ) : Type 0 where
   pub rest : List ℕ
   pub whole : w ≡ bits_of 7 c ++ rest
@@ -119,7 +119,7 @@ some_code : (lo n bits : ℕ) (value w : List ℕ) → IsPacked value w → 1 �
 some_code lo n bits [] w p some least most count = absurd (omega arith)
 some_code lo n bits (c ∷ value) w p some least most count = packed_coded lo n bits c value w (fronted c value w p) (omega arith) (omega arith) count
 
--- where more characters must come
+-- if more characters must follow
 must_there : (lo n bits a b : ℕ) → 7 ≤ bits → (w : List ℕ) → Begins (Root (suc lo) n bits a b) w → PacksIn (suc lo) (suc n) bits w
 must_there lo n bits a b few [] h = absurd h
 must_there lo n bits a b few (s ∷ w) h = root_packed (suc lo) n bits a b few s w h
@@ -130,7 +130,7 @@ must_back lo n bits a b few (s ∷ w) p =
     let least = p.least in
     code_root (suc lo) n bits a b s w (some_code (suc lo) n bits p.value (s ∷ w) p.packed (omega arith) p.least p.most p.count)
 
--- where the zeros may begin
+-- if the zeros may begin
 abbrev Zeros : ℕ → ℕ → ℕ → List ℕ → Type 0
 Zeros bits next = ByEdge (edge 0 0 next) (IsRun 0 0 (bits - 1))
 

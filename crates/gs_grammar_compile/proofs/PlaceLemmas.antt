@@ -58,7 +58,7 @@ no_border all border next borders state h r l m =
     let rest = none_below next borders state r m in
     h state (omega arith) ∙ rw (here, rest) refl
 
--- a walk to the next border is at no border but at its end
+-- a walk to the next border is at a border only at its end
 pub stands_part : (table : List (List Edge)) (all : List ℕ) (border next : ℕ) (borders : List ℕ) (p i j : ℕ) (ts w : List ℕ) → From all border (next ∷ borders) → Rises next borders → Ascends table → border ≤ p → p < next → Walk table p ts w next → j + 1 ≡ i + length ts → stands_from all i ts ≡ j ∷ []
 stands_part table all border next borders p i j [] [] h r a l m w e = absurd (omega arith)
 stands_part table all border next borders p i j [] (s ∷ v) h r a l m w e = absurd w

@@ -101,7 +101,7 @@ lead_arms table q n next power count r u =
     let both = arms_both table (edge_where (is_highest n power) 1 (layer_state n next (2 * count))) (edge_where (nat_lt power (2 ^ n) && nat_lt (2 ^ n) (2 * power)) 1 (layer_state n next (2 * count + 1))) q (IsHalf 1 n (IsLow n power)) (IsHalf 1 n (IsHigh n power)) low high (lead_apart n power) in
     arms_as table (lead_edges n next power count) q (Either (IsHalf 1 n (IsLow n power)) (IsHalf 1 n (IsHigh n power))) (IsHalf 1 n (λ y. IsWithinTwice power (2 ^ n + y))) both (lead_there n power) (lead_back n power)
 
--- The states of a layer, where n bits are left, read what may follow: after the last bit all are the end.
+-- The states of a layer with n bits left read the lists that may follow: after the last bit all are the end.
 pub record ReadsLayer (table : List (List Edge)) (n hi base q : ℕ) : Type 0 where
   pub zeros : 0 < n → Reads table base q (IsBits n (IsOnes hi))
   pub free : Reads table (layer_state n base 1) q (IsBits n Any)
@@ -135,7 +135,7 @@ leads_arms table q n next hi (suc count) l r =
     let both = arms_both table (lead_edges n next (10 ^ suc count) (suc count)) (leads_edges n next count) q (IsHalf 1 n (λ y. IsWithinTwice (10 ^ suc count) (2 ^ n + y))) (Ones n count) first others (leads_apart n count) in
     arms_as table (leads_edges n next (suc count)) q (Either (IsHalf 1 n (λ y. IsWithinTwice (10 ^ suc count) (2 ^ n + y))) (Ones n count)) (Ones n (suc count)) both (leads_there n count) (leads_back n count)
 
--- after the last bit there are no more digits of zeros alone
+-- after the last bit there are no more digits that are only zeros
 no_ones : (n hi y : ℕ) → y < 2 ^ n → IsOnes hi y → nat_lt 0 n ≡ true
 no_ones zero hi y l h = absurd (let a = ones_above hi y h in omega arith)
 no_ones (suc n) hi y l h = grind (arith, nat_tests)

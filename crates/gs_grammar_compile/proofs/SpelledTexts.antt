@@ -1,4 +1,4 @@
--- The table of characters in the spellings of EPC URIs reads what spells that many.
+-- The table of characters in the spellings of EPC URIs reads the lists that spell that many.
 use Rattle.std.proofs.Common.{◌≡◌, ℕ, ◌<◌, ◌≤◌, ◌+◌, ◌-◌, ◌*◌, Bool, true, false, List, [], ◌∷◌, ◌++◌, length, zero, suc, refl, sym, ◌∙◌, ap, subst, inl, inr, arith}
 use Rattle.std.specs.Prelude.{nat_le}
 use Rattle.std.proofs.lemmas.Bool.{leb-true}
@@ -26,7 +26,7 @@ pub record SpellsSome (lo n : ℕ) (w : List ℕ) : Type 0 where
   pub least : lo ≤ length value
   pub most : length value ≤ n
 
--- the list spells what may follow a character: with it at least lo, and at most n more
+-- the list spells the characters that may follow one: with it at least lo, and at most n more
 pub record SpellsRest (lo n : ℕ) (w : List ℕ) : Type 0 where
   pub value : List ℕ
   pub spelled : SpellsEach value w
@@ -90,7 +90,7 @@ next_arms table lo more ranges next q false t a r =
     let whole = arms_as table (with_ranges ranges next) q (ByRanges ranges (SpellsSome (lo - 1) (suc more))) (ByRanges ranges (SpellsRest lo (suc more))) on (λ s w h. (h.0, rest_more lo (suc more) w h.1)) (λ s w h. (h.0, some_more lo (suc more) w high h.1)) in
     rw t whole
 
--- what the next character reads, where one may follow
+-- the lists that the next character reads, if one may follow
 abbrev NextReads : List (List Edge) → ℕ → ℕ → ℕ → ℕ → Type 0
 NextReads table lo zero next q = lo ≤ 1
 NextReads table lo (suc more) next q = Reads table next q (SpellsSome (lo - 1) (suc more))

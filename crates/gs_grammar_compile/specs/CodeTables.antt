@@ -4,7 +4,7 @@ use Rattle.gs_chars.specs.Characters.{is_in_set82}
 use Rattle.gs_grammar_machine.specs.declared.edge.Edge.{Edge}
 use Rattle.gs_grammar_compile.specs.Tables.{edge, run_table}
 
--- an edge where this is so
+-- an edge, if this is true
 abbrev pub edge_where : Bool → ℕ → ℕ → List Edge
 edge_where is_so bit to = if is_so then edge bit bit to ∷ [] else []
 
@@ -13,8 +13,8 @@ abbrev pub leaf_edges : ℕ → ℕ → List Edge
 leaf_edges front next =
     edge_where (is_in_set82 (front + front)) 0 next ++ edge_where (is_in_set82 (front + front + 1)) 1 next
 
--- the edges of a bit of a code, where that many more bits follow this one: a zero leads to the next state, and a one to the state
--- after those of the zero
+-- the edges of a bit of a code that has that many more bits after this one: a zero leads to the next state, and a one to the
+-- state after those of the zero
 abbrev pub bit_edges : ℕ → ℕ → List Edge
 bit_edges more base = edge 0 0 (base + 1) ∷ edge 1 1 (base + 2 ^ more) ∷ []
 
@@ -25,23 +25,23 @@ trie_table (suc zero) front base next = leaf_edges front next ∷ []
 trie_table (suc (suc n)) front base next =
     bit_edges (suc n) base ∷ (trie_table (suc n) (front + front) (base + 1) next ++ trie_table (suc n) (front + front + 1) (base + 2 ^ suc n) next)
 
--- the edges of the first bit of a character, where that many bits are left: to the rest of the code, and, where no more
--- characters need come, to the zeros
+-- the edges of the first bit of a character, with that many bits left: to the rest of the code, and to the zeros if no more
+-- characters are required
 abbrev pub root_edges : ℕ → ℕ → ℕ → ℕ → List Edge
 root_edges zero left base end = edge 0 0 (base + 1) ∷ edge 1 1 (base + 64) ∷ edge 0 0 (end - (left - 1)) ∷ []
 root_edges (suc lo) left base end = edge 0 0 (base + 1) ∷ edge 1 1 (base + 64) ∷ []
 
--- where a character ends: at the next one, or, where no more may follow, at the zeros
+-- the state after a character: that of the next one, or of the zeros if no more may follow
 abbrev pub next_character : ℕ → ℕ → ℕ → ℕ → ℕ
 next_character zero left base end = end - (left - 7)
 next_character (suc more) left base end = base + 127
 
--- the states of a character, of which with it at least lo are to come, and that many more may follow
+-- the states of a character; with it at least lo are to follow, and that many more may follow
 abbrev pub code_rows : ℕ → ℕ → ℕ → ℕ → ℕ → List (List Edge)
 code_rows lo more left base end =
     root_edges lo left base end ∷ (trie_table 6 0 (base + 1) (next_character more left base end) ++ trie_table 6 1 (base + 64) (next_character more left base end))
 
--- the states of characters, of which at least lo are to come, and at most that many
+-- the states of characters, at least lo and at most that many
 abbrev pub characters_table : ℕ → ℕ → ℕ → ℕ → ℕ → List (List Edge)
 characters_table lo zero left base end = []
 characters_table lo (suc more) left base end =

@@ -1,4 +1,4 @@
--- The states of each item, and of a list of items one after the other.
+-- The states of each item, and of a list of items in sequence.
 use Rattle.std.specs.Prelude.{ℕ, ◌+◌, ◌-◌, ◌*◌, List, [], ◌∷◌, ◌++◌, length, decimal}
 use Rattle.gs_grammar.specs.declared.item.Item.{Item}
 use Rattle.gs_grammar.specs.declared.item.Item.TheVariants.{Lit, Pad, Digits, Int, Esc, NumPad, Num, NumStr, Ascii7, Fill}
@@ -27,7 +27,7 @@ item_states (NumStr bits hi) = layer_states hi * bits
 item_states (Ascii7 lo hi bits) = 127 * hi + (bits - 7 * lo)
 item_states (Fill a b) = b
 
--- the edges of the states of an item, the first of which has this number; the state after them is its end
+-- the edges of the states of an item, numbered from this number on; the state after them is its end
 abbrev pub item_table : Item → ℕ → List (List Edge)
 item_table (Lit literal) base = lit_table literal base
 item_table (Pad n) base = run_table 48 57 n base
@@ -40,7 +40,7 @@ item_table (NumStr bits hi) base = ones_table bits hi base
 item_table (Ascii7 lo hi bits) base = ascii_table lo hi bits base
 item_table (Fill a b) base = fill_table a (b - a) base
 
--- the states of the items one after the other, and the accepting state after them
+-- the states of the items in sequence, and the accepting state after them
 abbrev pub items_table : List Item → ℕ → List (List Edge)
 items_table [] base = [] ∷ []
 items_table (item ∷ items) base = item_table item base ++ items_table items (base + item_states item)

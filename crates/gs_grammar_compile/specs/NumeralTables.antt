@@ -19,13 +19,13 @@ free_table (suc n) base = free_edges n base ∷ free_table n (base + 1)
 abbrev pub digits_table : ℕ → ℕ → ℕ → List (List Edge)
 digits_table lo hi base = run_table 48 57 (lo - 1) base ++ free_table (hi - (lo - 1)) (base + (lo - 1))
 
--- the lowest digit that is above the greatest's, where some digits may follow it, and none if no digit may
+-- the lowest digit that is above the greatest's, if some digits may follow it; above all digits if none may
 abbrev pub above_digit : ℕ → ℕ → ℕ
 above_digit zero digit = 58
 above_digit (suc n) digit = 49 + digit
 
--- the edges of a state with the digits of the greatest so far, where this is its next digit and n digits may
--- follow it: to a lower digit, to the same digit, to a higher digit and one digit less, and to the end
+-- the edges of a state with the digits of the greatest so far; this is its next digit, and n digits may follow it. They lead to
+-- a lower digit, to the same digit, to a higher digit and one digit less, and to the end
 abbrev pub tight_edges : ℕ → ℕ → ℕ → ℕ → ℕ → List Edge
 tight_edges low zero digit next end = edge 48 (48 + digit) end ∷ []
 tight_edges low (suc n) digit next end =

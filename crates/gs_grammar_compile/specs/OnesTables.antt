@@ -1,7 +1,7 @@
--- The states of numbers that are a 1 and digits after it, that many bits of each. Each bit has a layer of states. At the first of
--- a layer all bits so far are zeros; after the second any bits may follow; and for each count of digits there are two: at one the
--- bits so far are those of the least such number, which is a power of ten, at the other those of the greatest, which is one less
--- than twice that power.
+-- The states of numbers that are a 1 and digits after it, that many bits of each. Each bit has a layer of states. At the first
+-- of a layer all bits so far are zeros; after the second any bits may follow. For each count of digits there are two more. At
+-- one the bits so far are those of the least such number, which is a power of ten. At the other they are those of the greatest,
+-- which is one less than twice that power.
 use Rattle.std.specs.Prelude.{ℕ, ◌+◌, ◌-◌, ◌*◌, ◌/◌, ◌%◌, ◌^◌, ◌==◌, ◌&&◌, nat_lt, nat_le, Bool, true, false, List, [], ◌∷◌, ◌++◌, zero, suc}
 use Rattle.gs_grammar_machine.specs.declared.edge.Edge.{Edge}
 use Rattle.gs_grammar_compile.specs.Tables.{edge}
@@ -11,7 +11,7 @@ use Rattle.gs_grammar_compile.specs.CodeTables.{edge_where}
 abbrev pub layer_states : ℕ → ℕ
 layer_states hi = 2 + 2 * hi
 
--- the state of this place in the layer where n bits are left, and the end where none is
+-- the state of this place in the layer with n bits left, and the end if none is left
 abbrev pub layer_state : ℕ → ℕ → ℕ → ℕ
 layer_state zero next place = next
 layer_state (suc n) next place = next + place
@@ -24,8 +24,8 @@ has_bit n number = number / 2 ^ n % 2 == 1
 abbrev pub is_highest : ℕ → ℕ → Bool
 is_highest n number = nat_le (2 ^ n) number && nat_lt number (2 * 2 ^ n)
 
--- the edges with a first 1 after zeros, to the states of a count of digits: where it is the highest bit of the least number, and
--- where it is that of the greatest alone
+-- the edges with a first 1 after zeros, to the states of a count of digits: one if it is the highest bit of the least number,
+-- and one if it is that of the greatest only
 abbrev pub lead_edges : ℕ → ℕ → ℕ → ℕ → List Edge
 lead_edges n next power count =
     edge_where (is_highest n power) 1 (layer_state n next (2 * count)) ++ edge_where (nat_lt power (2 ^ n) && nat_lt (2 ^ n) (2 * power)) 1 (layer_state n next (2 * count + 1))
@@ -35,7 +35,7 @@ abbrev pub leads_edges : ℕ → ℕ → ℕ → List Edge
 leads_edges n next zero = []
 leads_edges n next (suc count) = lead_edges n next (10 ^ suc count) (suc count) ++ leads_edges n next count
 
--- the edges of the first state of a layer: with a zero, where more bits follow, and with the first 1
+-- the edges of the first state of a layer: with a zero, if more bits follow, and with the first 1
 abbrev pub zeros_edges : ℕ → ℕ → ℕ → List Edge
 zeros_edges n next hi = edge_where (nat_lt 0 n) 0 next ++ leads_edges n next hi
 

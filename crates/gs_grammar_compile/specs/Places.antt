@@ -20,7 +20,7 @@ word_cuts words = cuts_from 0 words
 abbrev pub is_border : List ℕ → ℕ → Bool
 is_border borders state = list_any (λ border. border == state) borders
 
--- trusted, own: the places of the states that are borders, where the first state is at this place
+-- trusted, own: the places of the states that are borders, if this is the place of the first state
 abbrev pub stands_from : List ℕ → ℕ → List ℕ → List ℕ
 stands_from borders place [] = []
 stands_from borders place (state ∷ states) =
@@ -44,8 +44,8 @@ pub record DerivationOf (form : AutoForm) (items : List Item) (symbols run : Lis
   pub derives : Derives items symbols values words
   pub cuts : run_cuts form run ≡ word_cuts words
 
--- trusted, own: Of each list of symbols, a list of cuts is that of exactly one accepting run where it is that of a derivation,
--- and of none if it is not.
+-- trusted, own: For each list of symbols, each list of cuts of a derivation is that of exactly one accepting run. Other lists
+-- of cuts are those of none.
 pub record CutsAreThoseOfDerivations (form : AutoForm) (items : List Item) : Type 0 where
   pub run : (symbols : List ℕ) (values words : List (List ℕ)) → Derives items symbols values words → RunOf form symbols words
   pub only : (symbols run other : List ℕ) → Accepts form run symbols → Accepts form other symbols → run_cuts form run ≡ run_cuts form other → run ≡ other

@@ -13,8 +13,8 @@ pub record Reads (table : List (List Edge)) (first last : ℕ) (language : List 
   pub only : (symbols states others : List ℕ) → Walk table first states symbols last → Walk table first others symbols last → states ≡ others
   pub word : (symbols states : List ℕ) → Walk table first states symbols last → language symbols
 
--- trusted, own: The machine has one border more than there are items, and exactly one walk leads from border k to the next
--- on each word of item k, and none on any other list.
+-- trusted, own: The machine has one border more than there are items. Exactly one walk leads from border k to the next on each
+-- word of item k, and none on any other list.
 pub record ReadsItems (form : AutoForm) (items : List Item) : Type 0 where
   pub count : length form.borders ≡ length items + 1
   pub reads : (k : ℕ) (item : Item) → slice_get items k ≡ Some item → Reads form.table (slice_index form.borders k) (slice_index form.borders (k + 1)) (IsWord item)

@@ -1,4 +1,4 @@
--- The states of each item, with the edges that leave them, where the first state has a given number.
+-- The states of each item, with the edges that leave them, if the first state has a given number.
 use Rattle.std.specs.Prelude.{ℕ, ◌+◌, ◌-◌, ◌^◌, min, nat_le, if◌then◌else◌, List, [], ◌∷◌, zero, suc}
 use Rattle.gs_grammar_machine.specs.declared.edge.Edge.{Edge}
 
@@ -31,22 +31,22 @@ fill_table (suc (suc n)) more base = (edge 0 0 (base + 1) ∷ []) ∷ fill_table
 -- Numbers of n bits up to a greatest: two states for each bit. At the first the bits so far are those of the greatest, at the
 -- second they are lower, and any bits may follow.
 
--- the second of the two states where n bits are left, and the end where none is
+-- the second of the two states with n bits left, and the end if none is left
 abbrev pub lower_state : ℕ → ℕ → ℕ
 lower_state zero base = base
 lower_state (suc n) base = base + 1
 
--- what is left of the greatest after its first bit, where n bits are left
+-- the rest of the greatest after its first bit, with n bits left
 abbrev pub bound_rest : ℕ → ℕ → ℕ
 bound_rest n greatest = if nat_le (2 ^ n) greatest then greatest - 2 ^ n else greatest
 
--- the edges of the first state, where n bits are left after this one
+-- the edges of the first state, with n bits left after this one
 abbrev pub bound_edges : ℕ → ℕ → ℕ → List Edge
 bound_edges n greatest next =
     if nat_le (2 ^ n) greatest then edge 1 1 next ∷ edge 0 0 (lower_state n next) ∷ []
     else edge 0 0 next ∷ []
 
--- the edge of the second state, where n bits are left after this one
+-- the edge of the second state, with n bits left after this one
 abbrev pub lower_edges : ℕ → ℕ → List Edge
 lower_edges n next = edge 0 1 (lower_state n next) ∷ []
 

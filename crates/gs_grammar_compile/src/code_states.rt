@@ -87,7 +87,7 @@ fn add_root(table: &mut Table, lo: usize, left: usize, end: usize) -> Result<(),
     ])
 }
 
-/// Returns where a character ends: at the next one, or at the zeros if no more may follow.
+/// Returns the state that follows a character: the next character's, or that of the zeros if no more may follow.
 fn next_of(table: &Table, more: usize, left: usize, end: usize) -> Result<usize, Memory>
     requires few { 7 ≤ left }
     requires room { left ≤ end }

@@ -1,7 +1,7 @@
-//! The machines of items and of options: what their runs say of derivations.
+//! The machines of items and of options, and how their runs correspond to derivations.
 //!
-//! - `compile` makes the machine of an option. Its accepting runs are the derivations of the option, and where they cross
-//!   borders the words of the items end.
+//! - `compile` makes the machine of an option. Its accepting runs are the derivations of the option, and the words of the items
+//!   end at the borders that they cross.
 //!
 //! # Example
 //!
@@ -15,7 +15,7 @@
 //!
 //! # Differences from the standards
 //!
-//! - GS1 EPC Tag Data Translation tells the forms of an option by patterns; here they are items, and a machine of each option
+//! - GS1 EPC Tag Data Translation gives the forms of an option by patterns; here they are items, and a machine of each option
 //!   reads them.
 #![tactic(auto)]
 

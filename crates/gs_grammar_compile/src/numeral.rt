@@ -50,7 +50,8 @@ pub fn add_digits(table: &mut Table, least: usize, most: usize) -> Result<(), Me
     add_free(table, most - (least - 1))
 }
 
-/// Returns the lowest digit above this one, as a byte, if `left` digits may follow it, and a byte above all digits if none may.
+/// Returns the byte of the lowest digit above this one if `left` digits may follow it. Otherwise returns a byte above all
+/// digits.
 fn above(left: usize, digit: u8) -> u8
     requires { digit ≤ 9 }
     ensures { result ≡ above_digit left digit }

@@ -29,7 +29,7 @@ fn room_of(item: &Item) -> (usize, usize) {
     }
 }
 
-/// Returns the number of states of a machine of the items, and of its edges at most, as far as a `usize` counts.
+/// Returns the number of states of a machine of the items and the most edges, both as `usize` values that saturate.
 pub fn room_of_all(items: &[Item]) -> (usize, usize) {
     let mut states = 1usize;
     let mut edges = 0usize;

@@ -65,7 +65,7 @@ next_cut left item others rest place number cuts e h =
       };
     }
 
--- the values so far, where the items to come derive the rest
+-- the values so far, if the items to come derive the rest
 pub record Gathers (items : List Item) (w : List ℕ) (left : List Item) (rest : List ℕ) (values : List (List ℕ)) : Type 0 where
   pub back : (vs : List (List ℕ)) → HasValues left rest vs → HasValues items w (values ++ vs)
   pub derived : IsDerived left rest

@@ -55,7 +55,7 @@ walk_short table p q (state ∷ states) (c ∷ w) a h =
     let rest = walk_short table state q states w a h.1 in
     omega arith
 
--- what the items derive has at most this many symbols, each below the bound
+-- a list that the items derive has at most this many symbols, each below the bound
 pub record AreBounded (items : List Item) (most bound : ℕ) : Type 0 where
   pub short : (w : List ℕ) (values words : List (List ℕ)) → Derives items w values words → length w ≤ most
   pub below : (w : List ℕ) (values words : List (List ℕ)) → Derives items w values words → AreBelow bound w

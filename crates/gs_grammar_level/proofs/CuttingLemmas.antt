@@ -1,5 +1,10 @@
+<<<<<<< HEAD
 -- The cuttings of options: places where items begin, and items whose words have one length.
 use Rattle.std.proofs.Common.{◌≡◌, ℕ, ◌+◌, All, List, [], ◌∷◌, ◌++◌, length, Some, sym, ◌∙◌, ap, subst, arith}
+=======
+-- The cuttings of options: start places of items, and items whose words have one length.
+use Rattle.std.proofs.Common.{◌≡◌, ℕ, ◌+◌, All, List, [], ◌∷◌, ◌++◌, length, Some, refl, sym, ◌∙◌, ap, subst, arith}
+>>>>>>> f4143ae837538d0a87f240bf0b1e499e2626e96a
 use Rattle.std.specs.List.{slice_get}
 use Rattle.std.proofs.lemmas.List.{append_assoc, append-nil}
 use Rattle.std.proofs.lemmas.List.Elements.{All-head, All-tail}
@@ -18,7 +23,7 @@ use Rattle.gs_grammar_level.specs.ShareSearches.{ShareNoList}
 use Rattle.gs_grammar_level.proofs.FrontLemmas.{option_by}
 use Rattle.gs_grammar_level.proofs.SharedLists.{same_front}
 
--- the places where the items begin, one item more
+-- the start places of the items, one item more
 
 pub starts_step : (starts new all : List ℕ) (place next : ℕ) (item : Item) (others left : List Item) → left ≡ item ∷ others → starts ++ starts_of place left ≡ all → new ≡ starts ++ place ∷ [] → next ≡ place + size_of item → new ++ starts_of next others ≡ all
 starts_step starts new all place next item others left e h n p =

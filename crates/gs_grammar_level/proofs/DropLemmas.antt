@@ -1,7 +1,7 @@
--- What is left of a list from a place on, and what is before it.
+-- The part of a list from a place on, and the part before it.
 use Rattle.std.proofs.Common.{◌≡◌, ℕ, ◌<◌, ◌≤◌, ◌+◌, List, [], ◌∷◌, length, get_or, take, drop, zero, suc, refl, ap, arith, add-one}
 
--- the first of what is left, and what is after it
+-- the first item of the rest, and the items after it
 pub record Parts {X : Type 0} (xs rest : List X) (x d : X) (n : ℕ) : Type 0 where
   pub within : n < length xs
   pub here : get_or xs n d ≡ x

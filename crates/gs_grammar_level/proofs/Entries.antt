@@ -1,4 +1,4 @@
--- What the loops of the trail keep.
+-- The invariants of the loops of the trail.
 use Rattle.std.proofs.Common.{◌≡◌, ℕ, ◌<◌, ◌≤◌, ◌+◌, true, false, List, [], ◌∷◌, ◌++◌, length, get_or, drop, suc, refl, sym, ◌∙◌, ap, arith, length-append, add-one}
 use Rattle.std.proofs.lemmas.List.{get_or_append_left, append-nil, append_assoc, get_or_default}
 use Rattle.std.proofs.Math.Seq.{drop-cons}
@@ -31,7 +31,7 @@ all_over edges symbol back i base trail h high =
     let none : drop i edges ≡ [] = none_left edges i high in
     sym (append-nil trail) ∙ ap (λ (es : List Edge). trail ++ successors es symbol back) (sym none) ∙ h
 
--- the entries so far, where those before a number of the first ones were gone over
+-- the entries so far, after those before a number of the first ones were handled
 pub record SoMany (table : List (List Edge)) (symbol from : ℕ) (first trail : List Entry) (number : ℕ) : Type 0 where
   pub more : List Entry
   pub are : trail ≡ first ++ more

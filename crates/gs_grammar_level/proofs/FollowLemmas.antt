@@ -21,7 +21,7 @@ left_entry trail more number l = get_or_append_left trail more none_entry number
 pub right_entry : (trail more : List Entry) (number : ℕ) → length trail ≤ number → entry_at (trail ++ more) number ≡ entry_at more (number - length trail)
 right_entry trail more number l = get_or-append_right trail more (length trail) number none_entry refl l
 
--- what came stays when entries follow
+-- the earlier entries stay if others follow
 
 pub came_within : (form : AutoForm) (trail : List Entry) (symbols : List ℕ) (n number : ℕ) → Came form trail symbols n number → number < length trail
 came_within form trail symbols zero number c = c.0
@@ -54,7 +54,7 @@ pub record GoesOn (form : AutoForm) (trail : List Entry) (symbols : List ℕ) (n
   pub rest : List ℕ
   pub walk : Walk form.table (entry_at trail number).state rest (drop n symbols) (accept_of form)
 
--- the trail over the first n symbols, of which the entries from a number on are those of the last of them
+-- the trail over the first n symbols, whose entries from a number on are those of the last symbol
 pub record SoFar (form : AutoForm) (trail : List Entry) (symbols : List ℕ) (n from : ℕ) : Type 0 where
   pub states : (k : ℕ) → k < length trail → (entry_at trail k).state < states_of form
   pub came : (k : ℕ) → from ≤ k → k < length trail → Came form trail symbols n k

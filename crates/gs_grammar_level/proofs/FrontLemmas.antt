@@ -1,4 +1,4 @@
--- The symbols at the first places of what items derive.
+-- The symbols at the first places of the lists that items derive.
 use Rattle.std.proofs.Common.{◌≡◌, ℕ, ◌<◌, ◌≤◌, ◌+◌, ◌*◌, ◌⊎◌, zero, suc, All, true, List, [], ◌∷◌, ◌++◌, length, map, get_or, replicate, Some, refl, sym, ◌∙◌, ap, subst, inl, inr, arith}
 use Rattle.std.specs.List.{slice_get}
 use Rattle.std.proofs.lemmas.Bool.Decides.{nat_tests}
@@ -123,7 +123,7 @@ word_each (Fill a b) value w i s l h = elim h.1 as (λ _. StandEach (replicate b
   | inr e ↦ rw e (zeros_each b)
 ]
 
--- the places so far: what the items derive begins with symbols at these places, and the items to come derive the rest
+-- the places so far: each list that the items derive begins with symbols at these places, and the items to come derive the rest
 
 pub record BeginsWith (left : List Item) (places : List Place) (w : List ℕ) : Type 0 where
   pub front : List ℕ

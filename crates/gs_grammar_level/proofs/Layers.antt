@@ -1,4 +1,4 @@
--- The entries that a symbol leads to: where they come from, and that none is missing.
+-- The entries that a symbol leads to: their origins, and that none is missing.
 use Rattle.std.proofs.Common.{◌≡◌, ℕ, ◌<◌, ◌≤◌, ◌+◌, ◌⊎◌, true, false, List, [], ◌∷◌, ◌++◌, length, drop, zero, suc, refl, sym, ◌∙◌, ap, subst, inl, inr, arith}
 use Rattle.std.proofs.lemmas.Bool.{cases_eq}
 use Rattle.std.proofs.lemmas.Bool.Decides.{nat_tests}
@@ -10,7 +10,7 @@ use Rattle.gs_grammar_level.specs.declared.trail.Entry.{Entry}
 use Rattle.gs_grammar_level.specs.Trails.{leads_with, successors, layer, entry_at}
 use Rattle.gs_grammar_level.proofs.DropLemmas.{part_at}
 
--- each entry of a list is so
+-- each entry of a list has the property
 abbrev pub Each : (Entry → Type 0) → List Entry → Type 0
 Each P [] = Unit {0}
 Each P (entry ∷ entries) = P entry × Each P entries

@@ -17,11 +17,11 @@ use Rattle.gs_grammar.proofs.WordLaws.{word_length}
 use Rattle.gs_grammar_level.specs.declared.guides.Group.{Group}
 use Rattle.gs_grammar_level.specs.Guides.{StandsAt, HasLiteral, BeginAll, AreGroupsFrom}
 
--- the items to come derive what is left from the place on
+-- the items to come derive the rest from the place on
 pub record Leads (items left : List Item) (place : ℕ) : Type 0 where
   pub leads : (w : List ℕ) → IsDerived items w → IsDerived left (drop place w)
 
--- the word of the first item, and what is after it
+-- the word of the first item, and the symbols after it
 record Behind (item : Item) (others : List Item) (w : List ℕ) : Type 0 where
   first : List ℕ
   rest : List ℕ
@@ -126,6 +126,6 @@ stands_test w literal rest place r e is =
           s.1 (drop (length literal) (drop place w)) (back ∙ ap (λ (x : List ℕ). x ++ drop (length literal) (drop place w)) h),
     )
 
--- two literals that are not told apart
+-- two literals that are not distinguished
 pub equal_literals : (a b : List ℕ) (r : Bool) → r ≡ not (bytes_eq a b) → r ≡ false → a ≡ b
 equal_literals a b r e f = equal_bytes a b (true_from_not (bytes_eq a b) (sym e ∙ f))

@@ -1,4 +1,4 @@
--- Words that lie where the sizes of items say.
+-- Words at the places that the sizes of items give.
 use Rattle.std.proofs.Common.{◌≡◌, ℕ, ◌<◌, ◌≤◌, ◌+◌, ◌-◌, List, [], ◌∷◌, ◌++◌, length, get_or, take, drop, refl, sym, ◌∙◌, ap, arith, length-drop}
 use Rattle.std.proofs.lemmas.List.{take_at, drop_at, length-append, append_assoc, append-nil, nil_from_length, take-append-drop}
 use Rattle.gs_grammar.specs.declared.item.Item.{Item}
@@ -50,7 +50,7 @@ next_by item (next ∷ others) cuts place e =
     let other = ap (λ (xs : List ℕ). get_or xs 1 0) e in
     (omega arith, omega arith)
 
--- the values so far are those of each derivation of the symbols, and the items to come derive what is left, at the places ahead
+-- the values so far are those of each derivation of the symbols, and the items to come derive the rest, at the places ahead
 pub record Measures (items left : List Item) (w rest ahead : List ℕ) (values : List (List ℕ)) : Type 0 where
   pub place : ℕ
   pub ahead_are : ahead ≡ starts_of place left
@@ -76,7 +76,7 @@ next_item items left item others w rest ahead values m e i c =
       width = has_width item others rest ahead m.place i fixed here;
     }
 
--- the word that begins what is left, if the items derive the symbols
+-- the word that begins the rest, if the items derive the symbols
 record Front (item : Item) (others : List Item) (rest : List ℕ) (width : ℕ) : Type 0 where
   within : width ≤ length rest
   word : IsWord item (take width rest)

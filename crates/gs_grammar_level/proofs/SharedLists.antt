@@ -50,7 +50,7 @@ there [] k l = absurd (omega arith)
 there (x ∷ xs) zero l = (x, refl)
 there (x ∷ xs) (suc k) l = there xs k (omega arith)
 
--- equal words, equal runs, and the other way round
+-- equal words, equal runs, and the reverse
 
 same_runs : (form other : AutoForm) (items : List Item) (w run other_run : List ℕ) (words others : List (List ℕ)) → CutsAreThoseOfDerivations form items → form ≡ other → Accepts form run w → Accepts other other_run w → run_cuts form run ≡ word_cuts words → run_cuts other other_run ≡ word_cuts others → words ≡ others → run ≡ other_run
 same_runs form other items w run other_run words others law e a b c d f =
@@ -63,7 +63,7 @@ same_words form other w run other_run words others e c d j k f =
     let cuts : word_cuts words ≡ word_cuts others = sym c ∙ ap (λ (m : AutoForm). run_cuts m run) e ∙ ap (run_cuts other) f ∙ d in
     words_of_cuts 0 words others cuts (j ∙ sym k)
 
--- what two machines, or one, accept is a list that their options share
+-- a list that two machines, or one, accept is a list that their options share
 
 pub share_of_two : (level : List (List Item)) (i j : ℕ) (items others : List Item) (m n : AutoForm) (w : List ℕ) → slice_get level i ≡ Some items → slice_get level j ≡ Some others → CutsAreThoseOfDerivations m items → CutsAreThoseOfDerivations n others → (i ≡ j → ⊥) → BothAccept m n w → ShareList level i j w
 share_of_two level i j items others m n w at at' law law' apart b =

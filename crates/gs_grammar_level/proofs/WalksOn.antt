@@ -1,4 +1,4 @@
--- How a walk goes on over what is left of some symbols, and where it ends.
+-- How a walk goes on over the rest of some symbols, and its end.
 use Rattle.std.proofs.Common.{◌≡◌, ℕ, ◌<◌, ◌≤◌, List, [], ◌∷◌, length, get_or, drop, suc, sym, ◌∙◌, ap}
 use Rattle.std.proofs.Math.Seq.{drop-cons}
 use Rattle.gs_grammar_machine.specs.Walks.{Fits, edges_at, Walk}

@@ -8,7 +8,7 @@ use Rattle.gs_grammar_level.specs.declared.cuttings.Cutting.TheVariants.{Widths,
 use Rattle.gs_grammar_level.specs.Fronts.{CutsAreFixed, ReadAlone}
 use Rattle.gs_grammar_level.specs.OptionMachines.{FitEach}
 
--- the places where items begin, the first at this place, if each word has the size of its item
+-- the start places of items, the first at this place, if each word has the size of its item
 abbrev pub starts_of : ℕ → List Item → List ℕ
 starts_of place [] = []
 starts_of place (item ∷ items) = place ∷ starts_of (place + size_of item) items

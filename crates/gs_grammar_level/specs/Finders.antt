@@ -1,4 +1,4 @@
--- What is found for a list of symbols among some options of a level.
+-- The findings for a list of symbols among some options of a level.
 use Rattle.std.specs.Prelude.{◌≡◌, ◌≤◌, ◌<◌, ℕ, List, Option, Some, IfSome, IfNone, length, slice_get}
 use Rattle.gs_grammar.specs.Derivations.{IsDerived}
 use Rattle.gs_grammar.specs.DerivationsSupport.{HasValues}
@@ -15,14 +15,14 @@ pub record ReadBy (options : List OptionForm) (w : List ℕ) (number : ℕ) (val
 pub record NoneReads (options : List OptionForm) (from to : ℕ) (w : List ℕ) : Type 0 where
   pub none : (k : ℕ) (option : OptionForm) → from ≤ k → k < to → slice_get options k ≡ Some option → IsDerived option.items w → ⊥
 
--- where something was found, its option derives the list, with its values
+-- if something was found, its option derives the list, with its values
 abbrev pub IsFound : List OptionForm → List ℕ → Option Found → Type 0
 IsFound options w found = IfSome found (λ read. ReadBy options w read.option read.values)
 
--- where nothing was found, none of the options from one number up to another derives the list
+-- if nothing was found, none of the options from one number up to another derives the list
 abbrev pub NoneFound : List OptionForm → ℕ → ℕ → List ℕ → Option Found → Type 0
 NoneFound options from to w found = IfNone found (NoneReads options from to w)
 
--- where nothing was found, no option derives the list
+-- if nothing was found, no option derives the list
 abbrev pub NothingFound : List OptionForm → List ℕ → Option Found → Type 0
 NothingFound options w found = NoneFound options 0 (length options) w found

@@ -18,7 +18,7 @@ pub record MayStand (place : Place) (symbol : ℕ) : Type 0 where
   pub least : place.least ≤ symbol
   pub most : symbol ≤ place.most
 
--- each symbol may be at its place, as far as there are places, and there is a symbol for each place
+-- each symbol that has a place may be at it, and there is a symbol for each place
 abbrev pub StandWithin : List Place → List ℕ → Type 0
 StandWithin [] w = Unit {0}
 StandWithin (place ∷ places) [] = ⊥
@@ -52,7 +52,7 @@ CutsAreFixed (item ∷ next ∷ others) = (shortest_of item ≡ size_of item) ×
 pub record ReadAlone (items : List Item) : Type 0 where
   pub only : (w : List ℕ) (values words others others' : List (List ℕ)) → Derives items w values words → Derives items w others others' → words ≡ others'
 
--- the front is that of the option: its places are at the start of each of its texts
+-- the `Front` is that of the option: its places are at the start of each of its texts
 abbrev pub IsFrontOf : Front → OptionForm → Type 0
 IsFrontOf front option = HavePlaces option.items front.places
 

@@ -1,4 +1,4 @@
--- What every text of an option has: a literal at a place.
+-- The common part of every text of an option: a literal at a place.
 use Rattle.std.specs.Prelude.{◌≡◌, ◌≤◌, ◌<◌, ℕ, List, [], ◌∷◌, Some, length, take, drop, slice_get}
 use Rattle.gs_grammar.specs.declared.item.Item.{Item}
 use Rattle.gs_grammar.specs.Derivations.{IsDerived}

@@ -4,8 +4,8 @@ use Rattle.gs_grammar.specs.Levels.{OptionForm}
 use Rattle.gs_grammar_machine.specs.Machines.{AutoForm, IsMachine, states_of}
 use Rattle.gs_grammar_compile.specs.Readers.{ReadsItems, most_states}
 
--- trusted, own: the machine is one of the option: it satisfies the rules of machines, reads the option's items one by one, and
--- has at most 32 states for each symbol of the option's size, and one if there are no items
+-- trusted, own: the machine is one of the option: it satisfies the rules of machines and reads the option's items one by one.
+-- It has at most 32 states for each symbol of the option's size, and one if there are no items
 pub record IsMachineOf (form : AutoForm) (option : OptionForm) : Type 0 where
   pub rules : IsMachine form
   pub reads : ReadsItems form option.items

@@ -1,12 +1,12 @@
--- What a reading says of a list of symbols.
+-- The reading of a list of symbols.
 use Rattle.std.specs.Prelude.{ℕ, List}
 use Rattle.gs_grammar.specs.declared.item.Item.{Item}
 use Rattle.gs_grammar_level.specs.declared.readings.Reading.{Reading}
 use Rattle.gs_grammar_level.specs.declared.readings.Reading.TheVariants.{One, Nothing, Memory}
 use Rattle.gs_grammar.specs.Derivations.{Derivation, OneDerivation}
 
--- trusted, own: The answer for the list of symbols in the level: the option and the values of the only derivation, or that there
--- is none. Out of memory may come instead of either.
+-- trusted, own: The answer for the list of symbols in the level: the option and the values of the only derivation, or that
+-- there is none. `Memory` may be returned instead of either.
 abbrev pub Reads : List (List Item) → List ℕ → Reading → Type 0
 Reads level w (One option values) = OneDerivation level w option values
 Reads level w Nothing = Derivation level w → ⊥

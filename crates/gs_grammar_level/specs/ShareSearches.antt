@@ -1,4 +1,4 @@
--- What the search for the first two options that share a list finds. These definitions are the search's own.
+-- The findings of the search for the first two options that share a list. These definitions are the search's own.
 use Rattle.std.specs.Prelude.{ℕ, ◌<◌, ◌≤◌, List}
 use Rattle.gs_grammar.specs.declared.item.Item.{Item}
 use Rattle.gs_grammar.specs.Ambiguity.{ShareList}

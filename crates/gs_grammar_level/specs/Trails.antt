@@ -20,7 +20,7 @@ successors (edge ∷ edges) symbol back =
     if leads_with edge symbol then record { state = edge.to; back = back } ∷ successors edges symbol back
     else successors edges symbol back
 
--- those of each of the entries, the first of which has this number
+-- those of each of the entries, which are numbered from this number on
 abbrev pub layer : List (List Edge) → ℕ → ℕ → List Entry → List Entry
 layer table symbol number [] = []
 layer table symbol number (entry ∷ entries) =

@@ -1,4 +1,4 @@
--- What a level keeps beside its options.
+-- The facts that a level keeps in addition to its options.
 use Rattle.std.specs.Prelude.{Bool, List}
 use Rattle.gs_grammar.specs.Levels.{OptionForm, AreOfKind}
 use Rattle.gs_grammar_machine.specs.Machines.{AutoForm}

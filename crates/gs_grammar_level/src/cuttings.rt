@@ -12,7 +12,7 @@ use std::alloc::Global;
 /// The way in which the texts of an option are cut into the words of its items.
 #[derive(Drop)]
 pub enum Cutting {
-    /// At the places where the items begin: the words of each item before the last have one length.
+    /// At the start places of the items: the words of each item before the last have one length.
     Widths(List<usize>),
     /// By the option's machine.
     Machine,
@@ -35,7 +35,7 @@ fn cuts_are_fixed(items: &[Item]) -> bool
     true
 }
 
-/// Returns the places where the items begin if each word has the size of its item.
+/// Returns the start places of the items if each word has the size of its item.
 fn starts_of(alloc: Global, items: &[Item]) -> Result<List<usize>, Memory>
     requires each { All IsItem items.now }
     requires small { size_of_all items.now ≤ most_symbols }

@@ -27,7 +27,7 @@ fn stands_at(symbols: &[u8], place: usize, literal: &[u8]) -> bool
     }
 }
 
-/// Returns whether the first symbol of the literal is at this place. An empty literal stands everywhere.
+/// Returns whether the first symbol of the literal is at this place. An empty literal is at every place.
 fn begins_at(symbols: &[u8], place: usize, literal: &[u8]) -> bool
     ensures { StandsAt place literal.now symbols.now → IsTrue result }
 {

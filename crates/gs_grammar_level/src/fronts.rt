@@ -69,7 +69,7 @@ fn first_places(alloc: Global, items: &[Item]) -> Result<List<Place>, Memory>
     Ok(List::from_vec(places))
 }
 
-/// Makes the front of an option.
+/// Makes the `Front` of an option.
 fn front_of(alloc: Global, option: &Opt) -> Result<Front, Memory>
     ensures { IfOk result (λ front. IsFrontOf front option.now) }
 {
@@ -79,7 +79,7 @@ fn front_of(alloc: Global, option: &Opt) -> Result<Front, Memory>
     })
 }
 
-/// Makes the front of each option, in their order.
+/// Makes the `Front` of each option, in their order.
 pub fn fronts_of(alloc: Global, options: &[Opt]) -> Result<List<Front>, Memory>
     ensures { IfOk result (λ fronts. AreFrontsOf fronts options.now) }
 {

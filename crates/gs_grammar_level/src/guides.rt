@@ -1,6 +1,6 @@
 use gs_chars::Text;
 
-/// A literal that is at a place in every text of an option. An empty one stands everywhere.
+/// A literal that is at a place in every text of an option. An empty one is at every place.
 #[derive(Drop)]
 pub struct Probe {
     pub place: usize,

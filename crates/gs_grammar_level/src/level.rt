@@ -17,7 +17,7 @@ use gs_grammar_machine::Auto;
 use std::alloc::Global;
 use std::marker::Model;
 
-/// The options of one level, in the order of the table, each with its machine and with what is known of its texts.
+/// The options of one level, in the order of the table. Each has its machine and the known facts of its texts.
 pub struct Level {
     bit_level: bool,
     options: List<Opt>,
@@ -101,8 +101,8 @@ impl Level {
         self.fronts.items()
     }
 
-    /// Returns the machines of the options, one for each, in their order. Each satisfies the rules of machines, reads its
-    /// option's items one by one, and has at most 32 states for each symbol of the option's size, and one if there are no items.
+    /// Returns the machines of the options, one for each, in their order. Each satisfies the rules of machines and reads its
+    /// option's items one by one. It has at most 32 states for each symbol of the option's size, and one if there are no items.
     pub fn machines(&self) -> &[Auto]
         ensures { AreMachinesOf result.now self.now.options }
     {

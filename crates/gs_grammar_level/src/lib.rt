@@ -1,10 +1,11 @@
 //! Levels: options with their machines, and the readings of a text or of bits by one pass.
 //!
-//! A level is what Tag Data Translation calls one: the options in which one form of an EPC, as its tag bits, may be written.
+//! A level has the meaning of Tag Data Translation: the options in which one form of an EPC, for example its tag bits, may be
+//! written.
 //!
 //! - `Level::new` compiles the machine of each option, once, and `Level::machines` lends the machines.
-//! - `read_text` and `read_bits` find the option that reads a text or bits, and the value of each of its items. If each item before
-//!   the last has words of one length, the words lie where these lengths say; else the option's machine finds them.
+//! - `read_text` and `read_bits` find the option that reads a text or bits, and the value of each of its items. If each item
+//!   before the last has words of one length, these lengths give the words. Otherwise the option's machine finds them.
 //! - `Level::first_share` gives the first two options of the level that share a list of symbols, and a text that shows it. It gives
 //!   `None` if and only if no list of symbols has two readings by the level.
 //!

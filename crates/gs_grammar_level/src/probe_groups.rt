@@ -19,7 +19,7 @@ fn first_literal(items: &[Item]) -> &[u8]
 }
 
 /// Returns the first literal that is at one place in every text of the items, after an item of more than one symbol. A literal
-/// after a single symbol, such as a filter value, does not tell the options of one encoding apart.
+/// after a single symbol, such as a filter value, does not distinguish the options of one encoding.
 fn probe_of(alloc: Global, items: &[Item]) -> Result<Probe, Memory>
     requires each { All IsItem items.now }
     requires small { size_of_all items.now ≤ most_symbols }

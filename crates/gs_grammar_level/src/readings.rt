@@ -1,6 +1,6 @@
 use gs_chars::{List, Text};
 
-/// What a list of symbols means in a level that is not ambiguous.
+/// The meaning of a list of symbols in a level that is not ambiguous.
 #[derive(Drop)]
 pub enum Reading {
     /// The list has a derivation, and no other: the number of its option, and the value of each of its items.

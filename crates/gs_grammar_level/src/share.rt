@@ -7,6 +7,6 @@ pub struct Shared {
     pub first: usize,
     /// The number of the second option, which is the same one if an option shares a list with itself.
     pub second: usize,
-    /// A list that they share: the bytes `0` and `1` for the numbers of a bit level, and the symbols of any other as they are.
+    /// A list that they share: the bytes `0` and `1` for the numbers of a bit level, and the unchanged symbols of any other.
     pub text: Text,
 }

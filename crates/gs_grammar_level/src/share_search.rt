@@ -37,7 +37,7 @@ fn shown(alloc: Global, bit_level: bool, symbols: Text) -> Result<Text, Memory>
     Ok(symbols)
 }
 
-/// Returns whether the options of these numbers share no list, if their first places tell so, or the fixed cuts of a single option.
+/// Returns whether the first places, or the fixed cuts of a single option, show that these options share no list.
 fn are_told_apart(level: &Level, i: usize, j: usize) -> bool
     requires first { i < length level.now.options }
     requires second { j < length level.now.options }
@@ -53,7 +53,7 @@ fn are_told_apart(level: &Level, i: usize, j: usize) -> bool
     are_apart(fronts[i].places.items(), fronts[j].places.items())
 }
 
-/// Returns a list of symbols that the options of these numbers share. Searches their machines if nothing simpler tells.
+/// Returns a list of symbols that the options of these numbers share. Searches their machines if no simpler test decides.
 fn shared_list(
     alloc: Global,
     level: &Level,
@@ -106,7 +106,7 @@ fn shared_text(
     requires { IsFirstShare (item_lists level.now.options) first second list.items }
     ensures { IfOk result (λ shared. IsFirstShared level.now (Some shared)) }
 {
-    // The contract of `items` tells that they are within their bounds.
+    // The contract of `items` gives that they are within their bounds.
     let _items = level.options()[first].items();
     let text = shown(alloc, level.bit_level(), Text::from_vec(list))?;
     Ok(Shared {
@@ -117,9 +117,9 @@ fn shared_text(
 }
 
 impl Level {
-    /// Returns the first two options of the level, or one with itself, that share a list of symbols, in the order of the first
-    /// option and then of the second, and a text that shows such a list. Returns `None` if and only if the level is not
-    /// ambiguous. Fails only with `Memory`.
+    /// Returns the first two options of the level, or one with itself, that share a list of symbols. The order is that of the
+    /// first option and then of the second. A text shows such a list. Returns `None` if and only if the level is not ambiguous.
+    /// Fails only with `Memory`.
     pub fn first_share(&self, alloc: Global) -> Result<Option<Shared>, Memory>
         ensures { IfOk result (IsFirstShared self.now) }
     {

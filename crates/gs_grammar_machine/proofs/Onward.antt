@@ -59,7 +59,7 @@ onward_not borders rows n row b l e s f h =
     let x : true ≡ false = sym t ∙ ap (list_all (is_onward (length rows) borders n)) (sym same) ∙ sym s ∙ f in
     cc
 
--- what a rule says of an edge that fits
+-- a rule's facts about an edge that fits
 pub fits_onward : (states : ℕ) (borders : List ℕ) (state : ℕ) (edges : List Edge) (symbol next : ℕ) → list_all (is_onward states borders state) edges ≡ true → Fits edges symbol next → (state < next) × (next < states)
 fits_onward states borders state [] symbol next h f = absurd f
 fits_onward states borders state (edge ∷ edges) symbol next h (inl f) =
@@ -71,7 +71,7 @@ fits_onward states borders state (edge ∷ edges) symbol next h (inl f) =
 fits_onward states borders state (edge ∷ edges) symbol next h (inr f) =
     fits_onward states borders state edges symbol next (and_second (is_onward states borders state edge) (list_all (is_onward states borders state) edges) h) f
 
--- each step of a walk goes to a higher state, which is there
+-- each step of a walk goes to a higher state of the machine
 pub goes_on : (form : AutoForm) (state symbol next : ℕ) → IsMachine form → Fits (edges_at form.table state) symbol next → (state < next) × (next < length form.table)
 goes_on form state symbol next m f =
     fits_onward (length form.table) form.borders state (edges_at form.table state) symbol next (list_all-from_AllPass (is_onward (length form.table) form.borders state) (edges_at form.table state) (m.onward state)) f
@@ -100,7 +100,7 @@ start_at form start m e =
     let inside = start_inside form m in
     omega arith
 
--- what the rules say of each edge of a state
+-- the rules' facts about each edge of a state
 pub edge_onward : (form : AutoForm) (state k : ℕ) (edge : Edge) → IsMachine form → k < length (edges_at form.table state) → edge ≡ get_or (edges_at form.table state) k edge → (state < edge.to) × (edge.to < length form.table)
 edge_onward form state k edge m l e =
     let t = m.onward state k edge l in

@@ -13,7 +13,7 @@ cuts_low : (from : ℕ) (ends : List ℕ) (total : ℕ) → Cuts from ends total
 cuts_low from [] total h = omega arith
 cuts_low from (end ∷ ends) total h = let r = cuts_low end ends total h.1 in let l = h.0 in omega arith
 
--- where the edges of a state begin and end
+-- the indexes at which the edges of a state begin and end
 pub cut_bounds : (from : ℕ) (ends : List ℕ) (total k : ℕ) → Cuts from ends total → k < length ends → (get_or (from ∷ ends) k 0 ≤ get_or ends k 0) × (get_or ends k 0 ≤ total)
 cut_bounds from [] total k h l = absurd (omega arith)
 cut_bounds from (end ∷ ends) total zero h l = (h.0, cuts_low end ends total h.1)
@@ -24,7 +24,7 @@ cut_at from [] edges k l = absurd (omega arith)
 cut_at from (end ∷ ends) edges zero l = refl
 cut_at from (end ∷ ends) edges (suc k) l = cut_at end ends edges k (omega arith)
 
--- a piece of the list is the same where more edges follow it
+-- a piece of the list is the same if more edges follow it
 same_piece : (from end : ℕ) (edges row : List Edge) → from ≤ end → end ≤ length edges → take (end - from) (drop from (edges ++ row)) ≡ take (end - from) (drop from edges)
 same_piece from end edges row h k =
     let d = drop-append-le from edges row (omega arith) in

@@ -2,7 +2,7 @@
 use Rattle.std.specs.Prelude.{◌≡◌, ℕ, ◌-◌, ◌≤◌, List, [], ◌∷◌, take, drop}
 use Rattle.gs_grammar_machine.specs.declared.edge.Edge.{Edge}
 
--- the pieces of the list from a place on, by the places where they end
+-- the pieces of the list from a place on, by their end places
 abbrev pub cut : ℕ → List ℕ → List Edge → List (List Edge)
 cut from [] edges = []
 cut from (end ∷ ends) edges = take (end - from) (drop from edges) ∷ cut end ends edges

@@ -1,4 +1,4 @@
--- What proofs and private functions say beside the definitions of Machines.antt.
+-- Definitions for proofs and private functions, in addition to those of Machines.antt.
 use Rattle.std.specs.Prelude.{ℕ, ◌-◌, List, slice_index}
 use Rattle.gs_grammar_machine.specs.declared.edge.Edge.{Edge}
 use Rattle.gs_grammar_machine.specs.Walks.{Walk}

@@ -59,9 +59,9 @@ fn is_machine(rows: &[List<Edge>], borders: &[usize]) -> bool
 }
 
 impl Auto {
-    /// Makes the machine of these rows, one for each state, with these borders. Returns `None` if and only if they break a rule:
-    /// each edge leads to a higher state, which is there, and over no border; there is a border, and the borders are states and
-    /// ascend strictly.
+    /// Makes the machine of these rows, one for each state, with these borders. Returns `None` if and only if they break a
+    /// rule: each edge leads to a higher state of the machine and over no border; there is a border, and the borders are states
+    /// and ascend strictly.
     pub fn new(
         alloc: Global,
         rows: &[List<Edge>],
@@ -110,7 +110,7 @@ impl Auto {
         self.borders[self.borders.len() - 1]
     }
 
-    /// Returns the edges that leave a state of the machine. Each leads to a higher state, which is there, and over no border.
+    /// Returns the edges that leave a state of the machine. Each leads to a higher state of the machine and over no border.
     pub fn edges(&self, state: usize) -> &[Edge]
         requires { state < states_of self.now }
         ensures edges { result.now ≡ edges_at self.now.table state }

@@ -14,8 +14,7 @@
 //!
 //! # Differences from the standards
 //!
-//! - No standard has these machines. They are automata as textbooks have them, of which each edge leads to a later state, so
-//!   that each walk ends.
+//! - No standard has these machines. They are textbook automata whose edges each lead to a later state, so that each walk ends.
 #![tactic(auto)]
 
 mod auto;

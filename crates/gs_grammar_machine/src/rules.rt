@@ -5,7 +5,7 @@ ghost use Rattle.gs_grammar_machine.specs.Machines.{AreOnward, AscendBefore, is_
 use crate::edge::Edge;
 use gs_chars::List;
 
-/// Returns whether no border stands between the two states.
+/// Returns whether there is no border between the two states.
 fn crosses_none(borders: &[usize], state: usize, to: usize) -> bool
     ensures { result ≡ list_all (λ border. nat_le border state || nat_le to border) borders.now }
 {
@@ -14,7 +14,7 @@ fn crosses_none(borders: &[usize], state: usize, to: usize) -> bool
         .all(|border| *border <= state || to <= *border)
 }
 
-/// Returns whether an edge from a state leads to a higher one, which is there, and over no border.
+/// Returns whether an edge from a state leads to a higher existing one and over no border.
 fn is_onward(states: usize, borders: &[usize], state: usize, edge: &Edge) -> bool
     ensures { result ≡ is_onward states borders.now state edge.now }
 {

@@ -31,7 +31,7 @@ impl Model for Table {
     ghost invariant = { λ a. Cuts 0 a.ends.items (length a.edges.items) };
 }
 
-/// Returns where the edges of a state begin: where those of the state before it end.
+/// Returns the index at which the edges of a state begin: the end of those of the state before it.
 fn start_of(ends: &[usize], state: usize) -> usize
     requires { state < length ends.now }
     ensures { result ≡ slice_index (0 ∷ ends.now) state }

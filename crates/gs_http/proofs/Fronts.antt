@@ -1,4 +1,4 @@
--- If a head ends, and what a stream goes on with.
+-- Whether a head ends, and how a stream goes on.
 use Rattle.std.proofs.Common.{◌≡◌, ◌≢◌, ℕ, zero, suc, ◌+◌, ◌-◌, ◌<◌, ◌≤◌, min, true, false, List, [], ◌∷◌, ◌++◌, length, take, drop, Option, Some, None, refl, sym, ap, ◌∙◌, subst, arith, inl, inr, length-drop}
 use Rattle.std.specs.Prelude.{bytes_eq, option_map}
 use Rattle.std.proofs.lemmas.Bool.{cases_lt}
@@ -8,7 +8,7 @@ use Rattle.memchr.proofs.lemmas.MatchLemmas.{OccursAt-from_part, OccursAt-part}
 use Rattle.gs_chars.proofs.TruthsAndLists.{equal_bytes, same_bytes, true_or_false}
 use Rattle.gs_http.specs.Streams.{blank, cut_at, ended, front_of, head_end, headed, headless}
 
--- ---- what the search finds
+-- ---- the findings of the search
 
 long_enough : (text : List ℕ) (k : ℕ) → take 4 (drop k text) ≡ blank → k + 4 ≤ length text
 long_enough text k e =

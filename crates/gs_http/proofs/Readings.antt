@@ -1,4 +1,4 @@
--- Reads one after the other.
+-- Sequences of reads.
 use Rattle.std.proofs.Common.{◌≡◌, ℕ, Bool, List, [], ◌++◌, Option, ap, sym, ◌∙◌, append-nil, append_assoc}
 use Rattle.gs_port.specs.Contents.{append_known, append_nothing, append_twice, prepend_known, prepend_nothing, prepend_twice}
 use Rattle.std.specs.Borrow.{GName}

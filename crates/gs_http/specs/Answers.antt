@@ -68,7 +68,7 @@ by_relation templates identity [] = not_found
 by_relation templates identity (link ∷ []) = redirect (reference_for templates identity link.target.href)
 by_relation templates identity (link ∷ other ∷ links) = choices (written (sent_document templates identity (link ∷ other ∷ links)))
 
--- trusted, own: the wish for the links of a relation; where its name is kept does not matter
+-- trusted, own: the wish for the links of a relation; it does not matter which text holds its name
 abbrev pub of_relation : List ℕ → Want
 of_relation name = RelationOf (record { ref_ptr = (0, 0); now = name })
 

@@ -21,7 +21,7 @@ pub record Reads (held held' : List ℕ) (left left' taken taken' : Option (List
 abbrev pub NothingLeft : Option (List ℕ) → Type 0
 NothingLeft left = IfSome left (λ bytes. bytes ≡ [])
 
--- what came of one read: bytes, the end, or nothing for an error or out of memory
+-- the result of one read: bytes, the end, or nothing for an error or out of memory
 abbrev pub Comes : More → List ℕ → List ℕ → Option (List ℕ) → Type 0
 Comes Got held held' left = length held < length held'
 Comes End held held' left = (held' ≡ held) × NothingLeft left
@@ -35,7 +35,7 @@ reads_with End count = count
 reads_with NotRead count = counted count
 reads_with NoRoom count = count
 
--- what the held bytes begin with
+-- the start of the held bytes
 abbrev pub Begins : Filled → List ℕ → Option (List ℕ) → Type 0
 Begins Ended held left = (held ≡ []) × NothingLeft left
 Begins (Head len) held left = head_end (take 8192 held) ≡ Some len

@@ -1,5 +1,5 @@
--- The head of a request: RFC 9112, sections 2 to 5, in the grammar of the crate `httparse`. That it has at most 64 fields, that
--- its lines end in CR LF, and that it has no message body is this project's own rule.
+-- The head of a request: RFC 9112, sections 2 to 5, in the grammar of the crate `httparse`. Three rules are this project's own:
+-- it has at most 64 fields, its lines end in CR LF, and it has no message body.
 use Rattle.std.specs.Prelude.{◌≡◌, ◌≤◌, ℕ, ◌==◌, ◌&&◌, ◌||◌, not, Bool, false, List, [], ◌∷◌, map, length, Option, Some, None}
 use Rattle.std.specs.List.{list_any, zip}
 use Rattle.httparse.specs.Grammar.{ReadsRequest, RequestHead}
@@ -7,15 +7,15 @@ use Rattle.httparse.specs.Spans.{name_and_value}
 use Rattle.gs_http.specs.declared.sign.Sign.TheVariants.{Encoded, Sized}
 use Rattle.gs_http.specs.Fields.{is_shown}
 
--- trusted, RFC 9112, section 3: what a request says: its method, its target, the minor version of HTTP/1, and the names and
--- values of its fields.
+-- trusted, RFC 9112, section 3: the contents of a request: its method, its target, the minor version of HTTP/1, and the names
+-- and values of its fields.
 pub record Asked : Type 0 where
   pub method : List ℕ
   pub target : List ℕ
   pub minor : ℕ
   pub fields : List (List ℕ × List ℕ)
 
--- trusted, RFC 9112, section 3: what a head of the grammar says
+-- trusted, RFC 9112, section 3: the contents of a head of the grammar
 abbrev pub asked_of : RequestHead → Asked
 asked_of h = record { method = h.method; target = h.target; minor = h.minor; fields = map name_and_value h.fields }
 
@@ -36,7 +36,7 @@ is_bare_line_feed pair = pair.1 == 10 && not (pair.0 == 13)
 abbrev pub has_bare_line_feed : List ℕ → Bool
 has_bare_line_feed head = list_any is_bare_line_feed (zip (0 ∷ head) head)
 
--- trusted, own: what makes a whole head one that is not answered: a bare line feed, or a body
+-- trusted, own: the reasons not to answer a whole head: a bare line feed, or a message body
 unfoldable pub is_rejected : List ℕ → List (List ℕ × List ℕ) → Bool
 is_rejected head fields = has_bare_line_feed head || (is_shown Encoded fields || is_shown Sized fields)
 
@@ -47,7 +47,7 @@ pub record IsAskedBy (head : List ℕ) (asked : Asked) : Type 0 where
   pub says : asked ≡ asked_of h
   pub taken : is_rejected head asked.fields ≡ false
 
--- trusted, own: what the head says, and nothing if and only if it is not that of a request that is answered
+-- trusted, own: the contents of the head, or nothing if and only if it is not that of a request that is answered
 abbrev pub IsAsked : List ℕ → Option Asked → Type 0
 IsAsked head (Some asked) = IsAskedBy head asked
 IsAsked head None = (asked : Asked) → ¬ (IsAskedBy head asked)

@@ -1,4 +1,4 @@
--- What the values that this crate makes and lends stand for.
+-- The meanings of the values that this crate makes and lends.
 use Rattle.std.specs.Prelude.{◌≡◌, ℕ, List, map}
 use Rattle.httparse.specs.Grammar.{RequestHead}
 use Rattle.httparse.specs.Spans.{IsRequestAt, header_bytes}
@@ -16,11 +16,11 @@ use Rattle.gs_http.specs.Heads.{Asked, asked_of}
 use Rattle.gs_http.specs.Wishes.{Wish, for_linkset, for_relation}
 use Rattle.gs_http_documents.specs.References.{reference_of}
 
--- what the request that this crate lends says
+-- the contents of the request that this crate lends
 abbrev pub asked_by : Request → Asked
 asked_by r = record { method = r.method.now; target = r.target.now; minor = r.minor; fields = map (header_bytes r.head.now) r.fields.now }
 
--- the request says what a head of the grammar says whose parts lie there
+-- the request has the contents of a head of the grammar whose parts are at these spans
 abbrev pub SaysHead : Request → List ℕ → List HeaderSpan → RequestSpans → Type 0
 SaysHead request head spans parts = (h : RequestHead) → IsRequestAt head spans parts h → asked_by request ≡ asked_of h
 

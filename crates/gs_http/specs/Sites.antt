@@ -1,10 +1,10 @@
--- What requests are answered from.
+-- The data that requests are answered from.
 use Rattle.std.specs.Prelude.{ℕ, ◌+◌, List, length}
 use Rattle.gs_ai.specs.declared.row.AiRow.{AiRow}
 use Rattle.gs_links.specs.declared.link.Link.{Link}
 use Rattle.gs_http.specs.declared.settings.Settings.{Settings}
 
--- trusted, own: what requests are answered from is the application identifiers, the links, and how requests are answered
+-- trusted, own: requests are answered from the application identifiers, the links, and the settings of replies
 pub record SiteData : Type 0 where
   pub table : List AiRow
   pub links : List Link

@@ -35,13 +35,13 @@ unfoldable pub front_of : List ℕ → Front
 front_of [] = ended
 front_of (c ∷ stream) = cut_at (c ∷ stream) (head_end (take 8192 (c ∷ stream)))
 
--- trusted, own: the heads by what a stream goes on with
+-- trusted, own: the heads by the way in which a stream goes on
 abbrev pub with_front : Front → (List ℕ → List (Option (List ℕ))) → List (Option (List ℕ))
 with_front ended later = []
 with_front headless later = None ∷ []
 with_front (headed head rest) later = Some head ∷ later rest
 
--- trusted, own: the heads of a stream, at most that many; `None` stands for bytes that are not head, and nothing follows them
+-- trusted, own: the heads of a stream, at most that many; `None` stands for bytes that are not a head, and nothing follows them
 abbrev pub heads_of : ℕ → List ℕ → List (Option (List ℕ))
 heads_of zero stream = []
 heads_of (suc n) stream = with_front (front_of stream) (heads_of n)

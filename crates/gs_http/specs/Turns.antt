@@ -1,4 +1,4 @@
--- What one turn of serving a connection does.
+-- The effect of one turn of serving a connection.
 use Rattle.std.specs.Prelude.{◌≡◌, ◌≤◌, ⊤, ℕ, Bool, true, false, List, length, take, drop, Option, Some, None}
 use Rattle.gs_ai.specs.declared.row.AiRow.{AiRow}
 use Rattle.gs_links.specs.declared.link.Link.{Link}
@@ -52,7 +52,7 @@ Outcome filled.Headless table links settings turn last bytes bytes' held held' =
 Outcome (filled.Head len) table links settings turn last bytes bytes' held held' =
     Answered table links settings turn (Some (take len bytes)) last held held' × LetsGo turn len bytes bytes'
 
--- bytes were read up to the end of a head, or as far as they came, and what they begin with was answered
+-- bytes were read up to the end of a head, or until none came, and their start was answered
 pub record Turned (table : List AiRow) (links : List Link) (settings : Settings) (turn : Turn) (last : Bool) (bytes bytes' : List ℕ) (left left' taken taken' held held' : Option (List ℕ)) : Type 0 where
   pub grown : List ℕ
   pub front : Filled

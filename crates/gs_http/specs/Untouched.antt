@@ -6,7 +6,7 @@ use Rattle.gs_port.specs.Connections.{Aside}
 use Rattle.gs_http.specs.declared.outcomes.Turn.{Turn}
 use Rattle.gs_http.specs.Turns.{reads_at, writes_at}
 
--- the connection is open, and what no read and no write changes is unchanged
+-- the connection is open, and the state that reads and writes preserve is unchanged
 pub record StaysOpen {S : Type 0} (is_open : S → Bool) (aside : S → Aside) (ends : S → Option (GName × GName)) (before now : S) : Type 0 where
   pub open_now : is_open now ≡ true
   pub same_aside : aside now ≡ aside before

@@ -10,7 +10,7 @@ use Rattle.gs_links.specs.Loads.{expanded}
 use Rattle.gs_http.specs.AcceptedForms.{accepted_form}
 use Rattle.gs_http.specs.Heads.{Asked}
 
--- trusted, GS1-Conformant Resolver: what a request asks for: the links of a relation, or a linkset, which has those of all
+-- trusted, GS1-Conformant Resolver: the wish of a request: the links of a relation, or a linkset, which has those of all
 -- relations, in a form.
 pub data Wish : Type 0 where
   for_relation : List ℕ → Wish
@@ -29,8 +29,8 @@ abbrev pub form_or_json : Option LinksetForm → LinksetForm
 form_or_json None = Json
 form_or_json (Some form) = form
 
--- trusted, GS1-Conformant Resolver: what a link type asks for: `linkset` and `all` a linkset, in the form that is accepted, and any
--- other the relation of its name
+-- trusted, GS1-Conformant Resolver: the wish of a link type: `linkset` and `all` ask for a linkset, in the accepted form, and
+-- any other for the relation of its name
 abbrev pub wish_named : List ℕ → Option LinksetForm → List ℕ → Wish
 wish_named voc accepted value =
     if bytes_eq value (codes "linkset") || bytes_eq value (codes "all") then for_linkset (form_or_json accepted)
@@ -50,6 +50,6 @@ abbrev pub wish_by : List ℕ → Option LinksetForm → Option (List ℕ) → W
 wish_by voc accepted None = wish_unnamed voc accepted
 wish_by voc accepted (Some value) = wish_named voc accepted (percent_decode value)
 
--- trusted, own: what a request asks for
+-- trusted, own: the wish of a request
 unfoldable pub wish_of : List ℕ → Asked → Wish
 wish_of voc asked = wish_by voc (accepted_form asked.fields) (link_type asked.target)

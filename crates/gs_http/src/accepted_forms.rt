@@ -47,7 +47,7 @@ fn value_form(value: &[u8]) -> Option<LinksetForm>
     }
 }
 
-/// Returns the first form that the field which lies there accepts.
+/// Returns the first form that the field at these spans accepts.
 fn field_form(head: &[u8], field: &HeaderSpan) -> Option<LinksetForm>
     requires { IsHeaderWithin (length head.now) field.now }
     ensures { result ≡ first_form (field_forms (header_bytes head.now field.now)) }

@@ -52,7 +52,7 @@ impl Buffer {
         self.as_slice().len()
     }
 
-    /// Lets go of the first bytes.
+    /// Drops the first bytes.
     pub(crate) fn let_go(&mut self, len: usize)
         requires { len ≤ length self.old }
         ensures { self.new ≡ drop len self.old }

@@ -96,7 +96,7 @@ fn shows(name: &[u8], value: &[u8], sign: Sign) -> bool
     }
 }
 
-/// Returns whether the field that lies there shows the sign.
+/// Returns whether the field at these spans shows the sign.
 fn shows_at(head: &[u8], field: &HeaderSpan, sign: Sign) -> bool
     requires { IsHeaderWithin (length head.now) field.now }
     ensures { result ≡ shows sign (header_bytes head.now field.now) }

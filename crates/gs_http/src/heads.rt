@@ -13,7 +13,7 @@ use httparse::spans::{HeaderSpan, RequestSpans, parse_request};
 /// The most fields of a head.
 pub(crate) const MOST_FIELDS: usize = 64;
 
-/// Returns the places of the parts of a head, if the bytes are a head and nothing else, with at most as many fields as spans.
+/// Returns the places of the parts of a head, if the bytes are exactly a head with at most as many fields as spans.
 pub(crate) fn whole_head(head: &[u8], spans: &mut [HeaderSpan]) -> Option<RequestSpans>
     requires { length spans.old ≡ most_fields }
     ensures within { IfSome result (IsRequestWithin head.now spans.new) }
@@ -32,7 +32,7 @@ pub(crate) fn whole_head(head: &[u8], spans: &mut [HeaderSpan]) -> Option<Reques
     }
 }
 
-/// Returns the request whose parts lie there.
+/// Returns the request whose parts are at these spans.
 pub(crate) fn request_at<'a>(
     head: &'a [u8],
     spans: &'a [HeaderSpan],
@@ -72,7 +72,7 @@ fn has_bare_line_feed(head: &[u8]) -> bool
     false
 }
 
-/// Returns whether the request is not answered: for a bare line feed, or a body.
+/// Returns whether the request is not answered because of a bare line feed or a message body.
 #[tactic(auto, unfolding(crate::specs::Heads::is_rejected))]
 pub(crate) fn is_rejected(request: &Request<'_>) -> bool
     ensures { result ≡ is_rejected request.now.head.now (asked_by request.now).fields }

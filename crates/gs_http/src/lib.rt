@@ -1,9 +1,9 @@
-//! Replies to requests of HTTP/1 (RFC 9110, RFC 9112) by the links of a store, as a GS1-conformant resolver sends them.
+//! Replies to requests of HTTP/1 (RFC 9110, RFC 9112) by the links of a store, like those of a GS1-conformant resolver.
 //!
 //! - `reply` answers one head: with a redirect, several links to choose from, a linkset, the resolver description file, or only a
 //!   status.
 //! - `serve_one` answers the heads of one connection in order, however their bytes come, and says how that ended.
-//! - `Resolver` has what both make of a `Site` once for many requests; `reply_with` and `serve_with` are lent it.
+//! - `Resolver` has the data that both make of a `Site` once for many requests; `reply_with` and `serve_with` borrow it.
 //!
 //! # Example
 //!
@@ -19,9 +19,9 @@
 //!
 //! - The cases of a reply, their order and the choice of the links are a profile of this project (docs/REPLIES.md).
 //! - A head has at most 8,192 bytes and 64 fields, and a connection at most 1,000 replies.
-//! - A head with a body is rejected, and so is one with a line feed that has no carriage return before it.
-//! - The methods are GET and HEAD. The query is not passed on, weights of `Accept` are not looked at, and no field is sent for
-//!   caches or for other origins.
+//! - A request with a message body is rejected. So is one whose head has a line feed without a carriage return before it.
+//! - The methods are GET and HEAD. The query is not passed on, weights of `Accept` are ignored, and no field is sent for caches
+//!   or for other origins.
 #![tactic(auto)]
 
 mod accepted_forms;

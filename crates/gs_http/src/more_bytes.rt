@@ -7,7 +7,7 @@ use gs_port::{Conn, ReadAnswer};
 /// Room for the most bytes that one read moves.
 static BLOCK: [u8; 4096] = [0; 4096];
 
-/// What came of a read.
+/// The result of a read.
 #[derive(Clone, Copy)]
 pub(crate) enum More {
     /// Bytes.

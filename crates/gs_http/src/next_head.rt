@@ -11,7 +11,7 @@ use memchr::memmem;
 /// The most bytes of a head.
 const LONGEST: usize = 8192;
 
-/// What the bytes that were read of a connection begin with.
+/// The start of the bytes that were read of a connection.
 #[derive(Clone, Copy)]
 pub(crate) enum Filled {
     /// There are none, and nothing is left.
@@ -59,7 +59,7 @@ fn at_end(bytes: &[u8]) -> Filled
     }
 }
 
-/// Reads until the bytes begin with a head, or none can come any more. Nothing is read where they begin with one already.
+/// Reads until the bytes begin with a head, or none can follow. Reads nothing if they already begin with one.
 pub(crate) fn fill<C: Conn>(conn: &mut C, bytes: &mut Buffer) -> Filled
     requires current { C.is_open conn.old ≡ true }
     requires few { length bytes.old ≤ 12287 }

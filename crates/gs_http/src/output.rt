@@ -37,7 +37,7 @@ pub(crate) fn send<C: Conn>(conn: &mut C, bytes: &[u8]) -> Sent
     Sent::Done
 }
 
-/// Lets go of the first bytes.
+/// Drops the first bytes.
 pub(crate) fn drop_front(bytes: &mut Vec<u8>, len: usize)
     requires { len ≤ length bytes.old.items }
     ensures { bytes.new.items ≡ drop len bytes.old.items }

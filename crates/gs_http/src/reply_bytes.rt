@@ -81,7 +81,7 @@ fn sent_body(head_only: bool, body: &[u8]) -> &[u8]
     if head_only { &[] } else { body }
 }
 
-/// Returns the bytes of the parts, one after the other.
+/// Returns the bytes of the parts, one part after another.
 fn joined(alloc: Global, parts: &[&[u8]]) -> Result<Text, Memory>
     ensures { IfOk result (λ text. text ≡ flat_map (λ part. part.now) parts.now) }
 {

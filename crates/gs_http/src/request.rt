@@ -3,7 +3,7 @@ ghost use Rattle.httparse.specs.Spans.{IsHeaderWithin};
 
 use httparse::spans::HeaderSpan;
 
-/// A request, whose parts lie in its head.
+/// A request, as spans of its head.
 #[derive(Drop)]
 pub(crate) struct Request<'a> {
     /// The method.

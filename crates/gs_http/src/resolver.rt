@@ -57,8 +57,8 @@ impl<'a> Resolver<'a> {
         Ok((resolver, room))
     }
 
-    /// Room for the numbers of links that answering needs, two for each link: made once for all requests, since answering need
-    /// not find it empty. Fails only with `Memory`.
+    /// Makes the room for the numbers of links that answering needs, two for each link. One room serves all requests, since
+    /// answering need not find it empty. Fails only with `Memory`.
     pub fn room(&self, alloc: Global) -> Result<Vec<u32>, Memory>
         ensures { IfOk result (λ room. vec_len room ≡ room_for self.now.links) }
     {

@@ -229,7 +229,7 @@ fn by_pairs<'a>(
     }
 }
 
-/// Returns the answer by the target of a request, for what it asks for.
+/// Returns the answer by the target of a request, for its wish.
 fn by_target<'a>(
     alloc: Global,
     resolver: &Resolver<'a>,

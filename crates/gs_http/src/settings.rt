@@ -3,7 +3,7 @@ use gs_chars::Text;
 /// How requests are answered.
 #[derive(Drop)]
 pub struct Settings {
-    /// What `gs1:` stands for in the relation that a request asks for.
+    /// The vocabulary that `gs1:` stands for in the relation of a request.
     pub voc: Text,
     /// The bytes of the resolver description file, if there is one.
     pub describe: Option<Text>,

@@ -3,7 +3,7 @@ use gs_ai::AiTable;
 use gs_links::Store;
 use std::marker::Model;
 
-/// What requests are answered from.
+/// The data that requests are answered from.
 #[derive(Drop)]
 pub struct Site<'a> {
     /// The application identifiers.

@@ -84,7 +84,7 @@ fn answer_head<C: Conn>(
     }
 }
 
-/// Reads on to the end of a head, and answers it.
+/// Reads up to the end of a head and replies to it.
 pub(crate) fn answer_next<C: Conn>(
     alloc: Global,
     conn: &mut C,

@@ -17,7 +17,7 @@ fn digit_at(digits: &[u8], place: usize) -> u16
     }
 }
 
-/// Digits after the point of a weight, in thousandths.
+/// Returns the digits after the point of a weight, in thousandths.
 fn thousandths(digits: &[u8]) -> u16
     ensures { result ≡ thousandths digits.now }
 {

@@ -17,14 +17,14 @@ use std::alloc::Global;
 /// The name of a relation.
 #[derive(Drop)]
 pub(crate) enum RelationName<'a> {
-    /// One that was made of what a request names.
+    /// One that was made from a name in a request.
     Made(Text),
     /// One that was made before.
     Lent(&'a [u8]),
 }
 
 impl RelationName<'_> {
-    /// Its bytes.
+    /// Returns its bytes.
     pub(crate) fn as_bytes(&self) -> &[u8]
         ensures { result.now ≡ name_of self.now }
     {
@@ -35,7 +35,7 @@ impl RelationName<'_> {
     }
 }
 
-/// What a request asks for.
+/// The wish of a request.
 #[derive(Drop)]
 pub(crate) enum Wish<'a> {
     /// The links of a relation.

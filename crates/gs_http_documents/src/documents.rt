@@ -25,7 +25,7 @@ trait Template: Drop {
         ensures shape { IfOk result (λ made. shape self ≡ true → shape made ≡ true) };
 }
 
-/// Returns a list of things with their references filled.
+/// Returns a list with the references of its items filled.
 fn fill_all<T: Template>(
     alloc: Global,
     identity: &Identity,
@@ -89,8 +89,8 @@ impl Template for Context {
     }
 }
 
-/// Returns the document for an identity. If target URIs are templates, each has its places filled by the identity's values, as
-/// `gs_template::expand` fills them, and everything else is unchanged. Otherwise returns the given document. Moves unchanged
+/// Returns the document for an identity. If target URIs are templates, the identity's values fill each place, as
+/// `gs_template::expand` fills them, and all other bytes are unchanged. Otherwise returns the given document. Moves unchanged
 /// parts, so that it copies nothing of the document. Fails only with `Memory`.
 pub fn document_for(
     alloc: Global,

@@ -1,5 +1,5 @@
-//! The links that a resolver sends: a target URI, with the places of its template filled for the identity of the request
-//! (gs_template), and a linkset as JSON or as text (RFC 9264).
+//! The links that a resolver sends: a target URI, with its template filled for the identity of the request (gs_template), and a
+//! linkset as JSON or as text (RFC 9264).
 //!
 //! - `reference_for` is the reference of one link, and `document_for` a document of many, for an identity.
 //! - `render` returns a document in the requested form. `LinksetForm` names the forms, and `Rendered` has the bytes and their

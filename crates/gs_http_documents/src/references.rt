@@ -16,7 +16,7 @@ pub enum Reference<'a> {
 }
 
 impl Reference<'_> {
-    /// Its bytes.
+    /// Returns its bytes.
     pub fn as_bytes(&self) -> &[u8]
         ensures { result.now ≡ reference_of self.now }
     {

@@ -93,7 +93,7 @@ module _ (table : List AiRow) (pairs : List Pair) (key : Pair) (first : first_ke
       (each_filter_map (IsOwn pairs) (pair_with pairs) (listed table key) (own_by_code pairs))
       (λ j pair at. own_other other pairs pair (own_ascending (filter (is_other (listed table key) key) pairs) j pair at)))
 
-  -- what holds of each pair holds of those of the identity
+  -- a fact of each pair holds for those of the identity
   pub out_each : (P : Pair → Type 0) → Each P pairs → Each P out
   out_each P a j pair at = found_each P (λ other. bytes_eq pair.code other.code) pairs pair (out_own j pair at) a
 

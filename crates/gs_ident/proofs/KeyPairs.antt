@@ -33,7 +33,7 @@ or_right : (a b : Bool) → (a || b) ≡ false → b ≡ false
 or_right true b h = absurd (let e : true ≡ false = h in cc)
 or_right false b h = h
 
--- a code that passes the test is not in a list of which none passes
+-- a code that passes the test is not in a list without passing codes
 absent : (p : List ℕ → Bool) (code : List ℕ) (codes : List (List ℕ)) → p code ≡ true → list_any p codes ≡ false → list_any (bytes_eq code) codes ≡ false
 absent p code [] passes none = refl
 absent p code (other ∷ codes) passes none =
@@ -42,7 +42,7 @@ absent p code (other ∷ codes) passes none =
     true≢false (sym passes ∙ ap p e ∙ or_left (p other) (list_any p codes) none)) in
     rw differs (absent p code codes passes (or_right (p other) (list_any p codes) none))
 
--- a code in a list of which none passes does not pass
+-- a code in a list without passing codes does not pass
 fails : (p : List ℕ → Bool) (code : List ℕ) (codes : List (List ℕ)) → list_any (bytes_eq code) codes ≡ true → list_any p codes ≡ false → p code ≡ false
 fails p code codes there none = false_from (p code) (λ passes. true≢false (sym there ∙ absent p code codes passes none))
 

@@ -91,7 +91,7 @@ filter_map_more h cs i c done new low read d n =
     let put = rw d at n in
     rw next (put ∙ sym more)
 
--- ---- what holds of each element
+-- ---- facts of each element
 
 abbrev pub Each : {X : Type 0} → (X → Type 0) → List X → Type 0
 Each {X} P xs = (j : ℕ) (x : X) → slice_get xs j ≡ Some x → P x
@@ -165,7 +165,7 @@ find_by_cases {X = X} t xs = by (find t xs)
     by None = inr refl
     by (Some x) = inl (x, refl)
 
--- the places of what `filter_map` gives
+-- the places of the items that `filter_map` gives
 cons_place : {X : Type 0} (r : Option X) (xs : List X) (j : ℕ) (x : X) → slice_get xs j ≡ Some x → (k : ℕ) × (slice_get (cons_option r xs) k ≡ Some x)
 cons_place None xs j x at = (j, at)
 cons_place (Some y) xs j x at = (suc j, at)

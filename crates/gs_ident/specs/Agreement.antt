@@ -1,4 +1,4 @@
--- Pairs that do not contradict each other: GS1 General Specifications, section 4.14.
+-- Pairs without contradictions: GS1 General Specifications, section 4.14.
 use Rattle.std.specs.Prelude.{◌≡◌, ℕ, List, Some, slice_get}
 use Rattle.gs_ai.specs.declared.pair.Pair.{Pair}
 

@@ -1,4 +1,4 @@
--- What pairs that count are known of their identity, step by step. This is the project's own.
+-- The known facts of the identity of pairs that count, step by step. This is the project's own.
 use Rattle.std.specs.Prelude.{◌≡◌, ◌≢◌, List, Some, Result, Ok, Err, slice_get}
 use Rattle.gs_ai.specs.declared.pair.Pair.{Pair}
 use Rattle.gs_ai.specs.declared.row.AiRow.{AiRow}

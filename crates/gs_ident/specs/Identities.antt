@@ -56,7 +56,7 @@ is_other codes key pair = not (bytes_eq key.code pair.code) && not (list_any (by
 abbrev pub keyed : List Pair → List (List ℕ × Pair)
 keyed pairs = map (λ pair. (pair.code, pair)) pairs
 
--- trusted, own: the first pair of each code, in ascending order of the codes: what a finite map from the codes holds
+-- trusted, own: the first pair of each code, in ascending order of the codes: the contents of a finite map from the codes
 unfoldable pub ascending : List Pair → List Pair
 ascending pairs = values (from_entries {R = slice_cmp nat_cmp} (keyed pairs))
 

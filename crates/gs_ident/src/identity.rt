@@ -10,7 +10,7 @@ use gs_chars::{List, Memory, Text};
 use std::alloc::Global;
 use std::marker::Model;
 
-/// What an element string or a link identifies: the pair of its key, the pairs that qualify the key, and all other pairs.
+/// The identity of an element string or a link: the pair of its key, the pairs that qualify the key, and all other pairs.
 pub struct Identity {
     key: Pair,
     qualifiers: List<Pair>,

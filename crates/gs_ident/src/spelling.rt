@@ -143,7 +143,7 @@ pub fn canonical(alloc: Global, identity: &Identity) -> Result<Text, Memory>
     spell(alloc, CANONICAL_STEM.as_bytes(), identity)
 }
 
-/// Shows that two identities made with one table are equal if and only if their canonical links are equal bytes.
+/// States that two identities made with one table are equal if and only if their canonical links are equal bytes.
 pub fn one_link_each(table: &AiTable)
     ensures { (a b : Elements) → IsMadeWith table.now a → IsMadeWith table.now b
         → (a ≡ b) ↔ (canonical_link a ≡ canonical_link b) }

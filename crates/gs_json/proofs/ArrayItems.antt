@@ -9,7 +9,7 @@ use Rattle.gs_json.specs.Answers.{items_count}
 use Rattle.gs_json.specs.Members.{items_of}
 use Rattle.gs_json.specs.Shapes.{items_list}
 
--- the items that a tree keeps are those that are seen of it
+-- the items that a tree keeps are those of its view
 pub listed : (values : List Tree) → map view values ≡ items_list (items_view values)
 listed [] = refl
 listed (value ∷ values) = ap (λ items. view value ∷ items) (listed values)

@@ -44,7 +44,7 @@ entries_from errors plan i entry within here =
 pub entries_end : (errors : Entry → List JsonFault) (plan : List Entry) (i : ℕ) → length plan ≤ i → flat_map errors (drop i plan) ≡ []
 entries_end errors plan i h = ap (flat_map errors) (drop_all i plan h)
 
--- where no entry has an error, the first is that of the names
+-- if no entry has an error, the first is that of the names
 pub names_only : (place : List ℕ) (plan : List Entry) (own : Members) (o : Option Members) (result : Result Unit JsonFault) → Some own ≡ o → flat_map (entry_errors place own) plan ≡ []
     → IsFirst result (unknown_errors place plan own) → IsFirst result (members_errors place plan o)
 names_only place plan own o result found none h = rw (← found, none) h

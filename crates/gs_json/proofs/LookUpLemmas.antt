@@ -1,4 +1,4 @@
--- What a look-up in a tree finds.
+-- The findings of a look-up in a tree.
 use Rattle.std.proofs.Common.{◌≡◌, ℕ, ◌<◌, List, [], ◌∷◌, ◌++◌, length, get_or, map, append-nil, Option, Some, None, option_map, Ok, String, Global, Equal, Less, string_bytes, string_cmp, nat_cmp, is_eq, refl, subst, sym, ap, ◌∙◌}
 use Rattle.std.proofs.lemmas.Map.Text.{is_eq-slice_cmp}
 use Rattle.std.proofs.lemmas.Slice.Eq.{bytes_eq-Decides}

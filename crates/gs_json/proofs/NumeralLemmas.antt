@@ -1,4 +1,4 @@
--- A numeral by itself is read as its number.
+-- A whole text that is a numeral is read as its number.
 use Rattle.std.proofs.Common.{◌≡◌, ℕ, List, [], ◌∷◌, option_and_then, append-nil, sym, ap, ◌∙◌}
 use Rattle.json.specs.Json.{if_last, value}
 use Rattle.json.specs.Json as json

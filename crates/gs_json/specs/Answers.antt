@@ -1,4 +1,4 @@
--- The answers of look-ups, in `serde_json`'s words for the tree of a text. `Memory` may come instead of each.
+-- The answers of look-ups, in `serde_json`'s words for the tree of a text. `Memory` may be returned instead of each.
 use Rattle.std.specs.Prelude.{ℕ, List, [], ◌∷◌, map, Option, Some, None, option_and_then, option_map, unwrap_or, Result, Ok, Err}
 use Rattle.std.specs.Borrow.{Bor}
 use Rattle.std.specs.Cmp.Lexicographic.{slice_cmp}

@@ -9,7 +9,7 @@ use Rattle.gs_json.specs.declared.fit.Fit.{Fit}
 use Rattle.gs_json.specs.declared.fit.Fit.TheVariants as fit
 use Rattle.gs_json.specs.declared.plan.Sort.{Sort}
 
--- the answer at `place` for a member that fits wholly, not at all, or but for one item
+-- the answer at `place` for a member that fits wholly, not at all, or except for one item
 abbrev pub fit_answer : List ℕ → Fit → Result Unit JsonFault
 fit_answer place fit.Whole = Ok tt
 fit_answer place fit.Not = Err (Kind place)
@@ -23,7 +23,7 @@ FitsAs sort d fits = (place : List ℕ) → first_error (sort_errors place sort 
 abbrev pub fit_if : Bool → Fit
 fit_if fits = if fits then fit.Whole else fit.Not
 
--- fits but for the item at the index, or wholly if there is none
+-- fits except for the item at the index, or wholly if there is none
 abbrev pub fit_but : Option ℕ → Fit
 fit_but (Some i) = fit.AllBut i
 fit_but None = fit.Whole

@@ -5,7 +5,7 @@ use gs_chars::{Memory, Text};
 pub enum JsonFault {
     /// The bytes are invalid JSON.
     Syntax,
-    /// The object lacks the member at this place.
+    /// The object has no member at this place.
     Lacks(Text),
     /// The value at this place is of another kind.
     Kind(Text),

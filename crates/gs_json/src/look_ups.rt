@@ -18,7 +18,7 @@ impl<'a> Node<'a> {
         self.value
     }
 
-    /// Looks up the member of a name. Returns `None` if this is not an object or lacks it. Fails only with `Memory`.
+    /// Looks up the member of a name. Returns `None` if this is not an object or has no such member. Fails only with `Memory`.
     pub fn find(&self, alloc: Global, name: &str) -> Result<Option<Node<'a>>, Memory>
         ensures part { IfOk result (λ member. option_map (λ part. view part.tree) member
             ≡ get name.now (view self.now.tree)) }

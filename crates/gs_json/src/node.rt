@@ -44,7 +44,7 @@ impl<'a> Node<'a> {
     ghost use Rattle.gs_json.specs.Shapes.{IsFirst, shape_errors};
     ghost use Rattle.std.specs.Prelude.{[]};
 
-    /// Returns the whole of a tree as a part.
+    /// Returns a whole tree as a part.
     pub(crate) fn of_root(alloc: Global, value: &'a Value) -> Node<'a>
         ensures tree { result.tree ≡ value.now }
         ensures place { result.place ≡ [] }
@@ -71,8 +71,8 @@ impl<'a> Node<'a> {
         Ok(Node { value, place })
     }
 
-    /// Looks up the member of a name, which the object must have. Returns `Kind` if and only if this is not an object, and
-    /// `Lacks` with the member's place if and only if the object lacks it. May return `Memory` instead.
+    /// Looks up the member of a name, which the object must have. Returns `Kind` if and only if this is not an object. Returns
+    /// `Lacks` with the member's place if and only if the object has no such member. May return `Memory` instead.
     pub fn member(&self, alloc: Global, name: &str) -> Result<Node<'a>, JsonFault>
         ensures { OrMemory (result_map seen result) (member_of self.now name.now) }
     {
@@ -82,7 +82,7 @@ impl<'a> Node<'a> {
         }
     }
 
-    /// Looks up the member of a name. Returns `None` if the object lacks it, and `Kind` if and only if this is not an
+    /// Looks up the member of a name. Returns `None` if the object has no such member, and `Kind` if and only if this is not an
     /// object. May return `Memory` instead.
     pub fn maybe(&self, alloc: Global, name: &str) -> Result<Option<Node<'a>>, JsonFault>
         ensures { OrMemory (result_map (option_map seen) result) (maybe_of self.now name.now) }

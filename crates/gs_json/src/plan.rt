@@ -4,7 +4,7 @@ ghost use Rattle.gs_json.specs.Plans.{entry_of};
 use gs_chars::{List, Memory, Text};
 use std::alloc::Global;
 
-/// What a member must be.
+/// The required sort of a member.
 #[derive(Clone, Copy)]
 pub enum Sort {
     /// A text.
@@ -28,7 +28,7 @@ pub struct Entry {
     pub name: Text,
     /// Whether the object must have it.
     pub required: bool,
-    /// What it must be.
+    /// The required sort of its value.
     pub sort: Sort,
 }
 

@@ -142,7 +142,7 @@ fn push_item(items: &mut Vec<Value>, item: Value) -> Result<(), Memory>
     Ok(())
 }
 
-/// Puts a value at a name, in place of an earlier one.
+/// Puts a value at a name, replacing an earlier one.
 fn put_member(
     alloc: Global,
     members: &mut Map<String, Value>,

@@ -70,7 +70,7 @@ pub document_within : (links : List Link) (identity : Elements) (numbers : List 
 document_within links identity numbers (want, ranges, e) =
     rw e (narrowed_within links (length links) (chosen links identity want) ranges (chosen_within links identity want (chosen links identity want) refl))
 
--- what is chosen
+-- the chosen numbers
 pub narrow_within : (links : List Link) (numbers : List ℕ) → (identity : Elements) × (want : Want) × (numbers ≡ chosen links identity want) → All (λ i. i < length links) numbers
 narrow_within links numbers (identity, want, e) = chosen_within links identity want numbers e
 

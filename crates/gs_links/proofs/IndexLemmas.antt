@@ -102,7 +102,7 @@ module _ (index : Index) (links : List Link) (own : IsIndexOf index links) (numb
 -- ---- depths
 
 module _ (links : List Link) (identity : Elements) (want : Want) where
-  -- where no candidate has d + 1 qualifiers or more, none has more than d
+  -- if no candidate has d + 1 qualifiers or more, none has more than d
   pub no_deeper : (d : ℕ) → chosen_depth links identity want ≤ d + 1 → length (numbers_from 0 (is_chosen identity want (d + 1)) links) ≡ 0 → chosen_depth links identity want ≤ d
   no_deeper d most none = depth_below (is_candidate identity want) links d each
     where
@@ -120,14 +120,14 @@ module _ (links : List Link) (identity : Elements) (want : Want) where
         | inr few ↦ few
       ]
 
-  -- the same, where m is the depth of what is chosen of those with more than d
+  -- the same, if m is the depth of the links chosen among those with more than d
   pub none_deeper : (d m count : ℕ) → chosen_depth links identity want ≤ m → (m ≡ d + 1) ⊎ (0 < count) → count ≡ length (numbers_from 0 (is_chosen identity want m) links) → count ≤ 0 → chosen_depth links identity want ≤ d
   none_deeper d m count most (inl e) size none =
       let nothing : count ≡ 0 = omega (arith, none) in
       no_deeper d (rw e at most) (sym (rw e at size) ∙ nothing)
   none_deeper d m count most (inr some) size none = absurd (omega (arith, some, none))
 
-  -- the depth of what is chosen is the most
+  -- the depth of the chosen links is the most
   pub depth_is : (d count : ℕ) → chosen_depth links identity want ≤ d → (d ≡ 0) ⊎ (0 < count) → count ≡ length (numbers_from 0 (is_chosen identity want d) links) → d ≡ chosen_depth links identity want
   depth_is d count most (inl e) size = omega (arith, most, e)
   depth_is d count most (inr some) size =

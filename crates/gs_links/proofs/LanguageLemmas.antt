@@ -53,7 +53,7 @@ pub put_place : (marks range : List ℕ) (hash k : ℕ) → hash ≡ hash_with 1
 unfolding place_of
 put_place marks range hash k e h = rw e at h
 
--- the same of the prefixes before a place alone
+-- the same of only the prefixes before a place
 abbrev pub IsLeastBefore : List ℕ → List ℕ → ℕ → ℕ → Type 0
 IsLeastBefore marks tag i least = (n : ℕ) → n < i → is_cut (drop n tag) ≡ true → least ≤ slice_index marks (place_of (take n tag))
 
@@ -128,7 +128,7 @@ module _ (marks : List ℕ) (ranges tags : List (List ℕ)) (link : Link) (from 
       let mark : slice_index marks (place_of range) ≤ k = marked k range at in
       omega (arith, here, mark)
 
-  -- a range before the least is none that the link matches
+  -- the link does not match a range before the least
   pub none_before : (k : ℕ) (range : List ℕ) → is_any range ≡ false → slice_get ranges k ≡ Some range → k < from → matches range link ≡ false
   unfolding matches
   none_before k range other at before = false_from (is_any range || list_any (is_in_range range) (tags_of link)) (λ h.

@@ -69,7 +69,7 @@ no_attributes table text anchor h = bare_pairs table (pairs_answer table text) a
 pub whole_anchor : (anchor : Elements) → anchor.attributes ≡ [] → record { key = anchor.key; qualifiers = take (length anchor.qualifiers) anchor.qualifiers; attributes = [] } ≡ anchor
 whole_anchor anchor none = ap (λ q. record { key = anchor.key; qualifiers = q; attributes = [] }) (take_whole anchor.qualifiers (length anchor.qualifiers) (omega arith)) ∙ ap (λ a. record { key = anchor.key; qualifiers = anchor.qualifiers; attributes = a }) (sym none)
 
--- ---- what is added for each thing of a list
+-- ---- the additions for each item of a list
 
 pub mapped_more : {X Y : Type 0} (f : X → Y) (first : List Y) (xs : List X) (x : X) (old new : List Y) (y : Y) → old ≡ first ++ map f xs → y ≡ f x → new ≡ old ++ y ∷ [] → new ≡ first ++ map f (xs ++ x ∷ [])
 mapped_more f first xs x old new y h own e = rw (e, h, own, map-append) (append_assoc first (map f xs) (f x ∷ []))
@@ -77,7 +77,7 @@ mapped_more f first xs x old new y h own e = rw (e, h, own, map-append) (append_
 pub flat_more : {X Y : Type 0} (f : X → List Y) (first : List Y) (xs : List X) (x : X) (old new : List Y) → old ≡ first ++ flat_map f xs → new ≡ old ++ f x → new ≡ first ++ flat_map f (xs ++ x ∷ [])
 flat_more f first xs x old new h e = rw (e, h, flat_map-append f xs (x ∷ []), append-nil (f x)) (append_assoc first (flat_map f xs) (f x))
 
--- ---- errors one after the other
+-- ---- concatenated errors
 
 -- the items before a place have no error
 module _ {A : Type 0} (errors : ℕ → A → List StoreFault) where
@@ -150,7 +150,7 @@ good_relation i r relation h = rw (← h) refl
 pub first_is : {X : Type 0} (errors : List StoreFault) (f : StoreFault) (rest : List StoreFault) (x : X) → errors ≡ f ∷ rest → Err f ≡ first_or errors x
 first_is errors f rest x e = rw e refl
 
--- what a judgement without error says
+-- the facts that a judgement without error gives
 pub no_error : {X : Type 0} (errors : List StoreFault) (x y : X) → Ok y ≡ first_or errors x → errors ≡ []
 no_error [] x y h = refl
 no_error (f ∷ errors) x y h = absurd (let g : Ok y ≡ Err f = h in cc)
@@ -223,7 +223,7 @@ abbrev by_contexts : List AiRow → List ℕ → List Context → Result (List L
 by_contexts table voc contexts = first_or (flat_map (λ row. context_errors table row.0 row.1) (enumerate_from 0 contexts)) (links_of table voc contexts)
 
 module _ (table : List AiRow) (voc : List ℕ) (contexts : List Context) (i : ℕ) where
-  -- what is known where the contexts before a place are loaded
+  -- the known facts after the contexts before a place are loaded
   pub record Loaded (links : List Link) : Type 0 where
     pub none : NoneBefore (context_errors table) contexts i
     pub made : links ≡ flat_map (context_links table voc) (take i contexts)
@@ -243,7 +243,7 @@ made_by errors x z (inl h) = absurd (let g : Ok z ≡ Err Memory = h in cc)
 made_by [] x z (inr h) = let g : Ok z ≡ Ok x = h in cc
 made_by (f ∷ errors) x z (inr h) = absurd (let g : Ok z ≡ Err f = h in cc)
 
--- what is made of an answer that is not an error
+-- the answer that is made of one that is not an error
 pub stored : {X : Type 0} (r answer : Result X StoreFault) (x : X) → OrMemory r (Ok x) → OrMemory (Ok x) answer → OrMemory r answer
 stored r answer x (inl h) own = inl h
 stored r answer x (inr h) own = rw h own

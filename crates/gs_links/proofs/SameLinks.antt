@@ -20,11 +20,11 @@ abbrev link_at : List ℕ → List ℕ → Target → Result Elements AnchorWhy 
 link_at voc name target (Ok anchor) = link_with anchor (expanded voc name) target ∷ []
 link_at voc name target (Err why) = []
 
--- what is loaded of a link of a document
+-- the links that are loaded of a link of a document
 abbrev link_by : List AiRow → List ℕ → List ℕ × List ℕ × Target → List Link
 link_by table voc link = link_at voc link.1 link.2 (anchor_answer table link.0)
 
--- what is loaded of a relation
+-- the links that are loaded of a relation
 abbrev relation_at : List ℕ → Relation → Result Elements AnchorWhy → List Link
 relation_at voc relation (Ok anchor) = relation_links voc anchor relation
 relation_at voc relation (Err why) = []

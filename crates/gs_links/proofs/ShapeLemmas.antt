@@ -54,7 +54,7 @@ utf8_from text h = is_utf8-from_IsUtf8 text (IsUtf8-from_ascii text (ascii_from 
 small_append : (a b : List ℕ) → list_all is_small a ≡ true → list_all is_small b ≡ true → list_all is_small (a ++ b) ≡ true
 small_append a b h k = list_all-append is_small a b ∙ and_true (list_all is_small a) (list_all is_small b) h k
 
--- what holds of each byte holds of all
+-- a fact of each byte holds for all
 module _ (f g : ℕ → Bool) (each : (c : ℕ) → f c ≡ true → g c ≡ true) where
   all_of : (text : List ℕ) → list_all f text ≡ true → list_all g text ≡ true
   all_of [] h = refl

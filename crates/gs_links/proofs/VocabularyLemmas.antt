@@ -5,7 +5,7 @@ use Rattle.std.proofs.lemmas.Bool.{eq-eqb, eqb-true}
 use Rattle.gs_chars.proofs.TruthsAndLists.{and_first, and_second, false_from_not}
 use Rattle.gs_links.specs.Loads.{expanded, keeps_names}
 
--- a text, of which neither begins with the other, does not begin so with more after it
+-- if neither of two texts begins with the other, neither does the first with more after it
 apart_with_more : (a p rest : List ℕ) → starts_with (λ x y. x == y) a p ≡ false → starts_with (λ x y. x == y) p a ≡ false → starts_with (λ x y. x == y) (a ++ rest) p ≡ false
 apart_with_more [] p rest h k = absurd (let g : true ≡ false = k in cc)
 apart_with_more (x ∷ a) [] rest h k = absurd (let g : true ≡ false = h in cc)

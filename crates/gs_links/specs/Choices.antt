@@ -27,7 +27,7 @@ is_prefix prefix identity =
     is_empty prefix.attributes
     && (is_same_pair prefix.key identity.key && are_first prefix.qualifiers identity.qualifiers)
 
--- trusted, own: the relation is wanted
+-- trusted, own: holds if the request wants all link types or this one
 abbrev pub is_wanted : Want → List ℕ → Bool
 is_wanted All relation = true
 is_wanted (Relation wanted) relation = bytes_eq wanted.now relation
@@ -57,7 +57,7 @@ chosen_depth links identity want = deepest (candidates links identity want)
 abbrev pub is_chosen : Elements → Want → ℕ → Link → Bool
 is_chosen identity want depth link = is_candidate identity want link && (depth_of link == depth)
 
--- trusted, own: the numbers of the links that pass a test, where the first link has the number n
+-- trusted, own: the numbers of the links that pass a test, if the first link has the number n
 abbrev pub numbers_from : ℕ → (Link → Bool) → List Link → List ℕ
 numbers_from n test links = map (λ row. row.0) (filter (λ row. test row.1) (enumerate_from n links))
 

@@ -38,6 +38,6 @@ IsIndexOf index links = (n : ℕ) → listed index n ≡ numbers_from 0 (has_num
 abbrev pub with_last : List ℕ → ℕ → ℕ → ℕ → List ℕ
 with_last numbers m i n = if m == n then numbers ++ i ∷ [] else numbers
 
--- of numbers those of candidates with that many qualifiers
+-- those of the numbers that are of candidates with that many qualifiers
 abbrev pub chosen_among : List Link → Elements → Want → ℕ → List ℕ → List ℕ
 chosen_among links identity want depth numbers = passing links (is_chosen identity want depth) numbers

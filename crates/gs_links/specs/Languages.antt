@@ -34,7 +34,7 @@ abbrev pub is_cut : List ℕ → Bool
 is_cut [] = true
 is_cut (c ∷ rest) = c == 45
 
--- trusted, RFC 4647, section 3.3.1: a tag is in a range that it begins with, where nothing or a hyphen comes after it
+-- trusted, RFC 4647, section 3.3.1: holds if the tag begins with the range, and nothing or a hyphen follows
 abbrev pub is_in_range : List ℕ → List ℕ → Bool
 is_in_range range tag = bytes_eq (lowered (take (length range) tag)) (lowered range) && is_cut (drop (length range) tag)
 
@@ -46,12 +46,12 @@ is_any range = bytes_eq range (codes "*")
 unfoldable pub matches : List ℕ → Link → Bool
 matches range link = is_any range || list_any (is_in_range range) (tags_of link)
 
--- trusted, own: the first numbers, or the others where they are none
+-- trusted, own: the first numbers, or the others if the first are empty
 abbrev pub some_or : List ℕ → List ℕ → List ℕ
 some_or [] others = others
 some_or (n ∷ numbers) others = n ∷ numbers
 
--- trusted, own: the numbers of the links that match the first range that one of them matches, or all where none does
+-- trusted, own: the numbers of the links that match the first range that one of them matches, or all if none is matched
 abbrev pub narrowed : List Link → List ℕ → List (List ℕ) → List ℕ
 narrowed links numbers [] = numbers
 narrowed links numbers (range ∷ ranges) = some_or (passing links (matches range) numbers) (narrowed links numbers ranges)

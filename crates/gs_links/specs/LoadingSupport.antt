@@ -1,4 +1,4 @@
--- What proofs and private functions say beside the definitions of Loading.antt.
+-- Definitions for proofs and private functions, in addition to those of Loading.antt.
 use Rattle.std.specs.Prelude.{ℕ, List, length, Err}
 use Rattle.std.specs.List.{flat_map}
 use Rattle.gs_chars.specs.Answers.{first_or}

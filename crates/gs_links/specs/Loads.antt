@@ -29,7 +29,8 @@ use Rattle.gs_links.specs.declared.link.Link.{Link}
 abbrev pub is_path : List ℕ → Bool
 is_path text = starts_with (λ a b. a == b) text (codes "/")
 
--- trusted, own: the pairs that an anchor names: as the target of a request where it begins with a slash, otherwise as a link
+-- trusted, own: the pairs that an anchor names: by the rule for request targets if it begins with a slash, otherwise by that
+-- for links
 unfoldable pub pairs_answer : List AiRow → List ℕ → Result (List Pair) LinkFault
 pairs_answer table text = if is_path text then target_answer table 0 text else link_answer table text
 
@@ -42,7 +43,7 @@ abbrev pub by_identity : Result Elements IdentFault → Result Elements AnchorWh
 by_identity (Ok identity) = without_attributes identity
 by_identity (Err error) = Err (Ident error)
 
--- trusted, own: the identity of the pairs of a link, or why they are not anchor
+-- trusted, own: the identity of the pairs of a link, or why they are not an anchor
 abbrev pub by_pairs : List AiRow → Result (List Pair) LinkFault → Result Elements AnchorWhy
 by_pairs table (Ok pairs) = by_identity (identity_of_pairs table pairs)
 by_pairs table (Err error) = Err (NoLink error)
@@ -58,7 +59,7 @@ anchor_answer table text = by_pairs table (pairs_answer table text)
 unfoldable pub is_reference : List ℕ → Bool
 is_reference text = nat_le 1 (length text) && (nat_le (length text) 2048 && list_all is_visible text)
 
--- trusted, own: the number of the first target whose `href` is none
+-- trusted, own: the number of the first target whose `href` is invalid
 abbrev pub bad_target : Relation → Option ℕ
 bad_target relation = position (λ target. not (is_reference target.href)) relation.targets
 
@@ -70,7 +71,7 @@ relation_errors i r relation = option_map_or (λ t. BadHref i r t ∷ []) (bad_t
 abbrev pub relations_errors : ℕ → List Relation → List StoreFault
 relations_errors i relations = flat_map (λ row. relation_errors i row.0 row.1) (enumerate_from 0 relations)
 
--- trusted, own: the error of an anchor, where it is none
+-- trusted, own: the error of an anchor, if it is invalid
 abbrev pub anchor_errors : ℕ → Result Elements AnchorWhy → List StoreFault
 anchor_errors i (Ok _) = []
 anchor_errors i (Err why) = BadAnchor i why ∷ []
@@ -94,11 +95,11 @@ store_errors table contexts =
 
 -- ---- links
 
--- trusted, own: a relation that begins with `gs1:` stands for the vocabulary and what comes after
+-- trusted, own: a relation that begins with `gs1:` stands for the vocabulary and the rest after this prefix
 unfoldable pub expanded : List ℕ → List ℕ → List ℕ
 expanded voc name = if starts_with (λ a b. a == b) name (codes "gs1:") then voc ++ drop 4 name else name
 
--- trusted, own: neither `gs1:` nor the vocabulary begins with the other, so what is expanded does not begin with `gs1:`
+-- trusted, own: neither `gs1:` nor the vocabulary begins with the other, so an expanded relation does not begin with `gs1:`
 unfoldable pub keeps_names : List ℕ → Bool
 keeps_names voc =
     not (starts_with (λ a b. a == b) voc (codes "gs1:")) && not (starts_with (λ a b. a == b) (codes "gs1:") voc)

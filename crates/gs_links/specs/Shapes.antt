@@ -1,4 +1,4 @@
--- The shape of a store's links: what a linkset in JSON can say of them (RFC 8259, section 8.1).
+-- The shape of a store's links: the links that a linkset in JSON can express (RFC 8259, section 8.1).
 use Rattle.std.specs.Prelude.{ℕ, Bool, ◌&&◌}
 use Rattle.std.specs.Str.{is_utf8}
 use Rattle.gs_ident.specs.Links.{canonical_link}

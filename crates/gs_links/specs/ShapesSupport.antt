@@ -1,4 +1,4 @@
--- What proofs and private functions say beside the definitions of Shapes.antt.
+-- Definitions for proofs and private functions, in addition to those of Shapes.antt.
 use Rattle.std.specs.Prelude.{◌≡◌, ◌≤◌, true, List, length}
 use Rattle.std.specs.List.{list_all}
 use Rattle.gs_links.specs.Index.{IsIndexOf}

@@ -36,7 +36,7 @@ fn without_attributes(identity: Identity) -> Result<Identity, AnchorWhy>
     }
 }
 
-/// Why an anchor that is not a link is none.
+/// Returns the reason for an anchor that is not a link.
 fn no_link(error: LinkFault) -> Result<AnchorWhy, Memory>
     ensures { IfOk result (λ why. (why ≡ NoLink error) × (error ≢ LinkFault.Memory)) }
 {
@@ -48,7 +48,7 @@ fn no_link(error: LinkFault) -> Result<AnchorWhy, Memory>
     }
 }
 
-/// Why an anchor whose pairs have no identity is none.
+/// Returns the reason for an anchor whose pairs have no identity.
 fn no_identity(error: IdentFault) -> Result<AnchorWhy, Memory>
     ensures { IfOk result (λ why. (why ≡ Ident error) × (error ≢ IdentFault.Memory)) }
 {

@@ -64,7 +64,7 @@ fn is_chosen(identity: &Identity, want: Want<'_>, depth: usize, link: &Link) -> 
     is_candidate(identity, want, link) && link.anchor.qualifiers().len() == depth
 }
 
-/// Puts at the start, of the numbers, those of candidates with that many qualifiers, and gives their number.
+/// Puts at the start those of the numbers that are of candidates with that many qualifiers. Returns their number.
 pub(crate) fn put_chosen(
     links: &[Link],
     numbers: &[u32],

@@ -2,10 +2,10 @@ use gs_chars::Memory;
 use gs_dlink::LinkFault;
 use gs_ident::IdentFault;
 
-/// Why an anchor is none.
+/// Why an anchor is invalid.
 #[derive(Drop)]
 pub enum AnchorWhy {
-    /// It is not a link, or no target of a link where it begins with a slash.
+    /// It is not a link or, if it begins with a slash, not a link's request target.
     Link(LinkFault),
     /// Its pairs have no identity.
     Ident(IdentFault),
@@ -18,7 +18,7 @@ pub enum AnchorWhy {
 pub enum StoreFault {
     /// It has more than 65,536 targets.
     TooMany,
-    /// The anchor of the context at this index is none.
+    /// The anchor of the context at this index is invalid.
     BadAnchor(usize, AnchorWhy),
     /// The context, the relation and the target whose `href` is not 1 to 2,048 bytes from 33 to 126.
     BadHref(usize, usize, usize),

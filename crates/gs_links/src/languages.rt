@@ -17,7 +17,7 @@ fn texts_of(value: &AttrValue) -> &[Text]
     }
 }
 
-/// Returns whether an attribute tells the languages of its target.
+/// Returns whether an attribute gives the languages of its target.
 fn is_hreflang(name: &[u8]) -> bool
     ensures { result ≡ bytes_eq name.now (codes "hreflang") }
 {
@@ -37,7 +37,7 @@ pub(crate) fn tags_of(link: &Link) -> &[Text]
     &[]
 }
 
-/// Returns whether a tag may end where these bytes come next.
+/// Returns whether a tag may end before these bytes.
 fn is_cut(rest: &[u8]) -> bool
     ensures { result ≡ is_cut rest.now }
 {

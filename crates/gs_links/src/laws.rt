@@ -9,21 +9,21 @@ ghost use Rattle.gs_links.specs.Loads.{expanded, keeps_names, load_answer};
 ghost use Rattle.gs_links.specs.declared.link.Link.{Link};
 ghost use Rattle.gs_links.specs.declared.link.Want.{Want};
 
-/// The prefixes of an identity are its key with its first k qualifiers, for each k up to their number.
+/// States that the prefixes of an identity are its key with its first k qualifiers, for each k up to their number.
 pub fn prefixes_of()
     ensures { (prefix identity : Elements) → (is_prefix prefix identity ≡ true)
         ↔ ((k : ℕ) × (k ≤ length identity.qualifiers) × (prefix ≡ first_qualifiers k identity)) }
 {}
 
-/// The choice depends on the identity's key and qualifiers alone.
+/// States that the choice depends only on the identity's key and qualifiers.
 pub fn by_key_and_qualifiers()
     ensures { (links : List Link) (a b : Elements) (want : Want) → a.key ≡ b.key → a.qualifiers ≡ b.qualifiers
         → (chosen links a want ≡ chosen links b want)
         × (chosen_depth links a want ≡ chosen_depth links b want) }
 {}
 
-/// A candidate hides every candidate with fewer qualifiers, and nothing else: the link of a number is chosen if and only if it is
-/// a candidate and no candidate has more qualifiers.
+/// States that a candidate hides every candidate with fewer qualifiers, and nothing else. The link of a number is chosen if and
+/// only if it is a candidate and no candidate has more qualifiers.
 pub fn deeper_hides()
     ensures { (links : List Link) (identity : Elements) (want : Want) (i : ℕ) (link : Link)
         → slice_get links i ≡ Some link
@@ -33,19 +33,19 @@ pub fn deeper_hides()
         → depth_of other ≤ depth_of link)) }
 {}
 
-/// The chosen links have one anchor: the identity's key with its first qualifiers, as many as the depth says.
+/// States that the chosen links have one anchor: the identity's key with its first qualifiers, as many as the depth says.
 pub fn one_anchor()
     ensures { (links : List Link) (identity : Elements) (want : Want) (i : ℕ) (link : Link)
         → IsAmong (chosen links identity want) i → slice_get links i ≡ Some link
         → link.anchor ≡ first_qualifiers (chosen_depth links identity want) identity }
 {}
 
-/// Under a vocabulary that keeps names, an expanded relation is not changed where it is expanded again.
+/// States that under a vocabulary that keeps names, expanding an expanded relation again does not change it.
 pub fn expanded_once()
     ensures { (voc name : List ℕ) → keeps_names voc ≡ true → expanded voc (expanded voc name) ≡ expanded voc name }
 {}
 
-/// Two linksets that have the same links, in one order, and that both load give the same links, however they are cut into
+/// States that two linksets with the same links, in one order, give the same links if both load, however they are cut into
 /// contexts.
 pub fn same_links_same_store()
     ensures { (table : List AiRow) (voc : List ℕ) (a b : List Context) (x y : List Link)
@@ -53,7 +53,7 @@ pub fn same_links_same_store()
         → load_answer table voc b ≡ Ok y → x ≡ y }
 {}
 
-/// The names of the links' relations are the one ascending list of these names without `anchor`.
+/// States that the names of the links' relations are the one ascending list of these names without `anchor`.
 pub fn names_of_relations()
     ensures { (links : List Link) (names : List (List ℕ)) → (names ≡ names_of links) ↔ AreNamesOf links names }
 {}

@@ -1,16 +1,16 @@
-//! The link store: the links of a linkset by the identities of their anchors, the choice of the links of an
-//! identity, by language too, and the document of these.
+//! The link store: the links of a linkset by the identities of their anchors. It chooses the links of an identity, by language
+//! too, and makes the document of these.
 //!
 //! - `Store::load` takes a linkset, or gives its first rejection.
 //! - `Store::choose` finds the links of an identity, of one relation or of all, at the longest of its prefixes that has one: a
 //!   link of a lot goes before one of the trade item.
-//! - `Store::narrow` keeps, of what was chosen, the links in the first wished language that one of them has.
-//! - `Store::document` makes a linkset of what was chosen.
+//! - `Store::narrow` keeps, of the chosen links, those in the first wished language that one of them has.
+//! - `Store::document` makes a linkset of the chosen links.
 //!
 //! # Example
 //!
-//! An anchor needs a key: the qualifier 21 alone names nothing. The gate runs this case, for which
-//! crates/vectors_texts/src/links.rt makes the call; the cases of `choose`, `narrow` and `document` stand beside it.
+//! An anchor needs a key: only the qualifier 21 names nothing. The gate runs this case, for which
+//! crates/vectors_texts/src/links.rt makes the call. That file also has the cases of `choose`, `narrow` and `document`.
 //!
 //! ```text
 //! gs_links::load {"linkset":[{"anchor":"/21/A"}]}
@@ -22,8 +22,8 @@
 //! - Each context has an `anchor`, which RFC 9264 leaves optional: a link has to belong to an identity.
 //! - An anchor is a Digital Link, with its host or without, and has no attributes, since links are chosen by keys and qualifiers.
 //! - That only the links of the longest prefix are chosen is a profile of this project.
-//! - A language range that none of the chosen links is in is passed over, and where none is left all stay: RFC 4647 leaves
-//!   open what then comes.
+//! - A language range that matches none of the chosen links is skipped, and all stay if none is left: RFC 4647 leaves this
+//!   open.
 //! - A store has at most 65,536 links; a reference has 1 to 2,048 bytes from 33 to 126.
 #![tactic(auto)]
 

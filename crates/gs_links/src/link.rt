@@ -4,7 +4,7 @@ use gs_linkset::Target;
 
 /// A link of a store.
 pub struct Link {
-    /// What the link is of: a key and qualifiers, without attributes.
+    /// The subject of the link: a key and qualifiers, without attributes.
     pub anchor: Identity,
     /// The relation type (RFC 9264, section 4.2.2), in which `gs1:` is expanded.
     pub relation: Text,
@@ -32,7 +32,7 @@ pub enum Want<'a> {
     Relation(&'a [u8]),
 }
 
-/// What a choice gave.
+/// The result of a choice.
 #[derive(Clone, Copy)]
 pub struct Chosen {
     /// The number of qualifiers in the anchors of the chosen links, and 0 if none is chosen.

@@ -36,7 +36,7 @@ fn bad_target(targets: &[Target]) -> Option<usize>
         .position(|target| !is_reference(target.href.as_bytes()))
 }
 
-/// The first rejection of the relations of the context at an index.
+/// Returns the first rejection of the relations of the context at an index.
 fn judge_relations(i: usize, relations: &[Relation]) -> Result<(), StoreFault>
     ensures { result ≡ first_or (relations_errors i relations.now) tt }
 {
@@ -153,7 +153,7 @@ fn push_context(
         ≡ links.old.items ++ context_links table.now voc.now context) }
     ensures shape { IfOk result (λ _. list_all is_link (context_links table.now voc.now context) ≡ true) }
 {
-    // For the proof alone: the rows satisfy the rules.
+    // Only for the proof: the rows satisfy the rules.
     let _ = table.rows();
     let anchor = judge_context(alloc, table, i, &context)?;
     push_relations(alloc, voc, &anchor, context.relations, links)?;

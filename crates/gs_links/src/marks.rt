@@ -28,7 +28,7 @@ fn hash_of(text: &[u8]) -> u64
     hash
 }
 
-/// What is at the place of a text with the hash.
+/// Returns the mark at the place of a text with the hash.
 fn mark_at(marks: &[u16], hash: u64) -> usize
     requires { length marks.now ≡ 65536 }
     ensures { result ≡ slice_index marks.now (hash % 65536) }
@@ -36,7 +36,7 @@ fn mark_at(marks: &[u16], hash: u64) -> usize
     marks[(hash % 65_536) as usize] as usize
 }
 
-/// Puts the number of a range at its place, where no lower one is there.
+/// Puts the number of a range at its place, unless a lower one is already at it.
 fn put_mark(marks: &mut [u16], place: usize, number: usize)
     requires { place < length marks.old }
     ensures lower { (p : ℕ) → slice_index marks.new p ≤ slice_index marks.old p }
@@ -56,7 +56,7 @@ pub(crate) fn put_marks(marks: &mut [u16], ranges: &[Text])
     }
 }
 
-/// Returns the lower of a number and the mark of a prefix with the hash, where this byte lets a range end after it.
+/// Returns the lower of a number and the mark of a prefix with the hash, if this byte lets a range end after it.
 fn least_before(marks: &[u16], least: usize, hash: u64, byte: u8) -> usize
     requires { length marks.now ≡ 65536 }
     ensures less { result ≤ least }
@@ -69,7 +69,7 @@ fn least_before(marks: &[u16], least: usize, hash: u64, byte: u8) -> usize
     }
 }
 
-/// Returns no more than the number of a range that a tag is in.
+/// Returns at most the number of a range that a tag is in.
 fn least_of_tag(marks: &[u16], tag: &[u8]) -> usize
     requires { length marks.now ≡ 65536 }
     ensures { IsLeast marks.now tag.now result }
@@ -83,7 +83,7 @@ fn least_of_tag(marks: &[u16], tag: &[u8]) -> usize
     least.min(mark_at(marks, hash))
 }
 
-/// Returns no more than the number of a range that one of the tags is in.
+/// Returns at most the number of a range that one of the tags is in.
 pub(crate) fn least_of_tags(marks: &[u16], tags: &[Text]) -> usize
     requires { length marks.now ≡ 65536 }
     ensures { (t : ℕ) (tag : List ℕ) → slice_get tags.now t ≡ Some tag → IsLeast marks.now tag result }

@@ -58,8 +58,8 @@ fn first_of_link(ranges: &[Text], link: &Link, from: usize, to: usize) -> usize
     to
 }
 
-/// Returns the number of the first range that the link of one of the numbers matches, or how many ranges there are. None is `*`.
-/// By the marks of the ranges a link is compared with those that it may match alone.
+/// Returns the number of the first range that the link of one of the numbers matches, or how many ranges there are. None is
+/// `*`. By the marks of the ranges a link is compared only with those that it may match.
 fn first_marked(links: &[Link], numbers: &[u32], ranges: &[Text], marks: &[u16]) -> usize
     requires known { All (λ i. i < length links.now) numbers.now }
     requires other { (k : ℕ) (range : List ℕ) → slice_get ranges.now k ≡ Some range → is_any range ≡ false }
@@ -95,8 +95,8 @@ fn first_matched(links: &[Link], numbers: &[u32], ranges: &[Text]) -> usize
     first_marked(links, numbers, ranges, &marks)
 }
 
-/// Puts at the start, of the numbers, those of links that match the first range that one of them matches, or all where none does,
-/// and gives their number. The marks of the ranges are made.
+/// Puts at the start those of the numbers whose links match the first range that one of them matches. It puts all if no range
+/// is matched. Returns their number. The marks of the ranges are made.
 fn put_by_ranges(links: &[Link], numbers: &[u32], ranges: &[Text], out: &mut [u32]) -> usize
     requires known { All (λ i. i < length links.now) numbers.now }
     requires room { length numbers.now ≤ length out.now }
@@ -121,8 +121,8 @@ fn put_all(numbers: &[u32], out: &mut [u32]) -> usize
     numbers.len()
 }
 
-/// Puts at the start, of the numbers, those of links that match the first range that one of them matches, or all where none does,
-/// and gives their number. Without a range, as for most requests, no marks are made.
+/// Puts at the start those of the numbers whose links match the first range that one of them matches. It puts all if no range
+/// is matched. Returns their number. Without a range, as for most requests, no marks are made.
 pub(crate) fn put_narrowed(
     links: &[Link],
     numbers: &[u32],

@@ -1,4 +1,4 @@
--- Names that ascend, and texts that are no UTF-8.
+-- Names that ascend, and texts that are not valid UTF-8.
 use Rattle.std.proofs.Common.{◌≡◌, ℕ, zero, suc, ◌+◌, ◌-◌, ◌<◌, ◌≤◌, ◌&&◌, Bool, true, false, List, [], ◌∷◌, length, take, map, get_or, Some, None, slice_get, refl, sym, ◌∙◌, inl, inr, not, Option, Less, arith}
 use Rattle.std.specs.Cmp.Lexicographic.{slice_cmp}
 use Rattle.std.specs.List.{AllByRecursion, cons_option, filter_map, list_all, position, position_from}
@@ -61,11 +61,11 @@ none_breaks t (x ∷ xs) i h = elim (true_or_false (t x)) [
   | inr e ↦ absurd (let g = rw e at h in let bad : Some i ≡ None = g in cc)
 ]
 
--- where no context breaks the shape, all have it
+-- if no context breaks the shape, all have it
 pub all_shaped : (contexts : List Context) → position (λ c. not (is_context c)) contexts ≡ None → list_all is_context contexts ≡ true
 all_shaped contexts h = none_breaks is_context contexts 0 (sym (position_from-zero (λ c. not (is_context c)) contexts) ∙ h)
 
--- ---- the names of what is kept of ascending names
+-- ---- the names that remain of ascending names
 
 module _ {X : Type 0} (name : X → List ℕ) (h : List ℕ → Option X) (own : (n : List ℕ) (x : X) → h n ≡ Some x → name x ≡ n) where
   first_by : (n m : List ℕ) (ns : List (List ℕ)) (o : Option X) → h m ≡ o → slice_cmp nat_cmp n m ≡ Less → is_below_first n (map name (filter_map h ns)) ≡ true → is_below_first n (map name (cons_option o (filter_map h ns))) ≡ true

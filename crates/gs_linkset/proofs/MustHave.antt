@@ -1,4 +1,4 @@
--- A member that an object must have: its error, or what is read of it.
+-- A member that an object must have: its error, or its reading.
 use Rattle.std.proofs.Common.{◌≡◌, ℕ, true, List, Option, Some, None, option_map, refl, ap, inl, inr}
 use Rattle.std.specs.Prelude.{Result, Ok, Err, is_some, unwrap_or, option_and_then}
 use Rattle.serde_json.specs.Data.{Data, null, boolean, number, string, array, object}
@@ -17,7 +17,7 @@ same_rejection : {X Y : Type 0} (e f : JsonFault) → OrMemory {X = X} (Err e) (
 same_rejection e f (inl h) = inl (let same : e ≡ Memory = cc in ap Err same)
 same_rejection e f (inr h) = inr (let same : e ≡ f = cc in ap Err same)
 
--- what is no array has no number of items
+-- only an array has a number of items
 pub array_errors : (place : List ℕ) (d : Data) → sort_errors place Array d ≡ kind_errors place (is_some (count_of d))
 array_errors place null = refl
 array_errors place (boolean b) = refl
@@ -72,7 +72,7 @@ module _ {X : Type 0} (sort : Sort) (made : Data → Option X) (none : X) (known
       let there : at ≡ place_of_it = ap (λ (p : Data × List ℕ). p.1) both in
       rw known (asked_of place_of_it (made e) r (rw (same, there) at h))
 
-  -- what is read of the member is the answer
+  -- the reading of the member is the answer
   pub member_read : (whole d : Data) (at : List ℕ) (r : Result X JsonFault) → was d at ≡ found whole → OrMemory r (asked at (made d)) → OrMemory r (answer whole)
   member_read null d at r own h = absurd (let g : was d at ≡ Err (Kind place) = own in cc)
   member_read (boolean b) d at r own h = absurd (let g : was d at ≡ Err (Kind place) = own in cc)

@@ -10,7 +10,7 @@ use Rattle.gs_json.specs.Members.{array_in, items_of}
 use Rattle.gs_json.proofs.ArrayItems.{listed}
 use Rattle.gs_linkset.specs.Attributes.{every}
 
--- what is no array has no items
+-- only an array has items
 pub no_array : (d : Data) → None ≡ count_of d → array_in d ≡ None
 no_array null h = refl
 no_array (boolean b) h = refl
@@ -28,7 +28,7 @@ is_array (string s) n h = absurd (cc)
 is_array (array items) n h = refl
 is_array (object _) n h = absurd (cc)
 
--- what is read of all items of an array
+-- the readings of all items of an array
 pub whole_array : {Y : Type 0} (f : Data → Option Y) (d : Data) (values : List Tree) (r : Option (List Y)) → Some (items_view values) ≡ as_array d → r ≡ every f (map view values) → r ≡ option_and_then (every f) (array_in d)
 whole_array f d values r h e = rw (← h) (e ∙ ap (every f) (listed values))
 

@@ -1,4 +1,4 @@
--- Trees of texts, arrays and objects whose names ascend: what is written of them is UTF-8 and is read as the same tree.
+-- Trees of texts, arrays and objects whose names ascend: their text is UTF-8 and is read as the same tree.
 use Rattle.std.proofs.Common.{◌≡◌, ◌≤◌, ℕ, List, [], ◌∷◌, Bool, true, false, Option, Some, Ordering, Less, Equal, Greater, refl, sym, ap, ◌∙◌, arith, append-nil}
 use Rattle.std.specs.Prelude.{⊤, option_and_then, option_map}
 use Rattle.std.specs.Cmp.Lexicographic.{slice_cmp}

@@ -1,4 +1,4 @@
--- What is read item by item, and name by name.
+-- Readings item by item, and name by name.
 use Rattle.std.proofs.Common.{◌≡◌, Bool, true, false, codes, ℕ, zero, suc, ◌+◌, ◌≤◌, List, [], ◌∷◌, ◌++◌, length, take, map, Option, Some, None, slice_get, refl, sym, ap, ◌∙◌, inl, inr, arith}
 use Rattle.std.specs.Prelude.{IfSome, Result, Ok, Err, option_map, option_and_then, unwrap_or}
 use Rattle.std.specs.List.{cons_option, enumerate_from, filter_map, flat_map, list_all}
@@ -33,7 +33,7 @@ error_in_front a b x y e (inl h) = inl (let same : e ≡ Memory = cc in ap Err s
 error_in_front [] b x y e (inr h) = absurd (let g : Err e ≡ Ok x = h in cc)
 error_in_front (f ∷ a) b x y e (inr h) = inr (let same : e ≡ f = cc in ap Err same)
 
--- what a reading without error says
+-- the facts that a reading without error gives
 pub none_first : {X : Type 0} (a : List JsonFault) (x z : X) → OrMemory (Ok z) (first_or a x) → (a ≡ []) × (z ≡ x)
 none_first a x z (inl h) = absurd (let g : Ok z ≡ Err Memory = h in cc)
 none_first [] x z (inr h) = (refl, let g : Ok z ≡ Ok x = h in cc)
@@ -64,7 +64,7 @@ take_one (y ∷ ys) (suc i) x at = ap (λ zs. y ∷ zs) (take_one ys i x at)
 pub take_next : {X : Type 0} (xs : List X) (i : ℕ) (x : X) → slice_get xs i ≡ Some x → take (i + 1) xs ≡ take i xs ++ x ∷ []
 take_next xs i x at = let next : i + 1 ≡ suc i = omega arith in rw next (take_one xs i x at)
 
--- ---- what each item gives
+-- ---- the reading of each item
 
 pub mapped_more : {X Y : Type 0} (f : X → Y) (xs : List X) (i : ℕ) (x : X) (ys : List Y) (y : Y) (zs : List Y) → slice_get xs i ≡ Some x → ys ≡ map f (take i xs) → y ≡ f x → zs ≡ ys ++ y ∷ [] → zs ≡ map f (take (i + 1) xs)
 mapped_more f xs i x ys y zs at so_far own e = rw (e, so_far, own, take_next xs i x at, map-append) refl
@@ -105,7 +105,7 @@ module _ {X Y : Type 0} (f : X → Option Y) where
   pub every_all : (xs : List X) (i : ℕ) (ys : List Y) → length xs ≤ i → every f (take i xs) ≡ Some ys → every f xs ≡ Some ys
   every_all xs i ys all h = rw (take_all xs i all) at h
 
--- ---- errors, one after the other
+-- ---- concatenated errors
 
 module _ {A : Type 0} (errors : A → List JsonFault) where
   split : (list : List A) (i : ℕ) (a : A) → slice_get list i ≡ Some a → flat_map errors (take i list) ≡ [] → (rest : List JsonFault) × (flat_map errors list ≡ errors a ++ rest)
@@ -153,7 +153,7 @@ rows_from : {X : Type 0} (n : ℕ) (xs : List X) → length (enumerate_from n xs
 rows_from n [] = refl
 rows_from n (x ∷ xs) = ap suc (rows_from (n + 1) xs)
 
--- ---- what each name gives
+-- ---- the reading of each name
 
 map_length : {N A : Type 0} (f : N → A) (ns : List N) → length (map f ns) ≡ length ns
 map_length f [] = refl
@@ -186,13 +186,13 @@ pub relation_shaped : (name : List ℕ) (targets : List Target) → bytes_eq nam
 unfolding is_relation
 relation_shaped name targets a b c = rw (a, b, c) refl
 
--- ---- items of an array, each with its errors and what it is read as
+-- ---- items of an array, each with its errors and its reading
 
 module _ {Y : Type 0} (errors : List ℕ → Data → List JsonFault) (made : Data → Y) (place : List ℕ) (items : List Data) where
   abbrev row_errors : ℕ × Data → List JsonFault
   row_errors row = errors (item_place place row.0) row.1
 
-  -- what is known of the items before a place
+  -- the known facts about the items before a place
   pub record SoFar (read : List Y) (i : ℕ) : Type 0 where
     pub none : flat_map row_errors (take i (enumerate_from 0 items)) ≡ []
     pub read_as : read ≡ map made (take i items)
@@ -210,7 +210,7 @@ module _ {Y : Type 0} (errors : List ℕ → Data → List JsonFault) (made : Da
       let few : length (enumerate_from 0 items) ≤ i = rw (rows_from 0 items) all in
       all_read (item_errors errors place items) (map made items) read (none_all row_errors (enumerate_from 0 items) i few so_far.none) (rw (take_all items i all) at so_far.read_as)
 
--- the same for the items of what is an array
+-- the same for the items of an array
 module _ {Y : Type 0} (errors : List ℕ → Data → List JsonFault) (made : Data → Y) (place : List ℕ) (whole : Data) where
   abbrev answer_at : List ℕ → Data → Result Y JsonFault
   answer_at at d = first_or (errors at d) (made d)
@@ -223,7 +223,7 @@ module _ {Y : Type 0} (errors : List ℕ → Data → List JsonFault) (made : Da
   array_read read i y more so_far (inl h) e = absurd (let g : Ok y ≡ Err Memory = h in cc)
   array_read read i y more so_far (inr p) e = item_read errors made place (items_of whole) read i p.0 y more so_far (items_at whole i ∙ sym p.1) p.2 e
 
--- ---- members of an object, each with its errors and what it is read as
+-- ---- members of an object, each with its errors and its reading
 
 module _ {X : Type 0} (errors : List ℕ → List JsonFault) (made : List ℕ → Option X) (shape : X → Bool) (names : List (List ℕ)) where
   pub record Found (read : List X) (i : ℕ) : Type 0 where

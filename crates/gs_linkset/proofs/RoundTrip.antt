@@ -1,4 +1,4 @@
--- What is written of a document is read as that document.
+-- The text written of a document is read as that document.
 use Rattle.std.proofs.Common.{◌≡◌, ◌≤◌, ℕ, zero, suc, ◌+◌, List, [], ◌∷◌, map, Bool, true, false, Option, Some, None, slice_get, codes, Ordering, Less, Equal, Greater, refl, sym, ap, ◌∙◌, arith}
 use Rattle.std.specs.Prelude.{Ok, not}
 use Rattle.std.specs.Cmp.Lexicographic.{slice_cmp}
@@ -129,7 +129,7 @@ module _ (g : List ℕ → List JsonFault) (k : List ℕ) (d : Data) (none : g k
   errorless no_members = rw none refl
   errorless (member l e ms) = errorless_by (slice_cmp nat_cmp k l) l e ms (errorless ms)
 
--- the text that was put at a name is there, and has no error
+-- the text that was put at a name is found and has no error
 module _ (k : List ℕ) (s : List ℕ) (ms : Members) where
   text_there : text_in k (object (put k (string s) ms)) ≡ s
   text_there = rw (get_member-put k (string s) ms) refl

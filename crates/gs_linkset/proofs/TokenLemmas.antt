@@ -1,5 +1,10 @@
+<<<<<<< HEAD
 -- What is appended token by token: the tokens of the tree of what is written.
 use Rattle.std.proofs.Common.{◌≡◌, ◌≤◌, ℕ, zero, suc, ◌+◌, Bool, true, false, if◌then◌else◌, List, [], ◌∷◌, ◌++◌, length, map, take, drop, codes, refl, sym, ap, ◌∙◌, Ordering, Less, Equal, Greater, arith, append_assoc, append-nil}
+=======
+-- The text is appended token by token: these are the tokens of the document's tree.
+use Rattle.std.proofs.Common.{◌≡◌, ◌≤◌, ℕ, zero, suc, ◌+◌, Bool, true, false, if◌then◌else◌, List, [], ◌∷◌, ◌++◌, length, map, take, drop, codes, Some, slice_get, refl, sym, ap, ◌∙◌, Ordering, Less, Equal, Greater, arith, append_assoc, append-nil}
+>>>>>>> f4143ae837538d0a87f240bf0b1e499e2626e96a
 use Rattle.std.specs.Prelude.{not}
 use Rattle.std.specs.Cmp.Lexicographic.{slice_cmp}
 use Rattle.std.specs.List.{list_all}
@@ -59,7 +64,7 @@ module _ {X : Type 0} (name : X → List ℕ) (see : X → Data) where
   member_list [] = refl
   member_list (x ∷ xs) = ap (λ ts. member_tokens name see x ++ ts) (member_list xs) ∙ sym (append_assoc (member_tokens name see x) (members_tokens name see xs) (end_object ∷ []))
 
-  -- the tokens with a text more behind the first n
+  -- the tokens with one more text after the first n
   abbrev split_tokens : List ℕ → List ℕ → ℕ → List X → List Token
   split_tokens k v n xs = members_tokens name see (take n xs) ++ (text_tokens k v ++ (members_tokens name see (drop n xs) ++ end_object ∷ []))
 
@@ -107,7 +112,15 @@ module _ {X : Type 0} (name : X → List ℕ) (see : X → Data) where
       let step : count_below k (map name (drop i xs)) ≡ 0 = rw (at, above) refl in
       omega (arith, step, so_far)
 
+<<<<<<< HEAD
 -- ---- the shape of what is written
+=======
+pub tagged_tokens : (text language : List ℕ) → tokens_of (tagged_tree (text, language)) ≡ begin_object ∷ (language_tokens language ++ (text_tokens (codes "value") text ++ end_object ∷ []))
+tagged_tokens text [] = refl
+tagged_tokens text (c ∷ language) = refl
+
+-- ---- the shape of the written text
+>>>>>>> f4143ae837538d0a87f240bf0b1e499e2626e96a
 
 pub all_take : {X : Type 0} (t : X → Bool) (n : ℕ) (xs : List X) → list_all t xs ≡ true → list_all t (take n xs) ≡ true
 all_take t zero xs h = refl

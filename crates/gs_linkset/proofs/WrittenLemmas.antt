@@ -1,4 +1,4 @@
--- What is written of a document: members in ascending order of name, and texts that are UTF-8.
+-- The text written of a document: members in ascending order of name, and texts that are UTF-8.
 use Rattle.std.proofs.Common.{◌≡◌, ℕ, zero, suc, Bool, true, List, [], ◌∷◌, map, Some, None, slice_get, refl, Ordering, Less, Equal, Greater}
 use Rattle.std.specs.Prelude.{Result, Ok, Err, IsOk, MatchResult, codes, not}
 use Rattle.std.specs.Cmp.Lexicographic.{slice_cmp}
@@ -52,7 +52,7 @@ module _ {X : Type 0} (name : X → List ℕ) (tree : X → Data) where
   below_at a (y ∷ xs) zero x all at = let same : y ≡ x = cc in rw (← same) all.0
   below_at a (y ∷ xs) (suc i) x all at = below_at a xs i x all.1 at
 
--- ---- the shape of what is written
+-- ---- the shape of the written text
 
 pub true_at : {X : Type 0} (t : X → Bool) (xs : List X) (i : ℕ) (x : X) → list_all t xs ≡ true → slice_get xs i ≡ Some x → t x ≡ true
 true_at t [] i x all at = absurd (let g : None ≡ Some x = at in cc)

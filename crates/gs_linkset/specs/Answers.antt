@@ -1,4 +1,4 @@
--- The answers of reading. `Memory` may come instead of each.
+-- The answers of reading. `Memory` may be returned instead of each.
 use Rattle.std.specs.Prelude.{ℕ, List, Result, Err}
 use Rattle.std.specs.Option.{option_map_or}
 use Rattle.serde_json.specs.Data.{Data}

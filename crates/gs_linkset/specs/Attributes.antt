@@ -15,7 +15,7 @@ abbrev pub every : {X Y : Type 0} → (X → Option Y) → List X → Option (Li
 every f [] = Some []
 every f (x ∷ xs) = option_and_then (λ y. option_map (λ ys. y ∷ ys) (every f xs)) (f x)
 
--- trusted, RFC 9264, section 4.2.4.2: whether `name` ends in `*`, as those of internationalized attributes do
+-- trusted, RFC 9264, section 4.2.4.2: whether `name` ends in `*`, like those of internationalized attributes
 abbrev pub is_tagged : List ℕ → Bool
 is_tagged name = ends_with (λ a b. a == b) name (codes "*")
 

@@ -11,7 +11,7 @@ use Rattle.gs_linkset.specs.declared.link_types.Context.{Context}
 use Rattle.gs_linkset.specs.declared.link_types.Relation.{Relation}
 use Rattle.gs_linkset.specs.declared.link_types.Target.{Target}
 
--- trusted, own: the array of the trees of the things
+-- trusted, own: the array of the trees of the items
 abbrev pub array_by : {X : Type 0} → (X → Data) → List X → Data
 array_by tree things = array (listed (map tree things))
 

@@ -4,7 +4,7 @@ use crate::link_types::{Attr, AttrValue, Target};
 use gs_chars::{List, Memory, Text};
 use std::alloc::Global;
 
-/// A thing that can be copied.
+/// A value that can be copied.
 trait Copied: Drop {
     /// Returns an equal value.
     fn copied(&self, alloc: Global) -> Result<Self, Memory>

@@ -10,14 +10,15 @@ use std::marker::Model;
 /// Why contexts are not a linkset. Contexts are counted from 0.
 #[derive(Debug, Drop)]
 pub enum DocFault {
-    /// The context at this index has a text that is not valid UTF-8, names of relations or attributes that do not ascend
-    /// strictly, a relation `anchor`, an attribute `href`, or a value that is not of the kind of its attribute's name.
+    /// The context at this index breaks a rule of shape: a text is not valid UTF-8, or names of relations or attributes do not
+    /// ascend strictly. Or it has a relation `anchor`, an attribute `href`, or a value that is not of the kind of its
+    /// attribute's name.
     Shape(usize),
 }
 
 /// A linkset (RFC 9264). Contracts see its contexts in their order. In each context all texts are UTF-8, the names of relations
-/// and of attributes ascend strictly, no relation is `anchor`, no attribute is `href`, and each attribute's value is of the kind
-/// of its name.
+/// and of attributes ascend strictly, and no relation is `anchor`. No attribute is `href`, and each attribute's value is of the
+/// kind of its name.
 #[derive(Drop)]
 pub struct LinkDoc {
     contexts: List<Context>,

@@ -21,17 +21,17 @@ pub(crate) trait ReadMember: Named + Drop {
     /// The errors of the member of a name, in an object at a place.
     ghost errors: { List ℕ → Data → List ℕ → List JsonFault };
 
-    /// The thing that the member of a name is, if it is one.
+    /// The value of the member of a name, if it has this form.
     ghost made: { Data → List ℕ → Option Self };
 
-    /// Reads the member of a name. Returns `None` if it is not such a thing.
+    /// Reads the member of a name. Returns `None` if it is not such a member.
     fn read(alloc: Global, object: &Node<'_>, name: &str) -> Result<Option<Self>, JsonFault>
         ensures answer { OrMemory result (first_or
             (errors object.now.place (view object.now.tree) name.now)
             (made (view object.now.tree) name.now)) }
         ensures shape { IfOk result (λ read. IfSome read (λ read. Self.shape read ≡ true)) };
 
-    /// A thing that is read of the member of a name has that name.
+    /// The value that is read of the member of a name has that name.
     ghost has_name: { (d : Data) (name : List ℕ) (read : Self) → made d name ≡ Some read
         → Self.name_of read ≡ name };
 }

@@ -29,7 +29,7 @@ trait ReadItem: Shaped + Drop {
     /// The errors of an item at a place.
     ghost errors: { List ℕ → Data → List JsonFault };
 
-    /// The thing that an item without error is.
+    /// The value of an item without error.
     ghost made: { Data → Self };
 
     /// Reads an item, or returns its first error.

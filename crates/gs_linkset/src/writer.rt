@@ -20,7 +20,7 @@ use std::str;
 /// The bytes that a new text has room for, so that a short one is not moved as it grows.
 const ROOM: usize = 128;
 
-/// A thing that is written as a value.
+/// An object that is written as a value.
 trait ToJson: Shaped {
     ghost use Rattle.serde_json.specs.Data.{Data};
 
@@ -33,14 +33,14 @@ trait ToJson: Shaped {
         ensures { OnOk result (Adds out.old out.new (tokens_of (tree self.now))) };
 }
 
-/// A thing that is written as a member of an object.
+/// An object that is written as a member of a JSON object.
 trait Member: ToJson {
     ghost use Rattle.std.specs.Prelude.{List, ℕ};
 
     /// The name of the member.
     ghost key_of: { Self → List ℕ };
 
-    /// The name of the member.
+    /// Returns the name of the member.
     fn key(&self) -> &str
         requires { Self.shape self.now ≡ true }
         ensures { result.now ≡ key_of self.now };
@@ -64,7 +64,7 @@ fn put_text(out: &mut Writer, name: &str, text: &Text) -> Result<(), Memory>
     text.append(out)
 }
 
-/// Appends things one at a time.
+/// Appends values one at a time.
 fn put_items<T: ToJson>(out: &mut Writer, things: &[T]) -> Result<(), Memory>
     requires { list_all T.shape things.now ≡ true }
     ensures { OnOk result (Adds out.old out.new (item_tokens T.tree things.now)) }
@@ -75,7 +75,7 @@ fn put_items<T: ToJson>(out: &mut Writer, things: &[T]) -> Result<(), Memory>
     Ok(())
 }
 
-/// Appends things as an array.
+/// Appends values as an array.
 fn put_array<T: ToJson>(out: &mut Writer, things: &[T]) -> Result<(), Memory>
     requires { list_all T.shape things.now ≡ true }
     ensures { OnOk result (Adds out.old out.new (tokens_of (array_by T.tree things.now))) }
@@ -94,7 +94,7 @@ fn put_member<T: Member>(out: &mut Writer, thing: &T) -> Result<(), Memory>
     thing.append(out)
 }
 
-/// Appends things as members one at a time.
+/// Appends members one at a time.
 fn put_members<T: Member>(out: &mut Writer, things: &[T]) -> Result<(), Memory>
     requires { list_all T.shape things.now ≡ true }
     ensures { OnOk result (Adds out.old out.new (members_tokens T.key_of T.tree things.now)) }
@@ -112,7 +112,7 @@ fn is_below(a: &str, b: &str) -> bool
     a.as_bytes().cmp(b.as_bytes()).is_lt()
 }
 
-/// Returns the number of first things whose names are below this one.
+/// Returns the number of first members whose names are below this one.
 fn count_below<T: Member>(things: &[T], name: &str) -> usize
     requires { list_all T.shape things.now ≡ true }
     ensures count { result ≡ count_below name.now (map T.key_of things.now) }
@@ -127,7 +127,7 @@ fn count_below<T: Member>(things: &[T], name: &str) -> usize
     things.len()
 }
 
-/// Appends an object of things, whose names ascend, and of one more text in its order among them. None of the things has its
+/// Appends an object of members, whose names ascend, and of one more text in its order among them. None of the members has its
 /// name.
 fn put_object<T: Member>(
     out: &mut Writer,
@@ -273,8 +273,8 @@ fn put_document(out: &mut Writer, contexts: &[Context]) -> Result<(), Memory>
     put(out, Token::EndObject)
 }
 
-/// Writes a linkset in JSON (RFC 9264, section 4.2), with no space, the members of each object in ascending order of name, and no
-/// empty language. Fails only with `Memory`.
+/// Writes a linkset in JSON (RFC 9264, section 4.2), with no space and no empty language. The members of each object are in
+/// ascending order of name. Fails only with `Memory`.
 pub fn write(alloc: Global, doc: &LinkDoc) -> Result<Text, Memory>
     ensures { IfOk result (λ text. text ≡ written doc.now) }
 {

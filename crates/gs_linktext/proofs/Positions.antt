@@ -1,4 +1,4 @@
--- If an item is in a list, and in the list of what its items are seen as.
+-- Whether an item is in a list, and in the list of the views of its items.
 use Rattle.std.proofs.Common.{◌≡◌, ◌+◌, not, Bool, List, [], ◌∷◌, cond, length, map, position, refl, ap, suc}
 use Rattle.std.specs.List.{prefix_len}
 use Rattle.gs_linktext.specs.Lent.{seen}

@@ -22,7 +22,7 @@ use Rattle.gs_linktext.proofs.SpelledLexemes.{attr_params, behind_lexemes, is_sp
 use Rattle.gs_linktext.proofs.SpelledLinks.{link_spelt, links_spelt, AreGoodAttrs, AreGoodLinks, IsGoodLink}
 use Rattle.gs_chars.proofs.TruthsAndLists.{and_first, and_second, and_true, false_from_not, not_false}
 
--- what a lexeme says
+-- the value of a lexeme
 abbrev pub said : Lexeme → List ℕ
 said Comma = []
 said Semicolon = []

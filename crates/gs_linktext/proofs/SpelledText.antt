@@ -1,4 +1,4 @@
--- The spelling of a document of which each link can be spelled.
+-- The spelling of a document whose links can all be spelled.
 use Rattle.std.proofs.Common.{◌≡◌, List, None, map, position, true, ◌∙◌}
 use Rattle.std.specs.List.{list_all}
 use Rattle.gs_linkset.specs.LinkShapes.{is_context, links_of_document}

@@ -96,7 +96,7 @@ pub record IsLinksOfLink (link : WrittenLink) (links : List (List ℕ × List �
   pub attributes : IsAttributes link.params attrs
   pub is : links ≡ map (λ type. (unwrap_or (first_value (codes "anchor") link.params) [], type, record { href = link.href; attrs = attrs })) (types_of link.params)
 
--- trusted, own: the links of written links, one after the other
+-- trusted, own: the links of written links, in their order
 abbrev pub IsLinksOf : List WrittenLink → List (List ℕ × List ℕ × Target) → Type 0
 IsLinksOf [] links = links ≡ []
 IsLinksOf (link ∷ others) links =

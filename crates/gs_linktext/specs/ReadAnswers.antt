@@ -22,8 +22,7 @@ pub record IsReadAs (bytes : List ℕ) (contexts : List Context) : Type 0 where
 abbrev pub HasFirstError : List ℕ → LinkTextFault → Type 0
 HasFirstError bytes error = (written : List WrittenLink) × IsDocument bytes written × (first_error 0 written ≡ Some error)
 
--- trusted, own: the error is a syntax error if the bytes are not document, the first error of a document, or says that memory ran
--- out
+-- trusted, own: the error is a syntax error if the bytes are not a document, the first error of a document, or `Memory`
 abbrev pub IsReadError : List ℕ → LinkTextFault → Type 0
 IsReadError bytes Syntax = (written : List WrittenLink) → IsDocument bytes written → ⊥
 IsReadError bytes (Anchor i) = HasFirstError bytes (Anchor i)
@@ -37,7 +36,7 @@ pub record IsTextOf (bytes : List ℕ) (links : List (List ℕ × List ℕ × Ta
   pub error_free : first_error 0 written ≡ None
   pub given : IsLinksOf written links
 
--- trusted, own: two errors are the same, or one of them says that memory ran out
+-- trusted, own: two errors are the same, or one of them is `Memory`
 abbrev pub IsSameOrMemory : LinkTextFault → LinkTextFault → Type 0
 IsSameOrMemory f g = (f ≡ g) ⊎ ((f ≡ Memory) ⊎ (g ≡ Memory))
 

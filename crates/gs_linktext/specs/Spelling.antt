@@ -75,7 +75,7 @@ spelled_links (link ∷ links) = spelled_link link ++ flat_map spelled_behind li
 abbrev pub spelled : List Context → List ℕ
 spelled contexts = spelled_links (links_of_document contexts)
 
--- ---- what cannot be spelled
+-- ---- texts that cannot be spelled
 
 -- trusted, own: holds if a target URI is empty, or has a byte that is not allowed between `<` and `>`
 abbrev pub is_unspellable_href : List ℕ → Bool

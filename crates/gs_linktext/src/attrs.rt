@@ -156,7 +156,7 @@ fn first_copy(alloc: Global, values: &[CheckedText]) -> Result<Option<AttrValue>
     Ok(Some(AttrValue::One(first.copy(alloc)?)))
 }
 
-/// Returns the value of an attribute, from the values of its name. `None` is returned if they give none.
+/// Returns the value of an attribute, from the values of its name, or `None` if they do not give one.
 fn attr_value(
     alloc: Global,
     name: &[u8],
@@ -182,7 +182,7 @@ fn attr_value(
     Ok(Some(AttrValue::Many(List::from_vec(texts))))
 }
 
-/// Returns the attribute of a name and its values. `None` is returned if they give none.
+/// Returns the attribute of a name and its values, or `None` if they do not give one.
 fn attr_with(
     alloc: Global,
     name: &CheckedText,

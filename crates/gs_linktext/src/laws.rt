@@ -9,16 +9,15 @@ ghost use Rattle.gs_linktext_grammar.specs.declared.error.LinkTextFault.{LinkTex
 ghost use Rattle.gs_linktext_grammar.specs.declared.error.LinkTextFault.TheVariants.{Memory};
 ghost use Rattle.gs_linktext.specs.Spelling.{cannot_spell, spelled};
 
-/// States that the text of a document of which each link can be spelled is a document of the grammar, without an error, and that
-/// its links are those of the document.
+/// States that if each link of a document can be spelled, its text is a document of the grammar without an error. The links of
+/// that text are those of the document.
 pub fn spelled_is_read()
     ensures { (doc : List Context) → list_all is_context doc ≡ true
         → position cannot_spell (links_of_document doc) ≡ None
         → IsTextOf (spelled doc) (links_of_document doc) }
 {}
 
-/// States that the text of a document of which each link can be spelled is read as its links, and that reading it fails only with
-/// `Memory`.
+/// States that if each link of a document can be spelled, its text is read as its links. Reading it fails only with `Memory`.
 pub fn written_is_read()
     ensures links { (doc contexts : List Context) → list_all is_context doc ≡ true
         → position cannot_spell (links_of_document doc) ≡ None → IsReadAs (spelled doc) contexts
@@ -28,7 +27,7 @@ pub fn written_is_read()
         → IsReadError (spelled doc) error → error ≡ Memory }
 {}
 
-/// Links have one cut into contexts.
+/// States that links have at most one cut into contexts.
 pub fn one_cut()
     ensures { (links : List (List ℕ × List ℕ × Target)) (c d : List Context) → IsCut links c
         → IsCut links d → c ≡ d }

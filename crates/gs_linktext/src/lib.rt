@@ -20,8 +20,8 @@
 //! - Each link has an `anchor`, and a relation type, which is not `anchor`: a linkset in JSON could not hold it otherwise.
 //! - White space, including line breaks, is allowed between all tokens. A target URI has no white space, and only bytes of
 //!   printable ASCII.
-//! - Only the first `rel` and the first `anchor` of a link count (RFC 8288, sections 3.2 and 3.3), and the first `type`, `title`
-//!   and `media`. `hreflang` and other attributes may be repeated.
+//! - Only the first `rel` and the first `anchor` of a link count (RFC 8288, sections 3.2 and 3.3). The same holds for `type`,
+//!   `title` and `media`. `hreflang` and other attributes may be repeated.
 //! - The texts are UTF-8, once the backslashes of a quoted string are taken off.
 //! - A value of a name that ends in `*` is ignored unless it has the form `UTF-8'LANG'TEXT`.
 #![tactic(auto)]

@@ -188,8 +188,8 @@ fn write_links(out: &mut Vec<u8>, links: &[LentLink<'_>]) -> Result<(), Memory>
     write_behind(out, behind)
 }
 
-/// Returns the text of a linkset (RFC 9264, section 4.1): the target URI, the relation type, the anchor and the attributes of
-/// each link, in the order of the document, with a comma and a line break between two links.
+/// Returns the text of a linkset (RFC 9264, section 4.1). Each link has the target URI, the relation type, the anchor and the
+/// attributes, in the order of the document. A comma and a line break separate two links.
 ///
 /// `CannotSpell` names the first link, counted from 0 in the order of the document, that text cannot hold. Its target URI is
 /// empty or has a byte that is not allowed between `<` and `>`; its relation type is empty or has white space; one of its quoted

@@ -19,7 +19,7 @@ is_target_byte c = nat_le 33 c && (nat_le c 126 && not (c == 60 || c == 62))
 abbrev pub is_quotable : ℕ → Bool
 is_quotable c = c == 9 || (nat_le 32 c && not (c == 127))
 
--- trusted, RFC 9110, section 5.6.4: a byte that is in a quoted string by itself
+-- trusted, RFC 9110, section 5.6.4: a byte that may be in a quoted string without a backslash
 abbrev pub is_quoted_byte : ℕ → Bool
 is_quoted_byte c = is_quotable c && not (c == 34 || c == 92)
 

@@ -46,7 +46,7 @@ name_in (Word w) = Some w
 name_in (Target h) = None
 name_in (Quoted v) = None
 
--- trusted, RFC 8288, section 3: the value of a lexeme: a word, or what a quoted string says
+-- trusted, RFC 8288, section 3: the value of a lexeme: a word, or the contents of a quoted string
 abbrev pub value_in : Lexeme → Option (List ℕ)
 value_in Comma = None
 value_in Semicolon = None

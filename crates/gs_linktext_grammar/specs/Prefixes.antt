@@ -24,7 +24,7 @@ abbrev pub said_from : Option ℕ → List ℕ → Option (List ℕ × List ℕ)
 said_from None rest = Some ([], rest)
 said_from (Some c) rest = with_byte c (unquoted rest)
 
--- what a quoted string says that has these bytes already
+-- the contents of a quoted string that has these bytes already
 abbrev pub with_bytes : List ℕ → Option (List ℕ × List ℕ) → Option (List ℕ × List ℕ)
 with_bytes value read = option_map (λ pair. (value ++ pair.0, pair.1)) read
 

@@ -30,7 +30,7 @@ pub fn is_quotable(c: u8) -> bool
     c == b'\t' || (c >= b' ' && c != 127)
 }
 
-/// Returns whether the byte is in a quoted string by itself.
+/// Returns whether the byte may be in a quoted string without a backslash.
 pub(crate) fn is_quoted_byte(c: u8) -> bool
     ensures { result ≡ is_quoted_byte c }
 {

@@ -6,7 +6,7 @@ use std::alloc::{AllocError, AllocFailed};
 /// Why a text is not a linkset. Links are counted from 0, in the order of the text.
 #[derive(Clone, Copy, Debug)]
 pub enum LinkTextFault {
-    /// The bytes are not document of the grammar.
+    /// The bytes are not a document of the grammar.
     Syntax,
     /// The link at this index has no parameter `anchor`.
     Anchor(usize),

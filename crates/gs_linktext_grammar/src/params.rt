@@ -33,7 +33,7 @@ fn name_in(lexeme: &Lexeme) -> Option<&[u8]>
     }
 }
 
-/// Returns the bytes of a word, or what a quoted string says.
+/// Returns the bytes of a word, or the contents of a quoted string.
 fn value_in(lexeme: &Lexeme) -> Option<&[u8]>
     ensures { option_map (λ value. value.now) result ≡ value_in lexeme.now }
 {

@@ -121,7 +121,7 @@ mapped_values v (field ∷ fields) (value ∷ values) count each =
     let first : value ≡ v field = each 0 field value refl refl in
     ap₂ (λ (x : List ℕ) (xs : List (List ℕ)). x ∷ xs) (sym first) (mapped_values v fields values (omega arith) (λ k f w at read. each (suc k) f w at read))
 
--- ---- the values of an option's items are those of what it says by them
+-- ---- the values of an option's items are those of the fields that they give
 
 -- the item of a field
 item_at : (parts : List FieldItem) (k : ℕ) (field : Option Field) → slice_get (fields_of parts) k ≡ Some field → (item : Item) × (slice_get parts k ≡ Some (field, item))
@@ -180,7 +180,7 @@ module _ (set : TableRows) (items : List Item) (info : OptInfo) (values words : 
   pub values_again : length info.fields ≡ length values → values_for Binary (epc_of info values) info ≡ values
   values_again count = mapped_values (value_for Binary (epc_of info values)) info.fields values count value_again
 
--- ---- nothing is left out of what values say
+-- ---- nothing is left out of the fields of values
 
 none_stands : (field : Field) (fields : List (Option Field)) (values : List (List ℕ)) → list_any (is_field field) fields ≡ false → value_of field fields values ≡ []
 none_stands field [] values h = refl

@@ -78,7 +78,7 @@ same_hex_error text (BadDigit place) OddDigits f g = absurd (let even = f.0 in o
 same_hex_error text (BadDigit place) Full f g = absurd (let short = f.1 in let long = g.1 in omega arith)
 same_hex_error text (BadDigit place) (BadDigit place') f g = ap BadDigit (first_bad_same text place place' f.2 g.2)
 
--- why a text is not a dump: it is not a hexadecimal text, is shorter than a control word, or its bits are not dump
+-- why a text is not a dump: it is not a hexadecimal text, is shorter than a control word, or its bits are not a dump
 data DumpCase (set : TableRows) (text : List ℕ) (error : DumpFault) : Type 0 where
   no_hex : (fault : HexFault) → error ≡ reading.Hex fault → IsHexFault text fault → DumpCase set text error
   no_word : error ≡ reading.NoWord → IsHex text → length (bits_of_hex text) < 16 → DumpCase set text error

@@ -1,5 +1,5 @@
 -- The answers to dumps and to the lines that show them: TDS 2.0, sections 9 (the control word), 12 (tag URIs), 14 (bits) and 15
--- (what the bank holds). The order of errors and the form of the lines are this project's own.
+-- (the contents of the bank). The order of errors and the form of the lines are this project's own.
 use Rattle.std.specs.Prelude.{◌≡◌, ◌<◌, ◌≤◌, ◌*◌, ℕ, Bool, true, false, List, ◌++◌, length, Result, Ok, Err}
 use Rattle.gs_bits.specs.HexText.{bits_of_hex, hex_of_bits}
 use Rattle.gs_grammar.specs.Derivations.{Derivation}
@@ -37,7 +37,8 @@ pub record IsBank (set : TableRows) (bits : List ℕ) (dump : Dump) : Type 0 whe
   pub size : length encoding ≡ 16 * words
   pub says : Says set Binary encoding dump.epc
 
--- trusted, TDS 2.0, section 9; the order is own: why a control word and the bits after it are not dump: the first that fits
+-- trusted, TDS 2.0, section 9; the order is own: why a control word and the bits after it are not a dump: the first reason that
+-- applies
 abbrev pub IsWordError : TableRows → ControlWord → List ℕ → DumpFault → Type 0
 IsWordError set word behind Extended = word.extended ≡ true
 IsWordError set word behind Toggle = (word.extended ≡ false) × (word.toggle ≡ true)
@@ -47,16 +48,16 @@ IsWordError set word behind NoReading =
     IsPlain word × (length behind ≡ 16 * word.words) × (Derivation (options_of Binary set) behind → ⊥)
 IsWordError set word behind error = ⊥
 
--- trusted, own: the bits begin with a control word, and this is why they are not dump
+-- trusted, own: the bits begin with a control word, and this is why they are not a dump
 pub record IsBankError (set : TableRows) (bits : List ℕ) (error : DumpFault) : Type 0 where
   pub word : ControlWord
   pub behind : List ℕ
   pub begins : BeginsWith bits word behind
   pub reason : IsWordError set word behind error
 
--- trusted, TDS 2.0, sections 9, 14 and 15; the order of errors is own: The result of reading a text: why it is not a hexadecimal
--- text of at most 128 digits; that it is shorter than a control word; why its bits are not a dump; or their dump. `Memory` may
--- come instead.
+-- trusted, TDS 2.0, sections 9, 14 and 15; the order of errors is own: The result of reading a text: why it is not a
+-- hexadecimal text of at most 128 digits; that it is shorter than a control word; why its bits are not a dump; or their dump.
+-- `Memory` may be returned instead.
 abbrev pub ReadsDump : TableRows → List ℕ → Result Dump DumpFault → Type 0
 ReadsDump set text (Ok dump) = IsHex text × IsBank set (bits_of_hex text) dump
 ReadsDump set text (Err (Hex error)) = IsHexFault text error
@@ -90,8 +91,8 @@ pub record IsTooLong (set : TableRows) (dump : Dump) : Type 0 where
   pub size : length encoding ≡ 4 * words
   pub many : 31 < words
 
--- trusted, TDS 2.0, sections 9, 14 and 15: The result of writing a dump: its text, that its encoding is too long, or why its EPC
--- is not written in bits. `Memory` may come instead.
+-- trusted, TDS 2.0, sections 9, 14 and 15: The result of writing a dump: its text, that its encoding is too long, or why its
+-- EPC is not written in bits. `Memory` may be returned instead.
 abbrev pub WritesDump : TableRows → Dump → Result (List ℕ) DumpWriteFault → Type 0
 WritesDump set dump (Ok text) = WrittenDump set dump text
 WritesDump set dump (Err TooLong) = IsTooLong set dump
@@ -108,7 +109,7 @@ pub record ShownDump (set : TableRows) (dump : Dump) (text : List ℕ) : Type 0 
   pub text_is : text ≡ shown_line dump.user dump.attributes tag
 
 -- trusted, TDS 2.0, section 12; the form is own: The result of showing a dump: its line, or why its EPC is not written as a tag
--- URI. `Memory` may come instead.
+-- URI. `Memory` may be returned instead.
 abbrev pub ShowsDump : TableRows → Dump → Result (List ℕ) DumpWriteFault → Type 0
 ShowsDump set dump (Ok text) = ShownDump set dump text
 ShowsDump set dump (Err TooLong) = ⊥
@@ -132,7 +133,7 @@ pub record ShowsNoTag (set : TableRows) (text : List ℕ) : Type 0 where
   pub none : Derivation (options_of Tag set) rest → ⊥
 
 -- trusted, TDS 2.0, section 12; the form is own: The result of reading a line: that it does not begin as a line of a dump, that
--- it has no tag URI, or its dump. `Memory` may come instead.
+-- it has no tag URI, or its dump. `Memory` may be returned instead.
 abbrev pub ReadsShown : TableRows → List ℕ → Result Dump DumpLineFault → Type 0
 ReadsShown set text (Ok dump) = IsShown set text dump
 ReadsShown set text (Err Line) = (user : Bool) (attributes : ℕ) (rest : List ℕ) → IsShownStart text user attributes rest → ⊥

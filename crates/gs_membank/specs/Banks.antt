@@ -1,5 +1,5 @@
--- The EPC memory bank from its protocol control word on: TDS 2.0, sections 9 (the word), 11 (attribute bits) and 15 (what the
--- bank holds).
+-- The EPC memory bank from its protocol control word on: TDS 2.0, sections 9 (the word), 11 (attribute bits) and 15 (the
+-- contents of the bank).
 use Rattle.std.specs.Prelude.{◌≡◌, ◌<◌, ℕ, Bool, false, if◌then◌else◌, List, ◌∷◌, ◌++◌}
 use Rattle.gs_bits.specs.Bits.{bits_of}
 use Rattle.gs_membank.specs.declared.control.ControlWord.{ControlWord}

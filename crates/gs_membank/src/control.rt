@@ -10,7 +10,7 @@ use gs_bits::{BitBuf, Cursor, Short};
 use gs_chars::{Memory, Text};
 use std::alloc::Global;
 
-/// What a protocol control word says (TDS 2.0, section 9).
+/// The contents of a protocol control word (TDS 2.0, section 9).
 #[derive(Clone, Copy)]
 pub(crate) struct ControlWord {
     /// How many words of 16 bits the encoding after it has, at most 31.
@@ -52,7 +52,8 @@ pub(crate) fn take_word(cursor: &mut Cursor<'_, 64>) -> Result<ControlWord, Shor
     })
 }
 
-/// That a control word is that of an EPC without an extended word, and says as many words as bits are after it.
+/// Checks that a control word is that of an EPC without an extended word. Its number of words must be that of the bits after
+/// it.
 pub(crate) fn check_word(word: &ControlWord, bits: usize) -> Result<(), DumpFault>
     requires { bits < 2 ^ 16 }
     ensures plain { OnOk result (IsPlain word.now) }

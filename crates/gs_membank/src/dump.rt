@@ -1,6 +1,6 @@
 use gs_epc::Epc;
 
-/// What the EPC memory bank of a tag says from its protocol control word on (TDS 2.0, section 9).
+/// The contents of the EPC memory bank of a tag from its protocol control word on (TDS 2.0, section 9).
 #[derive(Drop)]
 pub struct Dump {
     /// Whether user memory has contents.

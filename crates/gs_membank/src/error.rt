@@ -15,7 +15,7 @@ pub enum DumpFault {
     Extended,
     /// The bit of the word that says that the bank holds no EPC is 1.
     Toggle,
-    /// The bits after the word are not as many as the words of 16 bits that it says.
+    /// The number of bits after the word is not that of its words of 16 bits.
     Words {
         /// How many words it says, at most 31.
         said: u8,

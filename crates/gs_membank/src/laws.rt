@@ -13,7 +13,7 @@ ghost use Rattle.gs_membank.specs.declared.error.DumpFault.TheVariants.{Memory};
 ghost use Rattle.gs_membank.specs.Answers.{IsBank, ReadsDump, ReadsShown, ShowsDump, WritesDump};
 ghost use Rattle.gs_membank.specs.ShownLines.{IsShownStart};
 
-/// Bits are one dump at most, whatever the tables.
+/// States that bits are at most one dump by all tables.
 pub fn bits_are_one_dump()
     ensures { (set : TableRows) (bits : List ℕ) (one other : Dump) → IsBank set bits one
         → IsBank set bits other → one ≡ other }
@@ -34,8 +34,8 @@ pub fn dump_written_is_read()
         → ReadsDump set text (Ok dump) }
 {}
 
-/// States that by loaded tables a dump that is read is written as its text in upper case, if the items of its option have as many
-/// bits as its control word says.
+/// States that by loaded tables a dump that is read is written as its text in upper case. This needs an option whose items have
+/// as many bits as the control word says.
 pub fn dump_read_is_written()
     ensures { (set : TableRows) (text : List ℕ) (dump : Dump) → IsLoaded set → IsHex text
         → (bank : IsBank set (bits_of_hex text) dump)

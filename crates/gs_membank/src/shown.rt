@@ -23,7 +23,7 @@ fn hex_value(digit: u8) -> Option<u8>
     }
 }
 
-/// What a line says before its tag URI.
+/// The start of a line, before its tag URI.
 #[derive(Clone, Copy)]
 struct Start<'a> {
     /// Whether user memory has contents.

@@ -32,7 +32,7 @@ module _ {X : Type 0} where
   filter_all_at t p x xs true own h = and_true (t x) _ own h
   filter_all_at t p x xs false own h = h
 
-  -- what holds of all holds of those that pass
+  -- a test that all pass holds for those that pass another
   pub filter_holds : (t p : X → Bool) (xs : List X) → list_all t xs ≡ true → list_all t (filter p xs) ≡ true
   filter_holds t p [] h = refl
   filter_holds t p (x ∷ xs) h = filter_all_at t p x xs (p x) (and_first (t x) (list_all t xs) h) (filter_holds t p xs (and_second (t x) (list_all t xs) h))
@@ -45,7 +45,7 @@ module _ {X : Type 0} where
 -- ---- each thing once
 
 module _ {X : Type 0} (same : X → X → Bool) (itself : (x : X) → same x x ≡ true) (one : (x y : X) → same x y ≡ true → x ≡ y) where
-  -- the things that are not the same as one of others
+  -- the items that differ from each of the others
   abbrev without_all : List X → List X → List X
   without_all [] ys = ys
   without_all (x ∷ xs) ys = without same x (without_all xs ys)
@@ -141,7 +141,7 @@ module _ {X : Type 0} (same : X → X → Bool) (itself : (x : X) → same x x �
   any_distinct p [] = refl
   any_distinct p (x ∷ xs) = any_distinct_at p x xs (p x) refl (any_distinct p xs)
 
-  -- what holds of all holds of them
+  -- a test that all pass holds for the distinct ones
   pub all_distinct : (t : X → Bool) (xs : List X) → list_all t xs ≡ true → list_all t (distinct_by same xs) ≡ true
   all_distinct t [] h = refl
   all_distinct t (x ∷ xs) h =

@@ -31,7 +31,7 @@ use Rattle.gs_linkset.proofs.NameSets.{Ascend, has}
 use Rattle.gs_merge.proofs.NameSets.{ascending_ascends, at_is_same, below_is_none, has_ascending, one_list, same_bytes_sym}
 use Rattle.gs_merge.proofs.SameTargets.{same_texts, target_itself, target_one}
 
--- ---- what each name gives
+-- ---- the results of each name
 
 pub named_more : {E N R : Type 0} (f : N → R) (name : E → N) (xs : List E) (x : E) (old new : List R) (r : R) → old ≡ map f (map name xs) → r ≡ f (name x) → new ≡ old ++ r ∷ [] → new ≡ map f (map name (xs ++ x ∷ []))
 named_more f name xs x old new r h own e = rw (e, h, own, map-append, map-append) refl

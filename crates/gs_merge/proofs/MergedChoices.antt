@@ -168,7 +168,7 @@ module _ (table : List AiRow) (voc : List ℕ) (identity : Elements) (d : ℕ) w
   none_at : (links : List Link) (name : List ℕ) → list_any is_at_prefix links ≡ false → prefix_targets links name ≡ []
   none_at links name h = ap (λ ls. targets_of (links_by name ls)) (filter_none is_at_prefix links h)
 
-  -- three lists of stored links, where the third has the targets of the others at each anchor, have them at the prefix
+  -- of three lists of stored links the third has the targets of the others at each anchor; then it has them at the prefix
   prefix_merged : (a b m : List Link) (name : List ℕ) → All (IsKept table voc) a → All (IsKept table voc) b → All (IsKept table voc) m
       → ((text : List ℕ) → targets_at m text name ≡ distinct (targets_at a text name ++ targets_at b text name))
       → prefix_targets m name ≡ distinct (prefix_targets a name ++ prefix_targets b name)

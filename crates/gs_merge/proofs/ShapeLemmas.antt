@@ -33,7 +33,7 @@ link_anchor : (link : Link) → is_link link ≡ true → is_utf8 (anchor_text l
 unfolding is_link
 link_anchor link h = and_first (is_utf8 (canonical_link link.anchor)) _ h
 
--- what holds of the texts holds of them in order
+-- a fact of the texts holds for them in order
 module _ (t : List ℕ → Bool) where
   all_put_by : (o : Ordering) (n m : List ℕ) (names : List (List ℕ)) → t n ≡ true → list_all t (m ∷ names) ≡ true → list_all t (insert_key (slice_cmp nat_cmp) names n) ≡ true
       → list_all t (match_ordering o (n ∷ m ∷ names) (m ∷ names) (m ∷ insert_key (slice_cmp nat_cmp) names n)) ≡ true

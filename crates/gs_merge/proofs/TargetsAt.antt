@@ -117,7 +117,7 @@ same_contexts xs ys each =
     let texts = one_list (ascending texts_x) (ascending texts_y) (ascending_ascends texts_x) (ascending_ascends texts_y) (λ t. has_text xs t ∙ ap has_some (relations t) ∙ sym (has_text ys t)) in
     map_agree (context_with xs) (context_with ys) (λ t. ap (λ rs. record { anchor = t; relations = rs }) (relations t)) (ascending texts_x) ∙ ap (map (context_with ys)) texts
 
--- ---- links one after the other, and links of a relation
+-- ---- concatenated links, and links of a relation
 
 pub targets_append : (xs ys : List Link) (text name : List ℕ) → targets_at (xs ++ ys) text name ≡ targets_at xs text name ++ targets_at ys text name
 targets_append xs ys text name =

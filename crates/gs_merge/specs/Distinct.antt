@@ -31,11 +31,11 @@ is_same_attr a b = bytes_eq a.name b.name && is_same_value a.value b.value
 unfoldable pub is_same_target : Target → Target → Bool
 is_same_target a b = bytes_eq a.href b.href && pointwise is_same_attr a.attrs b.attrs
 
--- trusted, own: the things that are not the same as one
+-- trusted, own: the items that differ from one
 abbrev pub without : {X : Type 0} → (X → X → Bool) → X → List X → List X
 without same x xs = filter (λ y. not (same x y)) xs
 
--- trusted, own: each thing once, at its first place
+-- trusted, own: each item once, at its first place
 abbrev pub distinct_by : {X : Type 0} → (X → X → Bool) → List X → List X
 distinct_by same [] = []
 distinct_by same (x ∷ xs) = x ∷ without same x (distinct_by same xs)

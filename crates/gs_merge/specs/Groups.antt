@@ -1,4 +1,4 @@
--- The steps by which links are grouped, and by which a map of texts tells targets apart.
+-- The steps by which links are grouped, and by which a map of texts distinguishes targets.
 use Rattle.std.specs.Prelude.{◌≡◌, ℕ, if◌then◌else◌, List, [], ◌∷◌, ◌++◌, filter, map, Option, Some, None}
 use Rattle.std.specs.BTreeMap.{is_at}
 use Rattle.std.specs.Cmp.Lexicographic.{slice_cmp}
@@ -36,7 +36,7 @@ entry_seen seen entry = (entry.0, seen entry.1)
 abbrev pub groups_of : Grouping → List Link → List (List ℕ × List Link)
 groups_of by links = map (group_at (grouped by links)) (ascending (map (key_of by) links))
 
--- what a map has at a text
+-- the value of a map at a text
 abbrev pub found_at : {X : Type 0} → List (List ℕ × X) → List ℕ → Option X
 found_at entries text = lookup (is_at (slice_cmp nat_cmp text)) entries
 

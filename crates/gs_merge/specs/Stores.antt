@@ -1,5 +1,5 @@
--- The targets of merged stores at an anchor and a relation (RFC 9264, section 4.2), and those that are chosen for an identity
--- (GS1-Conformant Resolver). The laws are this project's own.
+-- The targets of merged stores at an anchor and a relation (RFC 9264, section 4.2). Those that are chosen for an identity
+-- follow (GS1-Conformant Resolver). The laws are this project's own.
 use Rattle.std.specs.Prelude.{◌≡◌, ℕ, Bool, false, max, List, codes, filter, Ok}
 use Rattle.std.specs.List.{flat_map, list_any}
 use Rattle.std.specs.Str.{bytes_eq}
@@ -39,7 +39,7 @@ has_target targets target = list_any (is_same_target target) targets
 abbrev pub chosen_targets : List Link → Elements → Want → ℕ → List Target
 chosen_targets links identity want depth = targets_of (linked links (chosen_at links identity want depth))
 
--- trusted, own: one relation is wanted, and it is not `anchor`
+-- trusted, own: the request wants one relation, and it is not `anchor`
 abbrev pub IsOfRelation : Want → Type 0
 IsOfRelation All = ⊥
 IsOfRelation (Relation wanted) = bytes_eq wanted.now (codes "anchor") ≡ false

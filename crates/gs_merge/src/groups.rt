@@ -13,7 +13,7 @@ use gs_links::Link;
 use std::alloc::Global;
 use std::collections::BTreeMap;
 
-/// What links are grouped by.
+/// The text that links are grouped by.
 #[derive(Clone, Copy)]
 pub(crate) enum Grouping {
     /// The canonical link of their anchor.

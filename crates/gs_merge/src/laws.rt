@@ -12,8 +12,8 @@ ghost use Rattle.gs_merge.specs.Stores.{IsOfRelation, IsStore, chosen_targets, h
 
 use gs_ai::AiTable;
 
-/// States that at each anchor and each relation except `anchor`, the merged document has the targets of the first store and then
-/// those of the second, without duplicates.
+/// States that the merged document has the targets of the first store and then those of the second, without duplicates. This
+/// holds at each anchor and each relation except `anchor`.
 pub fn merged_targets()
     ensures { (a b : List Link) (text name : List ℕ) → bytes_eq name (codes "anchor") ≡ false
         → targets_in (merged a b) text name ≡ distinct (targets_at a text name ++ targets_at b text name) }
@@ -24,7 +24,7 @@ pub fn merged_with_itself()
     ensures { (a : List Link) → merged a a ≡ merged a [] }
 {}
 
-/// Merged the other way round, two stores have the same targets at each anchor and relation.
+/// States that two stores, merged in either order, have the same targets at each anchor and relation.
 pub fn either_way_round()
     ensures { (a b : List Link) (text name : List ℕ) (target : Target)
         → has_target (targets_in (merged a b) text name) target

@@ -1,4 +1,4 @@
-//! The merging of two stores of links (gs_links) into one linkset (RFC 9264), for example if several departments each keep a
+//! The merging of two stores of links (gs_links) into one linkset (RFC 9264). For example, several departments each keep a
 //! linkset and one resolver serves them.
 //!
 //! - `merge` makes the merged document of two stores.
@@ -17,8 +17,8 @@
 //!
 //! # Differences from the standards
 //!
-//! No standard defines the merging of linksets. The canonical link as an anchor's one name (GS1 Digital Link URI Syntax, section
-//! 5), the ascending orders except that of targets, and the removal of duplicates are this project's own.
+//! No standard defines the merging of linksets. This project chose the canonical link as an anchor's one name (GS1 Digital Link
+//! URI Syntax, section 5). It also chose the ascending orders, except that of targets, and the removal of duplicates.
 #![tactic(auto)]
 
 mod contexts;

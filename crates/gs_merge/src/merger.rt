@@ -22,9 +22,9 @@ fn merged_contexts(alloc: Global, a: &Store, b: &Store) -> Result<List<Context>,
 
 /// Returns the merged document of two stores. Its contexts are the canonical links of all anchors of both stores, without
 /// duplicates, in ascending order. A context has each relation of its links except `anchor`, in ascending order. A relation has
-/// the targets of the first store and then those of the second, in their stores' orders, and only the first of equal targets. Two
-/// targets are equal if their target URIs and all their attributes are. Returns `TooMany` if and only if the document has more
-/// than 65,536 targets. May return `Memory` instead. Takes O(n log n) steps for n links.
+/// the targets of the first store and then those of the second, in their stores' orders. It has only the first of equal
+/// targets. Two targets are equal if their target URIs and all their attributes are. Returns `TooMany` if and only if the
+/// document has more than 65,536 targets. May return `Memory` instead. Takes O(n log n) steps for n links.
 pub fn merge(alloc: Global, a: &Store, b: &Store) -> Result<LinkDoc, MergeFault>
     ensures { OrMemory result (merge_answer a.now b.now) }
 {

@@ -25,7 +25,7 @@ front_read None name bytes first after e there h = ([], tt)
 front_read (Some files) name bytes first None e there h = absurd (there (sym e ∙ h))
 front_read (Some files) name bytes first (Some rest) e there h = (rest, sym e ∙ h)
 
--- the same of what a call answered
+-- the same of the answer of a call
 pub over_read : (files : Option (List (List ℕ × List ℕ))) (name : List ℕ) (first after : Option (List ℕ)) (result : Result (List ℕ) FileFault) → first ≡ known_file files name → ¬ IsAbsent files name → IfOver result (λ bytes. first ≡ prepend_known bytes after) → IfOver result (λ bytes. (rest : List ℕ) × IsFile files name (bytes ++ rest))
 over_read files name first after (Ok text) e there h = tt
 over_read files name first after (Err (error.Over text)) e there h = front_read files name text first after e there h
@@ -60,7 +60,7 @@ counted_file : (files : Option FilesHeld) (name : List ℕ) (count : ℕ) → ¬
 counted_file None name count there = refl
 counted_file (Some files) name count there = counted_there (file_of files name) count there
 
--- the same of the count after what a file that was opened answered
+-- the same of the count after the answer of an opened file
 pub rest_counted : (files : Option FilesHeld) (name : List ℕ) (first opened now : ℕ) (result : Result (List ℕ) FileFault) → opened ≡ first → ¬ IsAbsent files name → now ≡ count_after_rest result opened → now ≡ count_after_file result files name first
 rest_counted files name first opened now (Ok text) e there h = h ∙ e
 rest_counted files name first opened now (Err (error.Over text)) e there h = h ∙ e

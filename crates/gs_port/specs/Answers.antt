@@ -53,7 +53,7 @@ IfTook write.Memory fact = Unit {0}
 abbrev pub AppendsFront : WriteAnswer → List ℕ → Option (List ℕ) → Option (List ℕ) → Type 0
 AppendsFront answer piece before now = IfTook answer (λ n. now ≡ append_known before (take n piece))
 
--- trusted, own: a fact for a write that took nothing, because of an error or for lack of memory
+-- trusted, own: a fact for a write that took nothing, because of an error or because memory ran out
 abbrev pub OnNothingTaken : WriteAnswer → Type 0 → Type 0
 OnNothingTaken (write.Took n) fact = Unit {0}
 OnNothingTaken write.Failed fact = fact
@@ -101,7 +101,7 @@ OnOpened opening.Opened fact = fact
 OnOpened opening.Failed fact = Unit {0}
 OnOpened opening.Memory fact = Unit {0}
 
--- trusted, own: a fact for a file that was not opened, because of an error or for lack of memory
+-- trusted, own: a fact for a file that was not opened, because of an error or because memory ran out
 abbrev pub OnNotOpened : OpenAnswer → Type 0 → Type 0
 OnNotOpened opening.Opened fact = Unit {0}
 OnNotOpened opening.Failed fact = fact
@@ -119,8 +119,8 @@ count_after_named opening.Opened files name count = count
 count_after_named opening.Failed files name count = counted_if_there files name count
 count_after_named opening.Memory files name count = count
 
--- trusted, own: holds if an open of the named file fails only if an error was counted, or if the files are known and it is not
--- among them
+-- trusted, own: holds if a failed open of the named file means that an error was counted, or that the files are known without
+-- this name
 abbrev pub OpenFails : OpenAnswer → Option FilesHeld → List ℕ → ℕ → ℕ → Type 0
 OpenFails answer files name before now = OnOpenFailed answer (Rises before now ⊎ IsAbsent files name)
 
@@ -135,13 +135,13 @@ OnAccepted accepting.Accepted fact = fact
 OnAccepted accepting.Closed fact = Unit {0}
 OnAccepted accepting.Failed fact = Unit {0}
 
--- trusted, own: a fact for an accept that found no connection, be it that none comes any more or for an error
+-- trusted, own: a fact for an accept that found no connection, because no more will arrive or because of an error
 abbrev pub OnNotAccepted : AcceptAnswer → Type 0 → Type 0
 OnNotAccepted accepting.Accepted fact = Unit {0}
 OnNotAccepted accepting.Closed fact = fact
 OnNotAccepted accepting.Failed fact = fact
 
--- trusted, own: a fact for an accept after which no connection comes any more
+-- trusted, own: a fact for an accept after which no more connections will arrive
 abbrev pub OnClosed : AcceptAnswer → Type 0 → Type 0
 OnClosed accepting.Accepted fact = Unit {0}
 OnClosed accepting.Closed fact = fact

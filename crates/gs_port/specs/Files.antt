@@ -38,7 +38,7 @@ ReadsOf files name most left = TakesAtMost (most + 1) (known_file files name) le
 abbrev pub with_names : Option (List (List ℕ)) → List (List ℕ) → Option (List (List ℕ))
 with_names names more = option_map (λ before. before ++ more) names
 
--- trusted, own: the names that were opened are known as before and then these, or they are not known any more
+-- trusted, own: the opened names are the known ones before and then these, or they are now unknown
 abbrev pub AddsNames : Option (List (List ℕ)) → List (List ℕ) → Option (List (List ℕ)) → Type 0
 AddsNames before more after = (after ≡ None) ⊎ (after ≡ with_names before more)
 

@@ -34,7 +34,7 @@ pub trait Conn {
     /// The state that reads and writes preserve.
     ghost aside: { Self → Aside };
 
-    /// Moves the next bytes of those left to the start of `buf`, at most its length, and 0 if and only if nothing is left.
+    /// Moves the next of the bytes left to the start of `buf`, at most its length. It moves 0 if and only if nothing is left.
     /// Returns `Failed` only if a failed read was counted; it then moves nothing.
     fn read(&mut self, buf: &mut [u8]) -> ReadAnswer
         requires room { 0 < length buf.old }

@@ -7,12 +7,12 @@ ghost use Rattle.gs_port.specs.Answers.{OnAcceptFailed, OnAccepted, OnClosed, On
 use crate::conn::Conn;
 use crate::files::OpenAnswer;
 
-/// What accepting a connection answers.
+/// The result of accepting a connection.
 #[derive(Clone, Copy)]
 pub enum AcceptAnswer {
     /// The next connection is the open one.
     Accepted,
-    /// No connection comes any more.
+    /// No more connections will arrive.
     Closed,
     /// An error, which was counted.
     Failed,
@@ -23,8 +23,8 @@ pub enum AcceptAnswer {
 /// and writes at its last `accept`.
 pub trait Door: Conn {
     /// Begins to listen at the address. Returns `Failed` only if an error was counted; `Failed` and `Memory` begin nothing. An
-    /// opened door stays open, and the connections are unchanged. After any result the address is the last of the door's
-    /// addresses, if these are still known.
+    /// opened listener stays open, and the connections are unchanged. After any result the address is the last of the
+    /// listener's addresses, if these are still known.
     fn open(&mut self, address: &str) -> OpenAnswer
         ensures opened { OnOpened result ((Self.aside self.new).opened ≡ true) }
         ensures not_opened { OnNotOpened result (SameOpened (Self.aside self.old) (Self.aside self.new)) }

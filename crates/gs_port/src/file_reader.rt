@@ -63,7 +63,7 @@ pub fn read_file<F: Files>(
     }
 }
 
-/// That many bytes of 0.
+/// Makes `len` bytes of 0.
 fn zeros(alloc: Global, len: usize) -> Result<Vec<u8>, AllocError>
     ensures { IfOk result (λ bytes. vec_len bytes ≡ len) }
 {

@@ -6,7 +6,7 @@ ghost use Rattle.gs_port.specs.Answers.{count_after_read};
 
 use crate::source::ReadAnswer;
 
-/// What opening a file answers.
+/// The result of opening a file.
 #[derive(Clone, Copy)]
 pub enum OpenAnswer {
     /// The file is the current one, with all its bytes left.
@@ -37,8 +37,8 @@ pub trait Files {
     ghost opened: { Self → Option (List (List ℕ)) };
 
     /// Makes the named file the current one, with all its bytes left. Returns `Failed` only if an error was counted, or if the
-    /// files are known and the named one is not among them, which is not an error. After any result but `Opened` no file is
-    /// current. After any result the name is the last opened one, if the opened names are still known.
+    /// files are known and do not have this name, which is not an error. After any result but `Opened` no file is current.
+    /// After any result the name is the last opened one, if the opened names are still known.
     fn open(&mut self, name: &str) -> OpenAnswer
         ensures opened { OnOpened result (is_open self.new ≡ true) }
         ensures whole { OnOpened result (left self.new ≡ known_file (files self.old) name.now) }
@@ -51,8 +51,8 @@ pub trait Files {
         ensures count { CountsOpen result (files self.old) name.now (errors self.old) (errors self.new) }
         ensures named { AddsNames (opened self.old) (name.now ∷ []) (opened self.new) };
 
-    /// Moves the next bytes left of the current file to the start of `buf`, at most its length, and 0 if and only if nothing is
-    /// left. Returns `Failed` only if an error was counted; it then moves nothing.
+    /// Moves the next of the bytes left of the current file to the start of `buf`, at most its length. It moves 0 if and only
+    /// if nothing is left. Returns `Failed` only if an error was counted; it then moves nothing.
     fn read(&mut self, buf: &mut [u8]) -> ReadAnswer
         requires room { 0 < length buf.old }
         requires current { is_open self.old ≡ true }

@@ -1,10 +1,10 @@
-//! The objects of the system that the program uses: sources, sinks, files, connections and doors (listeners), with the known
-//! facts of their contents and their counts of errors.
+//! The objects of the system that the program uses: sources, sinks, files, connections and listeners, with the known facts of
+//! their contents and their counts of errors.
 //!
 //! - `Source`, `Sink`, `Files`, `Conn` and `Door` are the traits that every other crate reads and writes through. Each has a
 //!   count of errors, which rises by one at each call that fails and at nothing else.
 //! - `MemSource` and `MemSink` are a source and a sink in memory, whose calls fail by a `CallPlan`; `Pair` makes one connection
-//!   of a source and a sink. gs_port_memory has files and a door in memory, and gs_port_system the system's objects.
+//!   of a source and a sink. gs_port_memory has files and a listener in memory, and gs_port_system the system's objects.
 //! - `read_file` and `write_whole` read and write whole things.
 //!
 //! # Example

@@ -8,7 +8,7 @@ use crate::sink::{Sink, WriteAnswer};
 use std::alloc::Global;
 use std::marker::Model;
 
-/// A sink in memory, which takes at most that many bytes at a time, and fails at the calls that the plan names.
+/// A sink in memory. It takes at most a given number of bytes at a time, and fails at the calls that the plan names.
 #[derive(Drop)]
 pub struct MemSink {
     bytes: Vec<u8>,

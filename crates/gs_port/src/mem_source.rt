@@ -10,7 +10,7 @@ use crate::transfer::copy_front;
 use std::alloc::Global;
 use std::marker::Model;
 
-/// A source in memory, which moves at most that many bytes at a time, and fails at the calls that the plan names.
+/// A source in memory. It moves at most a given number of bytes at a time, and fails at the calls that the plan names.
 #[derive(Drop)]
 pub struct MemSource {
     bytes: Vec<u8>,

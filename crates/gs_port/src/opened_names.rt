@@ -5,7 +5,7 @@ use gs_chars::{List, Memory, Text};
 use std::alloc::Global;
 use std::marker::Model;
 
-/// The names that were opened, in order, until memory ran out for one: from then on they are not known any more.
+/// The names that were opened, in order, until memory ran out for one: from then on they are unknown.
 #[derive(Drop)]
 pub struct OpenedNames {
     alloc: Global,
@@ -58,7 +58,7 @@ impl OpenedNames {
         Ok(())
     }
 
-    /// Returns the names that were opened, in order. `None` is returned if and only if they are not known any more.
+    /// Returns the names that were opened, in order, or `None` if and only if they are unknown by now.
     pub fn names(&self) -> Option<&[Text]>
         ensures { option_map (λ names. names.now) result ≡ self.now }
     {

@@ -2,7 +2,7 @@ ghost use Rattle.std.specs.Prelude.{◌≡◌, ℕ, ◌<◌, ◌≤◌, List, Op
 ghost use Rattle.gs_port.specs.Counts.{Rises};
 ghost use Rattle.gs_port.specs.Answers.{AppendsFront, IfTook, OnNothingTaken, OnWriteFailed, count_after_write};
 
-/// What a write answers.
+/// The result of a write.
 #[derive(Clone, Copy)]
 pub enum WriteAnswer {
     /// This many bytes were taken from the start of the piece.
@@ -13,7 +13,7 @@ pub enum WriteAnswer {
     Memory,
 }
 
-/// What bytes are written to.
+/// An object that bytes are written to.
 pub trait Sink {
     /// The held bytes, if they are known.
     ghost held: { Self → Option (List ℕ) };

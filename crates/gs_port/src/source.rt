@@ -2,7 +2,7 @@ ghost use Rattle.std.specs.Prelude.{◌≡◌, ℕ, ◌<◌, ◌≤◌, List, Op
 ghost use Rattle.gs_port.specs.Counts.{Rises};
 ghost use Rattle.gs_port.specs.Answers.{IfGot, IsZeroAtEnd, MovesFront, OnReadFailed, count_after_read};
 
-/// What a read answers.
+/// The result of a read.
 #[derive(Clone, Copy, PartialEq, Eq)]
 pub enum ReadAnswer {
     /// This many bytes were moved. It is 0 at the end.
@@ -11,7 +11,7 @@ pub enum ReadAnswer {
     Failed,
 }
 
-/// What bytes are read from.
+/// An object that bytes are read from.
 pub trait Source {
     /// The bytes left, if they are known.
     ghost left: { Self → Option (List ℕ) };
@@ -19,8 +19,8 @@ pub trait Source {
     /// The count of errors: of the calls that failed. It saturates at 2^64 - 1.
     ghost errors: { Self → ℕ };
 
-    /// Moves the next bytes of those left to the start of `buf`, at most its length, and 0 if and only if nothing is left.
-    /// Returns `Failed` only if an error was counted; it then moves nothing.
+    /// Moves the next of the bytes left to the start of `buf`, at most its length. It moves 0 if and only if nothing is left.
+    /// Returns `Failed` only if a failed read was counted; it then moves nothing.
     fn read(&mut self, buf: &mut [u8]) -> ReadAnswer
         requires room { 0 < length buf.old }
         ensures within { IfGot result (λ n. n ≤ length buf.new) }

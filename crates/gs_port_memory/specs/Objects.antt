@@ -1,11 +1,11 @@
--- Files and doors in memory.
+-- Files and listeners in memory.
 use Rattle.std.specs.Prelude.{ℕ, Bool, List, [], Option, Some, None}
 use Rattle.gs_port.specs.Connections.{Finished}
 use Rattle.gs_port.specs.Files.{FilesHeld}
 use Rattle.gs_port.specs.Memory.{Plan, uncalled}
 
--- trusted, own: files in memory: the name and bytes of each, the unread part of the current one, the plan of the calls, the count
--- of errors, and the names that were opened, in order, if they are known
+-- trusted, own: files in memory: the name and bytes of each, the unread part of the current one, and the plan of the calls.
+-- They also have the count of errors, and the names that were opened, in order, if they are known
 pub record MemFolder : Type 0 where
   pub files : FilesHeld
   pub current : Option (List ℕ)
@@ -23,9 +23,9 @@ pub record MemConnection : Type 0 where
   pub taken : List ℕ
   pub kept : List ℕ
 
--- trusted, own: a door in memory: whether it was opened; the addresses of the opens, in order, if they are known; the inputs of
--- the waiting connections, the open one, the finished ones, the most bytes of one read or write, the plan of the calls, the count
--- of its own errors, the counts of reads and writes, and their values at the last accept
+-- trusted, own: a listener in memory: whether it was opened; the addresses of the opens, in order, if they are known; the
+-- inputs of the waiting connections, the open one and the finished ones; the most bytes of one read or write, and the plan of
+-- the calls; the count of its errors as a listener, the counts of reads and writes, and their values at the last accept
 pub record MemGate : Type 0 where
   pub opened : Bool
   pub addresses : Option (List (List ℕ))

@@ -1,7 +1,7 @@
-//! Files and a door in memory, whose calls fail by a plan: counterparts of the system's, with all contents known.
+//! Files and a listener in memory, whose calls fail by a plan: counterparts of the system's, with all contents known.
 //!
 //! - `MemFiles` are files, each a name and its bytes.
-//! - `MemDoor` is a door with one connection for each input. It keeps the bytes written to each.
+//! - `MemDoor` is a listener with one connection for each input. It keeps the bytes written to each.
 //!
 //! # Example
 //!
@@ -16,7 +16,7 @@
 //! # Differences from the system
 //!
 //! - A name is its bytes and nothing else. Addresses are kept but not used.
-//! - Connections come in the order of their inputs, and after the last one none comes any more.
+//! - Connections arrive in the order of their inputs, and no more follow the last one.
 #![tactic(auto)]
 
 mod mem_door;

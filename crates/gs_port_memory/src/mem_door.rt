@@ -37,8 +37,8 @@ impl Model for Ended {
     ghost view = { λ a. ended_with a.stream a.reads a.writes };
 }
 
-/// A door in memory with one connection for each input. It moves at most a given number of bytes at a time, and fails at the
-/// calls that the plan names.
+/// A listener in memory with one connection for each input. It moves at most a given number of bytes at a time, and fails at
+/// the calls that the plan names.
 #[derive(Drop)]
 pub struct MemDoor {
     alloc: Global,
@@ -83,9 +83,9 @@ impl Model for MemDoor {
 }
 
 impl MemDoor {
-    /// Returns an unopened door with the inputs of its connections, in order. A read or a write moves at most `cut` bytes. The
-    /// calls except `finish` whose numbers, from 0, are in `fails` fail. Allocates the list of finished connections. `cut` is not
-    /// 0.
+    /// Returns an unopened listener with the inputs of its connections, in order. A read or a write moves at most `cut` bytes.
+    /// The calls except `finish` whose numbers, from 0, are in `fails` fail. Allocates the list of finished connections. `cut`
+    /// is not 0.
     pub fn new(
         alloc: Global,
         inputs: Vec<Vec<u8>>,
@@ -113,8 +113,7 @@ impl MemDoor {
         })
     }
 
-    /// Returns the addresses at which it was to be opened, in order. `None` is returned if and only if they are not known any
-    /// more.
+    /// Returns the addresses at which it was to be opened, in order, or `None` if and only if they are unknown by now.
     pub fn addresses(&self) -> Option<&[Text]>
         ensures { option_map (λ addresses. addresses.now) result ≡ self.now.addresses }
     {

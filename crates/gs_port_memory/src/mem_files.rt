@@ -85,7 +85,7 @@ impl MemFiles {
         }
     }
 
-    /// Returns the names that were opened, in order. `None` is returned if and only if they are not known any more.
+    /// Returns the names that were opened, in order, or `None` if and only if they are unknown by now.
     pub fn opened(&self) -> Option<&[Text]>
         ensures { option_map (λ names. names.now) result ≡ self.now.opened }
     {

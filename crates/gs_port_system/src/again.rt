@@ -7,7 +7,7 @@ ghost use Rattle.gs_port_system.specs.System.{IsLack, IsTriedAgain};
 use crate::calls::{DoorCalls, StreamCalls};
 use std::io::{Error, ErrorKind, Result};
 
-/// How often an accept is tried again while the system lacks descriptors or memory.
+/// How often an accept is tried again while the system is short of descriptors or memory.
 const MOST_LACKS: u64 = 600;
 
 /// Returns whether an accept that fails by the error is tried again at once: it was interrupted, or the peer gave up.
@@ -18,7 +18,7 @@ fn is_tried_again(error: &Error) -> bool
     kind == ErrorKind::Interrupted || kind == ErrorKind::ConnectionAborted
 }
 
-/// Returns whether the system lacks descriptors or memory.
+/// Returns whether the system is short of descriptors or memory.
 fn is_lack(error: &Error) -> bool
     ensures { IsTrue result ↔ IsLack (raw_os_error error.now) }
 {
@@ -26,7 +26,7 @@ fn is_lack(error: &Error) -> bool
     code == Some(12) || code == Some(23) || code == Some(24) || code == Some(105)
 }
 
-/// Returns whether an accept that said this after so many tries is the last.
+/// Returns whether an accept with this result, after this number of tries, is the last.
 fn is_last_accept<T>(said: &Result<T>, tries: u64) -> bool
     ensures last { result ≡ true → ¬ IsAcceptAgain tries said.now }
     ensures again { result ≡ false → IsAcceptAgain tries said.now }
@@ -41,8 +41,8 @@ fn is_last_accept<T>(said: &Result<T>, tries: u64) -> bool
     true
 }
 
-/// Takes the next connection. An accept that is interrupted, or that the peer gives up, is tried again at once. While the system
-/// lacks descriptors or memory it is tried again after a pause, at most 600 times.
+/// Takes the next connection. An accept that is interrupted, or that the peer gives up, is tried again at once. While the
+/// system is short of descriptors or memory it is tried again after a pause, at most 600 times.
 pub(crate) fn accept_last<S: DoorCalls>(
     system: &mut S,
     listener: &mut S::Listener,
@@ -59,7 +59,7 @@ pub(crate) fn accept_last<S: DoorCalls>(
     S::accept_once(listener)
 }
 
-/// Waits a moment if the system lacks descriptors or memory.
+/// Waits a moment if the system is short of descriptors or memory.
 fn pause_on_lack<S: DoorCalls>(system: &mut S, accepted: &Result<S::Stream>) {
     if let Err(error) = accepted {
         if is_lack(error) {
@@ -79,7 +79,7 @@ fn is_interrupted<T>(said: &Result<T>) -> bool
     }
 }
 
-/// Returns whether more may come after a read that said this: it moved bytes, or was interrupted.
+/// Returns whether more may arrive after a read with this result: it moved bytes, or was interrupted.
 pub(crate) fn is_more(said: &Result<usize>) -> bool
     ensures last { result ≡ false → ¬ IsMore said.now }
     ensures again { result ≡ true → IsMore said.now }

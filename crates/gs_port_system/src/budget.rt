@@ -18,7 +18,7 @@ pub enum Budget {
     Begun,
     /// A head is to be whole at a time.
     Head { until: u64 },
-    /// A reply began at a time, and so many bytes of it were taken.
+    /// A reply began at a time, and this number of its bytes was taken.
     Reply { began: u64, taken: u64 },
 }
 
@@ -46,7 +46,7 @@ impl Budget {
         end
     }
 
-    /// Notes what a read said.
+    /// Notes the result of a read.
     pub(crate) fn end_read(&mut self, said: &Result<usize>)
         ensures { self.new ≡ after_read said.now self.old }
     {
@@ -68,7 +68,7 @@ impl Budget {
         reply_end(began, taken, time)
     }
 
-    /// Notes what a write said.
+    /// Notes the result of a write.
     pub(crate) fn end_write(&mut self, said: &Result<usize>)
         ensures { self.new ≡ after_write said.now self.old }
     {

@@ -4,10 +4,10 @@ ghost use Rattle.gs_port_system.specs.Calls.{DropsRest, EndsInStages};
 use crate::again::is_more;
 use crate::calls::{DoorCalls, StreamCalls};
 
-/// The milliseconds in which what still comes is read and dropped.
+/// The milliseconds in which arriving bytes are read and dropped.
 const A_SECOND: u64 = 1_000;
 
-/// Reads and drops what still comes: at most 256 reads of 4,096 bytes, until the time.
+/// Reads and drops arriving bytes: at most 256 reads of 4,096 bytes, until the time.
 fn drop_rest<R: StreamCalls>(stream: &mut R, until: u64)
     ensures { DropsRest R.reads until stream.old stream.new }
 {
@@ -20,8 +20,8 @@ fn drop_rest<R: StreamCalls>(stream: &mut R, until: u64)
     }
 }
 
-/// Ends the connection that is current in stages, so that no reply that was sent is lost: its write half is shut down, then what
-/// still comes is read and dropped, for a second at most.
+/// Ends the current connection in stages, so that no sent reply is lost: its write half is shut down, then arriving bytes are
+/// read and dropped, for a second at most.
 pub(crate) fn end_in_stages<S: DoorCalls>(system: &mut S, current: &mut Option<S::Stream>)
     requires current { is_some current.old ≡ true }
     ensures called { EndsInStages S.times S.Stream.shuts S.Stream.reads system.old current.old system.new }

@@ -12,9 +12,9 @@ use gs_port::{Files, OpenAnswer, OpenedNames, ReadAnswer};
 use std::alloc::Global;
 use std::io::Error;
 
-/// The files of the system, or of what stands for it. An open or a read is one call. Each error of one is counted, but for an
-/// error of out of memory, which an open answers by `Memory`; so it does, without a call, where memory runs out for the name.
-/// Nothing is known of the files but the names that were opened.
+/// The files of the system, or of a substitute for it. An open or a read is one call. Each error of one is counted, except an
+/// out-of-memory error, for which an open answers `Memory`. An open also answers `Memory`, without a call, if memory runs out
+/// for the name. Of the files only the opened names are known.
 #[derive(Drop)]
 pub struct HostFiles<S, F> {
     system: S,
@@ -25,7 +25,7 @@ pub struct HostFiles<S, F> {
 }
 
 impl<S: FileCalls> HostFiles<S, S::File> {
-    /// The files of the system, with none open and no error counted.
+    /// Returns the files of the system, with none open and no error counted.
     pub fn new(alloc: Global, system: S) -> HostFiles<S, S::File>
         ensures closed { ⟦<HostFiles<S, S::File> as Files>⟧.is_open result ≡ false }
         ensures errors { ⟦<HostFiles<S, S::File> as Files>⟧.errors result ≡ 0 }
@@ -40,12 +40,12 @@ impl<S: FileCalls> HostFiles<S, S::File> {
         }
     }
 
-    /// The first error. `None` if there was none.
+    /// Returns the first error, or `None` if there was none.
     pub fn first_error(&self) -> Option<Error> {
         self.first
     }
 
-    /// The name of the file that was opened last. `None` if none was, or memory ran out for a name.
+    /// Returns the name of the file that was opened last. Returns `None` if none was, or memory ran out for a name.
     pub fn last_name(&self) -> Option<&Text> {
         self.opened.names()?.last()
     }

@@ -9,7 +9,7 @@ use crate::system::{keep_first, read_answer, write_answer};
 use gs_port::{ReadAnswer, Sink, Source, WriteAnswer};
 use std::io::Error;
 
-/// The standard input, or what stands for it. A read is one call, and each error of one is counted. Its content is not known.
+/// The standard input, or a substitute for it. A read is one call, and each error of one is counted. Its content is not known.
 #[derive(Drop)]
 pub struct StdinSource<R> {
     stdin: R,
@@ -18,7 +18,7 @@ pub struct StdinSource<R> {
 }
 
 impl<R: ReadCall> StdinSource<R> {
-    /// The standard input of the runtime, with no error counted.
+    /// Returns the standard input of the runtime, with no error counted.
     pub fn new(stdin: R) -> StdinSource<R>
         ensures { ⟦<StdinSource<R> as Source>⟧.errors result ≡ 0 }
     {
@@ -29,7 +29,7 @@ impl<R: ReadCall> StdinSource<R> {
         }
     }
 
-    /// The first error. `None` if there was none that the system named.
+    /// Returns the first error, or `None` if there was none that the system named.
     pub fn first_error(&self) -> Option<Error> {
         self.first
     }
@@ -56,7 +56,7 @@ impl<R: ReadCall> Source for StdinSource<R> {
     }
 }
 
-/// The standard output, or what stands for it. A write is one call. Each error of one is counted, and so is a write that takes
+/// The standard output, or a substitute for it. A write is one call. Each error of one is counted, and so is a write that takes
 /// nothing of a piece that is not empty. Its content is not known.
 #[derive(Drop)]
 pub struct StdoutSink<W> {
@@ -66,7 +66,7 @@ pub struct StdoutSink<W> {
 }
 
 impl<W: WriteCall> StdoutSink<W> {
-    /// The standard output of the runtime, with no error counted.
+    /// Returns the standard output of the runtime, with no error counted.
     pub fn new(stdout: W) -> StdoutSink<W>
         ensures { ⟦<StdoutSink<W> as Sink>⟧.errors result ≡ 0 }
     {
@@ -77,7 +77,7 @@ impl<W: WriteCall> StdoutSink<W> {
         }
     }
 
-    /// The first error. `None` if there was none that the system named.
+    /// Returns the first error, or `None` if there was none that the system named.
     pub fn first_error(&self) -> Option<Error> {
         self.first
     }

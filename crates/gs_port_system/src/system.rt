@@ -9,7 +9,7 @@ use crate::calls::ReadCall;
 use gs_port::{AcceptAnswer, OpenAnswer, ReadAnswer, WriteAnswer};
 use std::io::{Error, ErrorKind, Result};
 
-/// What a read of the system answers. An error is counted.
+/// Returns the answer for a read of the system, and counts an error.
 pub(crate) fn read_answer(read: Result<usize>, errors: &mut u64) -> ReadAnswer
     ensures answer { result ≡ read_answer_of read }
     ensures count { errors.new ≡ count_after_read result errors.old }
@@ -24,8 +24,8 @@ pub(crate) fn read_answer(read: Result<usize>, errors: &mut u64) -> ReadAnswer
     }
 }
 
-/// What a write of a piece of so many bytes to the system answers. An error is counted, and so is a
-/// write that takes nothing of a piece that is not empty.
+/// Returns the answer for a write to the system of a piece of `len` bytes. Counts an error, and also a write that takes nothing
+/// of a piece that is not empty.
 pub(crate) fn write_answer(written: Result<usize>, len: usize, errors: &mut u64) -> WriteAnswer
     ensures answer { result ≡ write_answer_of len written }
     ensures count { errors.new ≡ count_after_write result errors.old }
@@ -40,7 +40,7 @@ pub(crate) fn write_answer(written: Result<usize>, len: usize, errors: &mut u64)
     }
 }
 
-/// What an open of the system answers that ends with an error. It is counted, but when memory ran out.
+/// Returns the answer for an open of the system that ended with an error. Counts the error unless memory ran out.
 pub(crate) fn open_error(error: Error, errors: &mut u64) -> OpenAnswer
     ensures memory { (result ≡ OpenAnswer.Memory) ↔ (error_kind error ≡ ErrorKind.OutOfMemory) }
     ensures failed { (result ≡ OpenAnswer.Failed) ↔ (error_kind error ≢ ErrorKind.OutOfMemory) }
@@ -63,7 +63,7 @@ pub(crate) fn keep_first<T>(said: &Result<T>, first: &mut Option<Error>)
     }
 }
 
-/// What an accept of the system answers. What it gives becomes the current one. An error is counted.
+/// Returns the answer for an accept of the system, and counts an error. The accepted stream becomes the current one.
 pub(crate) fn accept_answer<T: Drop>(
     accepted: Result<T>,
     current: &mut Option<T>,
@@ -86,7 +86,7 @@ pub(crate) fn accept_answer<T: Drop>(
     }
 }
 
-/// What one call to read of what is current answers. An error is counted. Something is current.
+/// Makes one call to read the current object, and returns its answer. Counts an error. Something is current.
 pub(crate) fn read_current<R: ReadCall>(
     current: &mut Option<R>,
     buf: &mut [u8],

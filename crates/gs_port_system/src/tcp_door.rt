@@ -16,8 +16,8 @@ use crate::system::{accept_answer, keep_first, open_error};
 use gs_port::{AcceptAnswer, Conn, Door, OpenAnswer, ReadAnswer, WriteAnswer};
 use std::io::{Error, Result};
 
-/// A listener of the system's TCP, or of what stands for it, and one connection at a time, which has a budget of time. A read or a
-/// write that is interrupted is made again. Each error is counted, but for an error of out of memory, which an open answers by
+/// A TCP listener of the system, or a substitute for it, with one connection at a time, which has a budget of time. A read or a
+/// write that is interrupted is made again. Each error is counted, except an out-of-memory error, for which an open answers
 /// `Memory`. Nothing is known of the addresses and the connections.
 #[derive(Drop)]
 pub struct TcpDoor<S, L, T> {
@@ -33,7 +33,7 @@ pub struct TcpDoor<S, L, T> {
     writes_then: u64,
 }
 
-/// The next connection, set up.
+/// Accepts the next connection and sets it up.
 fn next_connection<S: DoorCalls>(system: &mut S, listener: &mut S::Listener) -> Result<S::Stream>
     ensures { AcceptsSetUp S.accepts S.sets_up listener.old result listener.new }
 {
@@ -44,7 +44,7 @@ fn next_connection<S: DoorCalls>(system: &mut S, listener: &mut S::Listener) -> 
 }
 
 impl<S: DoorCalls> TcpDoor<S, S::Listener, S::Stream> {
-    /// A door of the system that was not opened yet, with no error counted.
+    /// Returns a listener of the system that was not opened yet, with no error counted.
     pub fn new(system: S) -> TcpDoor<S, S::Listener, S::Stream>
         ensures closed { ⟦<TcpDoor<S, S::Listener, S::Stream> as Conn>⟧.is_open result ≡ false }
         ensures reads { ⟦<TcpDoor<S, S::Listener, S::Stream> as Conn>⟧.reads result ≡ 0 }
@@ -65,12 +65,12 @@ impl<S: DoorCalls> TcpDoor<S, S::Listener, S::Stream> {
         }
     }
 
-    /// The first error of an open or an accept. `None` if there was none.
+    /// Returns the first error of an open or an accept, or `None` if there was none.
     pub fn first_error(&self) -> Option<Error> {
         self.first
     }
 
-    /// The port that it listens at. `None` where it was not opened, or the system names no address.
+    /// Returns the port that it listens at. Returns `None` if it was not opened, or the system names no address.
     pub fn port(&self) -> Option<u16> {
         S::port(self.listener.as_ref()?)
     }

@@ -1,4 +1,4 @@
--- The first rejection of lists of rejections, one after the other.
+-- The first rejection of concatenated lists of rejections.
 use Rattle.std.proofs.Common.{◌≡◌, ℕ, zero, suc, ◌+◌, ◌<◌, ◌≤◌, List, [], ◌∷◌, ◌++◌, length, get_or, take, map, Some, None, slice_get, refl, ap, arith, inl, inr}
 use Rattle.std.specs.Prelude.{Result, Ok, Err}
 use Rattle.std.proofs.lemmas.List.{map-append, take_more}
@@ -98,7 +98,7 @@ pub judged : (errors : List JsonFault) (error : JsonFault) → JsonOrMemory (Err
 judged errors error (inl h) = let same : error ≡ json.Memory = cc in rw same (inl refl)
 judged errors error (inr h) = judged_by errors error h
 
--- ---- what items are read as, one by one
+-- ---- the readings of items, one by one
 
 take_one : {X : Type 0} (xs : List X) (i : ℕ) (x : X) → slice_get xs i ≡ Some x → take (suc i) xs ≡ take i xs ++ x ∷ []
 take_one [] i x at = absurd (let g : None ≡ Some x = at in cc)

@@ -95,7 +95,7 @@ few_taken zero xs = omega arith
 few_taken (suc n) [] = omega arith
 few_taken (suc n) (x ∷ xs) = omega (arith, few_taken n xs)
 
--- what holds of an entry with which digits begin
+-- a fact of an entry with which digits begin
 record Begins (digits : List ℕ) (entry : PrefixEntry) : Type 0 where
   front : take (length entry.prefix) digits ≡ entry.prefix
   within : length entry.prefix ≤ length digits

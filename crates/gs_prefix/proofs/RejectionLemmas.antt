@@ -48,7 +48,7 @@ module _ (earlier : List PrefixEntry) (i : ℕ) (e : PrefixEntry) where
   unfolding entry_rejections
   in_order h short t = let l : nat_lt 12 e.length ≡ false = grind (arith, nat_tests) in rw (h, l, t) refl
 
-  -- what no rejection says
+  -- the facts that the absence of a rejection gives
   pub record Kept : Type 0 where
     pub prefix : is_prefix e.prefix ≡ true
     pub short : e.length ≤ 12
@@ -108,7 +108,7 @@ one_entry_more entries index new i x so_far at h e =
       none = one_more (rejections_at entries) entries i x at so_far.none (nothing (take i entries) i x (rw so_far.held at h));
     }
 
--- what the call for one entry answered, of the list so far
+-- the answer of the call for one entry, for the list so far
 pub add_rejected : (entries index after : List PrefixEntry) (i : ℕ) (e : PrefixFault) → length entries ≤ 65536 → SoFar entries index i → i < length entries → IfSome (slice_get entries i) (AddsEntry (Err e) i index after) → OrMemory {X = List PrefixEntry} (Err e) (first_or (rejections entries) entries)
 add_rejected entries index after i e few so_far within h = elim (slice_get_cases entries i).1 [
   | inl there ↦ let own = rw there.2 at h in entry_rejected entries index i there.0 e few so_far there.2 own.0

@@ -38,7 +38,7 @@ length_of_longest entries digits = option_map (λ entry. entry.length) (longest_
 abbrev pub not_zero : ℕ → Option ℕ
 not_zero n = if n == 0 then None else Some n
 
--- trusted, GS1 General Specifications, section 1.4.4; that the longest decides and what 0 says is own: how many digits the
--- company prefix has with which the digits begin
+-- trusted, GS1 General Specifications, section 1.4.4; that the longest decides and what 0 says is own: the length of the
+-- company prefix with which the digits begin
 unfoldable pub prefix_length : List PrefixEntry → List ℕ → Option ℕ
 prefix_length entries digits = option_and_then not_zero (length_of_longest entries digits)

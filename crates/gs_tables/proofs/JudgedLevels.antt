@@ -79,7 +79,7 @@ level_decided levels items = elim (share_decided (item_lists (levels Binary).opt
 
 -- ---- the answer to a document
 
--- what a rule rejects is rejected
+-- a row that a rule rejects is rejected
 pub judged_rule : (document : Document) (e : LoadFault) → IsAnswer (row_rejections document) (set_of document) (Err e) → Judged (IsAnswer (row_rejections document) (set_of document)) (Err e)
 judged_rule document (Json error) h = h
 judged_rule document Version h = h

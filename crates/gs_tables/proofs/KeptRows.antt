@@ -1,4 +1,4 @@
--- What holds of rows that no rule rejects.
+-- Facts of rows that no rule rejects.
 use Rattle.std.proofs.Common.{◌≡◌, ℕ, zero, suc, ◌+◌, ◌-◌, ◌<◌, ◌≤◌, ◌&&◌, nat_le, nat_lt, not, Bool, true, false, List, [], ◌∷◌, ◌++◌, length, take, map, position, Option, Some, None, slice_get, get_or, refl, sym, ◌∙◌, arith, option_map}
 use Rattle.std.specs.Prelude.{option_to_list, IsSome, All}
 use Rattle.std.specs.List.{flat_map, find, list_any}
@@ -149,7 +149,7 @@ none_lacks bits (Some x ∷ xs) h zero item at =
     true_from_not (has_no_value item) kept
 none_lacks bits (Some x ∷ xs) h (suc k) item at = none_lacks bits xs (cons_none (is_bad_item bits) (Some x) xs h).1 k item at
 
--- what the rules of an option's kind ask
+-- the conditions that the rules of an option's kind set
 record KeptOfKind (ais : List AiRow) (kind : KindRow) (level : LevelName) (encoding : List ℕ) (n : ℕ) (items : List FieldItem) : Type 0 where
   visible : are_visible encoding ≡ true
   of_level : keeps_level level encoding items ≡ true
@@ -201,7 +201,7 @@ row_at ais kinds level rows i row none at =
     let here = none_at (option_rejections ais kinds level rows) 0 rows none i row at in
     row_kept ais kinds level rows i row (rw zero_plus at here)
 
--- what making an option asks of its row
+-- the conditions for making an option of its row
 pub record CanBeMade (kinds : List KindRow) (level : LevelName) (row : OptionRow) : Type 0 where
   pub named : IsSome (position (has_name row.kind) kinds)
   pub gcp : row.gcp ≤ 12

@@ -1,4 +1,4 @@
--- What the rules keep of a table set, by the rows that it is made of.
+-- The consequences of the rules for a table set, by the rows that it is made of.
 use Rattle.std.proofs.Common.{◌≡◌, ℕ, suc, Bool, List, [], ◌∷◌, ◌++◌, length, map, Some, slice_get, refl, sym, ap, ◌∙◌, option_map}
 use Rattle.std.specs.List.{find}
 use Rattle.std.proofs.lemmas.Option.{slice_get-map}

@@ -15,7 +15,7 @@ use Rattle.gs_tables.proofs.KeptRows.{gcp_kept, placed, row_at}
 
 -- ---- one list more
 
--- what holds of each element and of one more after them
+-- a fact of each element, and of one more after them
 behind : {X : Type 0} (P : ℕ → X → Type 0) (xs : List X) (y : X) → ((k : ℕ) (x : X) → slice_get xs k ≡ Some x → P k x) → P (length xs) y → (k : ℕ) (x : X) → slice_get (xs ++ y ∷ []) k ≡ Some x → P k x
 behind P [] y all last zero x e = let same : y ≡ x = cc in subst (P 0) same last
 behind P [] y all last (suc k) x e = absurd (let f : None ≡ Some x = e in cc)

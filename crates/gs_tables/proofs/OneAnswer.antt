@@ -53,7 +53,7 @@ enough_memory (e ∷ errors) made h same =
 
 -- ---- the built-in rows
 
--- what the rules answer to the built-in rows
+-- the answer of the rules to the built-in rows
 abbrev pub RuledRows : Result TableRows LoadFault → Type 0
 RuledRows answer = IsAnswer (row_rejections builtin_document) (set_of builtin_document) answer
 

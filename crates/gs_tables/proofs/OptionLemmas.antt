@@ -7,7 +7,7 @@ use Rattle.gs_tables_document.specs.declared.error.LoadFault.{LoadFault}
 use Rattle.gs_chars.specs.Answers.{error_if}
 use Rattle.gs_tables.specs.TablesSupport.{IsFirst}
 
--- ---- three tests, one after the other
+-- ---- three tests, in sequence
 
 pub stops_first : (a b c x : Bool) → x ≡ a → x ≡ false → false ≡ ((a && b) && c)
 stops_first a b c x e f = rw (sym e, f) refl

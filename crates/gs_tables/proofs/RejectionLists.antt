@@ -22,7 +22,7 @@ first_mapped f (y ∷ ys) x h = let e : y ≡ x = cc in ap (λ z. Some (f z)) e
 pub version_first : (version : ℕ) (test : Bool) → test ≡ is_version version → test ≡ false → slice_get (error_if (not (is_version version)) Version) 0 ≡ Some Version
 version_first version test is other = rw (← is, other) refl
 
--- the first of two lists of rejections, one after the other
+-- the first of two concatenated lists of rejections
 pub first_in_front : (a b : List LoadFault) (e : LoadFault) → IsFirst a (Err e) → IsFirst (a ++ b) (Err e)
 first_in_front a b e h = first_of_front a b e h
 

@@ -33,8 +33,7 @@ pub record IsFirstAmbiguous (levels : LevelName → LevelForm) (name : LevelName
   pub before : AreClearBefore levels name
   pub share : ShowsFirstShare (levels name) i j text
 
--- trusted, own: What holds of every set that is loaded: it is the set of rows that no rule rejects, and none of its levels
--- is ambiguous.
+-- trusted, own: The facts of every loaded set: it is the set of rows that no rule rejects, and none of its levels is ambiguous.
 pub record IsLoaded (set : TableRows) : Type 0 where
   pub shaped : IsShaped set
   pub clear : AreClear (levels_of set)

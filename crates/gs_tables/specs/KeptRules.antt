@@ -1,4 +1,5 @@
--- What the rules keep of a table set: the keys of its kinds, and the options of its levels. After TDT 2.0, sections 3 and 4.
+-- The consequences of the rules for a table set: the keys of its kinds, and the options of its levels. After TDT 2.0, sections
+-- 3 and 4.
 use Rattle.std.specs.Prelude.{◌≡◌, ℕ, true, List, Some, None, slice_get}
 use Rattle.std.specs.List.{find}
 use Rattle.gs_ai.specs.declared.row.AiRow.{AiRow}

@@ -1,4 +1,4 @@
--- What the migrated text of a table document loads to. This project's own.
+-- The set that the migrated text of a table document loads to. This project's own.
 use Rattle.std.specs.Prelude.{ℕ, List, Ok}
 use Rattle.gs_tables.specs.Shapes.{LoadAnswer}
 use Rattle.gs_tables.specs.Tables.{TableRows}

@@ -174,8 +174,8 @@ is_gcp (Characters _) lead n = is_between 1 12 n
 unfoldable pub keeps_gcp : KeyForm → ℕ → ℕ → List Item → Bool
 keeps_gcp form lead n items = is_gcp form lead n && is_one (is_digits n) items
 
--- trusted, own: holds if the digits or characters of the key after a company prefix of n digits are in one item, or in none if no
--- digit is left
+-- trusted, own: holds if the digits or characters of the key after a company prefix of n digits are in one item. They are in
+-- none if no digit is left
 unfoldable pub keeps_rest : KeyForm → ℕ → List Item → Bool
 keeps_rest (Digits digits _) n items = if digits - n == 0 then is_empty items else is_one (is_digits (digits - n)) items
 keeps_rest (Characters most) n items = is_one (is_free (most - n)) items
@@ -193,8 +193,7 @@ keeps_further (Digits _ Nothing) pieces totals = is_empty pieces && is_empty tot
 keeps_further (Digits _ (BehindTail _)) pieces totals = is_empty pieces && is_empty totals
 keeps_further (Characters _) pieces totals = is_empty pieces && is_empty totals
 
--- trusted, own: holds if an option of the level has the name of an encoding, a filter value and whole words of 16 bits, as its
--- level requires
+-- trusted, own: holds if an option of the level has the required name of an encoding, filter value and whole words of 16 bits
 unfoldable pub keeps_level : LevelName → List ℕ → List FieldItem → Bool
 keeps_level Binary encoding items = not (is_empty encoding) && is_one is_filter (items_of_field Filter items) && (size_of_all (alone items) % 16 == 0)
 keeps_level Tag encoding items = not (is_empty encoding) && is_one is_filter (items_of_field Filter items)

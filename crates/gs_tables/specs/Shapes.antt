@@ -19,7 +19,7 @@ ByForm bytes (Err (Json error)) = IsFormError bytes error
 ByForm bytes _ = ⊥
 
 -- trusted, own: The result for bytes. Bytes that are not a table document are rejected by the first error of its form. A table
--- document is rejected by the first rejection of its rows. Otherwise its rows make the set. `Memory` may come instead.
+-- document is rejected by the first rejection of its rows. Otherwise its rows make the set. `Memory` may be returned instead.
 abbrev pub Shape : List ℕ → Result TableRows LoadFault → Type 0
 Shape bytes (Err Memory) = Unit {0}
 Shape bytes answer = ByForm bytes answer ⊎ ByRows bytes answer

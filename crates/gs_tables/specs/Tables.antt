@@ -1,5 +1,5 @@
--- Table sets: what contracts see of them, and the rows of a document that they are made of. After TDT 2.0, section 3; the
--- limits, the rejections and their order are this project's own.
+-- Table sets: the view that contracts have of them, and the rows of a document that they are made of. After TDT 2.0, section 3;
+-- the limits, the rejections and their order are this project's own.
 use Rattle.std.specs.Prelude.{◌≡◌, ℕ, ◌==◌, ◌&&◌, ◌||◌, nat_lt, Bool, true, false, not, List, [], ◌++◌, length, take, map, position, Option, Some, None, option_map, option_to_list, slice_get, unwrap_or, Result, Ok, Err}
 use Rattle.std.specs.List.{flat_map, list_any, enumerate_from, find}
 use Rattle.std.specs.Option.{option_map_or}
@@ -175,7 +175,7 @@ IsAnswer rejections made (Ok x) = (rejections ≡ []) × (x ≡ made)
 IsAnswer rejections made (Err Memory) = Unit {0}
 IsAnswer rejections made (Err error) = slice_get rejections 0 ≡ Some error
 
--- trusted, TDT 2.0, section 3; own rules: What holds of every set: it is the set of rows that no rule rejects.
+-- trusted, TDT 2.0, section 3; own rules: The facts of every set: it is the set of rows that no rule rejects.
 pub record IsShaped (set : TableRows) : Type 0 where
   pub document : Document
   pub in_order : row_rejections document ≡ []

@@ -5,9 +5,10 @@ use gs_tables_builtin::builtin_document;
 use gs_tables_document::LoadFault;
 use std::alloc::Global;
 
-/// Returns the set of the built-in rows: the application identifiers, ten kinds of key, the binary and the tag option of each
-/// encoding for each company prefix length from 12 to 6, and the pure option of each kind. The rows go through the rules of
-/// `TableSet::load`, and its check of levels. Returns the first rejection if there is one. May return `Memory` instead.
+/// Returns the set of the built-in rows. They are the application identifiers, ten kinds of key, and the options of each
+/// encoding and kind. Each encoding has the binary and the tag option for each company prefix length from 12 to 6, and each
+/// kind the pure option. The rows go through the rules of `TableSet::load`, and its check of levels. Returns the first
+/// rejection if there is one. May return `Memory` instead.
 pub fn builtin(alloc: Global) -> Result<TableSet, LoadFault>
     ensures { BuiltInAnswer result }
 {

@@ -133,7 +133,7 @@ pub fn keeps_gcp(form: KeyForm, lead: u64, n: u64, items: &[Option<FieldItem>]) 
     }
 }
 
-/// Returns whether the digits or characters of the key after the company prefix are in one item, or in none if no digit is left.
+/// Returns whether one item has the digits or characters of the key after the company prefix, or none if no digit is left.
 #[tactic(auto, unfolding(crate::specs::Rules::keeps_rest))]
 pub fn keeps_rest(form: KeyForm, n: u64, items: &[Option<FieldItem>]) -> bool
     ensures { result ≡ keeps_rest form n (items_of_field Field.Rest (present items.now)) }
@@ -183,7 +183,7 @@ fn has_none(field: Field, items: &[Option<FieldItem>]) -> bool
     }
 }
 
-/// Returns whether there is one item each of the piece and the total, of that many digits, or none if the key has no pieces.
+/// Returns whether the piece and the total have one item each, of that many digits, or none if the key has no pieces.
 #[tactic(auto, unfolding(crate::specs::Rules::keeps_further))]
 pub(crate) fn keeps_further(form: KeyForm, items: &[Option<FieldItem>]) -> bool
     ensures { result ≡ keeps_further form (items_of_field Field.Piece (present items.now))

@@ -6,7 +6,7 @@ use gs_ai::{AiTable, Part};
 use gs_chars::{List, Memory};
 use std::alloc::Global;
 
-/// Digits with a check digit, and an optional tail, of characters or of digits.
+/// Returns the form of digits with a check digit, and an optional tail, of characters or of digits.
 fn digits_form(parts: &[Part]) -> Option<KeyForm>
     ensures { result ≡ digits_form parts.now }
 {

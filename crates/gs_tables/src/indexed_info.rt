@@ -7,7 +7,7 @@ use gs_tables_document::OptInfo;
 use std::alloc::Global;
 use std::marker::Model;
 
-/// The facts of each option of a level apart from its items, in the order of the options, with an index by kind and company
+/// The facts of each option of a level except its items, in the order of the options. An index finds them by kind and company
 /// prefix length. Contracts see the list of facts.
 pub struct IndexedInfo {
     info: List<OptInfo>,

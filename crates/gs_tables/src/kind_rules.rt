@@ -61,7 +61,8 @@ pub fn lists(row: &AiRow, code: &[u8]) -> bool
         .any(|listed| code == listed.as_bytes())
 }
 
-/// Returns whether the serial is in the tail if and only if the key has one, otherwise nowhere or in a qualifier of the key.
+/// Returns whether the serial is in the tail if and only if the key has one. Otherwise it must be nowhere, or in a qualifier of
+/// the key.
 fn is_serial_of(ais: &AiTable, row: &AiRow, form: KeyForm, serial: &[u8]) -> bool
     ensures { result ≡ is_serial_of ais.now row.now form (serial_at serial.now) }
 {

@@ -9,10 +9,10 @@ use gs_tables_document::LoadFault;
 use gs_tables_migration::second_text;
 use std::alloc::Global;
 
-/// Returns the text of a table document as one of version 2. For a document of version 1 it is the JSON text of the same tree
-/// with the version 2 and, in each kind, no further fields; for one of version 2, that of the same tree. The text has no spaces,
-/// and the members of each object once, in ascending order of name. It loads to the set that the document loads to. The bytes are
-/// a document that loads. Fails only with `Memory`.
+/// Returns the text of a table document as one of version 2: the JSON text of the same tree. For a document of version 1 the
+/// version becomes 2 and each kind gets no further fields. The text has no spaces, and the members of each object once, in
+/// ascending order of name. It loads to the set that the document loads to. The bytes are a document that loads. Fails only
+/// with `Memory`.
 pub fn migrated_text(alloc: Global, bytes: &[u8]) -> Result<Text, Memory>
     requires loads { Loads bytes.now }
     ensures text { IfOk result (IsMigrated bytes.now) }

@@ -51,11 +51,11 @@ impl TableSet {
     /// Returns the set that a table document gives, or its first rejection, in this order. `Json`: the bytes are not JSON text,
     /// or the document or a row does not have the form of its kind. `Version`: the version is neither 1 nor 2. `Limit` of the
     /// numbers of rows: application identifiers, kinds, options, items. `Ai`: the first error of the application identifiers.
-    /// `BadKind`: the first kind that breaks a rule. Then option by option of the levels binary, tag, pure: `BadItem` for its
-    /// first bad item, `Limit(Size)`, `Mismatch` if it does not fit its kind, `Duplicate` for the first earlier option of the
-    /// same kind, encoding and company prefix length. Last `Ambiguous`: the first level, in the same order, with a list of
-    /// symbols that has two different derivations, the first pair of its options that shares one, and such a list. Returns `Ok`
-    /// if and only if none of these applies. May return `Memory` instead.
+    /// `BadKind`: the first kind that breaks a rule. Then four rejections option by option, of the levels binary, tag, pure.
+    /// `BadItem`: its first bad item. `Limit(Size)`. `Mismatch`: it does not fit its kind. `Duplicate`: the first earlier
+    /// option of the same kind, encoding and company prefix length. Last `Ambiguous`: the first level, in the same order, with
+    /// a list of symbols that has two different derivations. It gives the first pair of its options that shares one, and such a
+    /// list. Returns `Ok` if and only if none of these applies. May return `Memory` instead.
     pub fn load(alloc: Global, bytes: &[u8]) -> Result<TableSet, LoadFault>
         ensures { LoadAnswer bytes.now result }
     {

@@ -55,7 +55,7 @@ partitions = partition 12 0 40 ∷ partition 11 1 37 ∷ partition 10 2 34 ∷ p
 abbrev pub encoding : List ℕ → List ℕ → ℕ → ℕ → RestForm → Option Item → Option Item → Encoding
 encoding name kind header width rest serial after = record { name = name; kind = kind; header = header; width = width; rest = rest; serial = serial; after = after }
 
--- trusted, own: a literal of zeros, that many
+-- trusted, own: a literal of that many zeros
 abbrev pub zeros : ℕ → Item
 zeros n = Lit (replicate n 0)
 
@@ -161,7 +161,7 @@ tag_items e p =
     (None, Lit (codes "urn:epc:tag:" ++ e.name ++ codes ":")) ∷ (Some Filter, Int 7) ∷ (None, Lit (codes ".")) ∷ (Some Gcp, Pad p.digits)
     ∷ behind_prefix (in_text_too (rest_in_bits e.rest p.digits (e.width - p.bits))) (pieces_in_text e.rest) (option_map in_text e.serial)
 
--- trusted, own: the pure identity of a kind: its name, what the rest is, and the serial
+-- trusted, own: the pure identity of a kind: its name, the form of the rest, and the serial
 abbrev pub identity : List ℕ → RestForm → Option Item → Identity
 identity name rest serial = record { name = name; rest = rest; serial = serial }
 

@@ -86,14 +86,14 @@ asset_ais =
     ∷ qualifier (codes "8019") (part.NumUpTo 10) []
     ∷ attribute (codes "8020") (part.Set 25) ∷ []
 
--- trusted, own: what partners agree on, and companies use for themselves
+-- trusted, own: the AIs that partners agree on, and that companies use internally
 unfoldable pub agreed_ais : List AiRow
 agreed_ais =
     attribute (codes "90") (part.Set 30)
     ∷ attribute (codes "91") (part.Set 90) ∷ attribute (codes "92") (part.Set 90) ∷ attribute (codes "93") (part.Set 90)
     ∷ attribute (codes "94") (part.Set 90) ∷ []
 
--- trusted, own: what companies use for themselves
+-- trusted, own: the AIs that companies use internally
 unfoldable pub company_ais : List AiRow
 company_ais =
     attribute (codes "95") (part.Set 90) ∷ attribute (codes "96") (part.Set 90) ∷ attribute (codes "97") (part.Set 90)

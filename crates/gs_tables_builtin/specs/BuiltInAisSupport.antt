@@ -23,7 +23,7 @@ row_of (line.Attribute code p) = attribute code.now p
 row_of (line.Qualifier code p none) = qualifier code.now p none.now
 row_of (line.Key code parts qualifiers short) = key code.now parts.now (map known qualifiers.now) short
 
--- the rows of goods: what and their number, their dates and weights
+-- the rows of goods: identification and count, dates and weights
 abbrev pub goods_ais : List AiRow
 goods_ais = item_ais ++ date_ais ++ variant_ais ++ additional_ais ++ weight_ais
 

@@ -70,7 +70,7 @@ fn push_rows(alloc: Global, rows: &mut Vec<AiRow>, lines: &[AiLine<'_>]) -> Resu
     Ok(())
 }
 
-/// Logistic units, trade items and lots.
+/// Appends the rows of logistic units, trade items and lots.
 #[tactic(auto, unfolding(crate::specs::BuiltInAis::item_ais))]
 fn add_items(alloc: Global, rows: &mut Vec<AiRow>) -> Result<(), Memory>
     ensures { OnOk result (rows.new.items ≡ rows.old.items ++ item_ais) }
@@ -87,7 +87,7 @@ fn add_items(alloc: Global, rows: &mut Vec<AiRow>) -> Result<(), Memory>
     )
 }
 
-/// Dates.
+/// Appends the rows of dates.
 #[tactic(auto, unfolding(crate::specs::BuiltInAis::date_ais))]
 fn add_dates(alloc: Global, rows: &mut Vec<AiRow>) -> Result<(), Memory>
     ensures { OnOk result (rows.new.items ≡ rows.old.items ++ date_ais) }
@@ -106,7 +106,7 @@ fn add_dates(alloc: Global, rows: &mut Vec<AiRow>) -> Result<(), Memory>
     )
 }
 
-/// Variants, serials and counts.
+/// Appends the rows of variants, serials and counts.
 #[tactic(auto, unfolding(crate::specs::BuiltInAis::variant_ais))]
 fn add_variants(alloc: Global, rows: &mut Vec<AiRow>) -> Result<(), Memory>
     ensures { OnOk result (rows.new.items ≡ rows.old.items ++ variant_ais) }
@@ -124,7 +124,7 @@ fn add_variants(alloc: Global, rows: &mut Vec<AiRow>) -> Result<(), Memory>
     )
 }
 
-/// Additional identifications, documents, extensions of locations and coupons.
+/// Appends the rows of additional identifications, documents, extensions of locations and coupons.
 #[tactic(auto, unfolding(crate::specs::BuiltInAis::additional_ais))]
 fn add_additional(alloc: Global, rows: &mut Vec<AiRow>) -> Result<(), Memory>
     ensures { OnOk result (rows.new.items ≡ rows.old.items ++ additional_ais) }
@@ -144,7 +144,7 @@ fn add_additional(alloc: Global, rows: &mut Vec<AiRow>) -> Result<(), Memory>
     )
 }
 
-/// Net weights.
+/// Appends the rows of net weights.
 #[tactic(auto, unfolding(crate::specs::BuiltInAis::weight_ais))]
 fn add_weights(alloc: Global, rows: &mut Vec<AiRow>) -> Result<(), Memory>
     ensures { OnOk result (rows.new.items ≡ rows.old.items ++ weight_ais) }
@@ -163,7 +163,7 @@ fn add_weights(alloc: Global, rows: &mut Vec<AiRow>) -> Result<(), Memory>
     )
 }
 
-/// Orders, consignments and shipments.
+/// Appends the rows of orders, consignments and shipments.
 #[tactic(auto, unfolding(crate::specs::BuiltInAis::shipment_ais))]
 fn add_shipments(alloc: Global, rows: &mut Vec<AiRow>) -> Result<(), Memory>
     ensures { OnOk result (rows.new.items ≡ rows.old.items ++ shipment_ais) }
@@ -180,7 +180,7 @@ fn add_shipments(alloc: Global, rows: &mut Vec<AiRow>) -> Result<(), Memory>
     )
 }
 
-/// Parties that goods are sent, billed or bought for.
+/// Appends the rows of parties that goods are sent, billed or bought for.
 #[tactic(auto, unfolding(crate::specs::BuiltInAis::party_ais))]
 fn add_parties(alloc: Global, rows: &mut Vec<AiRow>) -> Result<(), Memory>
     ensures { OnOk result (rows.new.items ≡ rows.old.items ++ party_ais) }
@@ -197,7 +197,7 @@ fn add_parties(alloc: Global, rows: &mut Vec<AiRow>) -> Result<(), Memory>
     )
 }
 
-/// Locations, and parties by themselves.
+/// Appends the rows of locations and other parties.
 #[tactic(auto, unfolding(crate::specs::BuiltInAis::location_ais))]
 fn add_locations(alloc: Global, rows: &mut Vec<AiRow>) -> Result<(), Memory>
     ensures { OnOk result (rows.new.items ≡ rows.old.items ++ location_ais) }
@@ -214,7 +214,7 @@ fn add_locations(alloc: Global, rows: &mut Vec<AiRow>) -> Result<(), Memory>
     )
 }
 
-/// Assets, pieces of trade items and services.
+/// Appends the rows of assets, pieces of trade items and services.
 #[tactic(auto, unfolding(crate::specs::BuiltInAis::asset_ais))]
 fn add_assets(alloc: Global, rows: &mut Vec<AiRow>) -> Result<(), Memory>
     ensures { OnOk result (rows.new.items ≡ rows.old.items ++ asset_ais) }
@@ -275,7 +275,7 @@ fn add_company(alloc: Global, rows: &mut Vec<AiRow>) -> Result<(), Memory>
     )
 }
 
-/// Appends the application identifiers of goods: what and their number, their dates and weights.
+/// Appends the application identifiers of goods: identification and count, dates and weights.
 fn add_goods(alloc: Global, rows: &mut Vec<AiRow>) -> Result<(), Memory>
     ensures { OnOk result (rows.new.items ≡ rows.old.items ++ goods_ais) }
 {

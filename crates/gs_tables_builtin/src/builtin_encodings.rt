@@ -27,7 +27,7 @@ pub(crate) const PARTITIONS: [Partition; 7] = partitions! {
     6 6 20;
 };
 
-/// Returns a literal of zeros, that many.
+/// Returns a literal of `n` zeros.
 pub(crate) fn zeros(alloc: Global, n: u8) -> Result<Item, Memory>
     ensures { IfOk result (λ item. item ≡ zeros n) }
 {

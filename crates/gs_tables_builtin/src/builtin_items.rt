@@ -24,7 +24,7 @@ fn push_item(
     Ok(())
 }
 
-/// Appends a literal of the lowest bits of a number, that many, the highest first.
+/// Appends a literal of the lowest `width` bits of a number, the highest first.
 #[tactic(auto, unfolding(gs_bits::specs::Bits::bits_of))]
 fn add_bits(
     alloc: Global,

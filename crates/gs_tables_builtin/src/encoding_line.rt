@@ -7,13 +7,13 @@ pub(crate) enum ItemLine {
     Nothing,
     /// A number in that many bits, and the greatest.
     Number(u8, u64),
-    /// Digits in that many bits, at least one and at most that many.
+    /// At least one digit, at most the second number, in bits of the first number.
     Count(u8, u8),
-    /// At least one character, at most that many, in that many bits.
+    /// At least one character, at most the first number, in bits of the second number.
     Characters(u8, u16),
-    /// That many zeros, or that many.
+    /// Zeros of one of these two lengths.
     Fill(u8, u8),
-    /// That many zeros.
+    /// Zeros of this length.
     Zeros(u8),
 }
 

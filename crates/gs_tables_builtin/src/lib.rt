@@ -15,8 +15,8 @@
 //!
 //! # Differences from the standard
 //!
-//! - It has the encodings of ten kinds of GS1 EPC Tag Data Standard 2.0, for company prefixes of 6 to 12 digits, and none of
-//!   those that carry a whole element string.
+//! - It has the encodings of ten kinds of GS1 EPC Tag Data Standard 2.0, for company prefixes of 6 to 12 digits. It has none of
+//!   the encodings that carry a whole element string.
 //! - Of the GS1 General Specifications it has the application identifiers that are met most; tables/gs1.json has more.
 #![tactic(auto)]
 

@@ -138,7 +138,7 @@ one_of_bytes bytes a b e f =
     let same = same_tree bytes e.0 f.0 e.1 f.1 in
     one_document e.0 a b e.3 (rw (sym same) at f.3)
 
--- bytes that are not JSON text are not text of a tree
+-- bytes that are not JSON text are not the text of a tree
 no_tree : (bytes : List ℕ) (d : Data) → (IsUtf8 bytes → read_text bytes ≡ None) → IsJson bytes d → ⊥
 no_tree bytes d none is = let same : None ≡ Some d = sym (none is.0) ∙ is.1 in cc
 

@@ -76,7 +76,8 @@ is_bits Binary = true
 is_bits Tag = false
 is_bits Pure = false
 
--- trusted, own: each of the first is, in order, what the second says
+-- trusted, own: holds if each item of the first list relates to the item of the second at its place, and the lists have one
+-- length
 abbrev pub Each : {X Y : Type 0} → (X → Y → Type 0) → List X → List Y → Type 0
 Each Is [] [] = Unit {0}
 Each Is (x ∷ xs) (y ∷ ys) = Is x y × Each Is xs ys
@@ -100,7 +101,7 @@ pub record IsRole (text : List ℕ) (r : Role) : Type 0 where
   pub written : r ≢ role.Other → role_text r ≡ text
   pub other : r ≡ role.Other → WritesNoRole text
 
--- trusted, own: what a document of version 2 reads a part as, and one of another version, which has no part `n..K?`
+-- trusted, own: the reading of a part in a document of version 2, or in one of another version, which has no part `n..K?`
 abbrev pub part_in : Bool → Part → Part
 part_in false (part.NumOpt _) = part.Other
 part_in _ p = p

@@ -170,8 +170,7 @@ is_first_field (Some Piece) = false
 is_first_field (Some Total) = false
 is_first_field _ = true
 
--- trusted, own: what a document of version 2 reads an item as, and one of another version: it has no item there that
--- version 1 does not have
+-- trusted, own: the reading of an item in a document of version 2, or in one of another version: it has only items of version 1
 abbrev pub item_in : Bool → Option FieldItem → Option FieldItem
 item_in true answer = answer
 item_in false answer =

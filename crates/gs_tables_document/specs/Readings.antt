@@ -1,4 +1,4 @@
--- What the bytes of a table document are read as: its rows, or the first error of its form.
+-- The reading of the bytes of a table document: its rows, or the first error of its form.
 use Rattle.std.specs.Prelude.{◌≡◌, ◌⊎◌, ℕ, List, [], Some, None, slice_get, IsUtf8}
 use Rattle.serde_json.specs.Data.{Data}
 use Rattle.serde_json.specs.Read.{read as read_text}

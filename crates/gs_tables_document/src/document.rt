@@ -6,10 +6,10 @@ use gs_grammar::Item;
 /// An item, and the field that its value stands for, none for a literal and a fill.
 pub type FieldItem = (Option<Field>, Item);
 
-/// A kind as a document has it, before it is judged.
+/// A kind of a document, before it is judged.
 #[derive(Drop)]
 pub struct KindRow {
-    /// The name, as EPC URIs have it.
+    /// The name, as written in EPC URIs.
     pub name: Text,
     /// The code of the key.
     pub key: Text,
@@ -21,7 +21,7 @@ pub struct KindRow {
     pub fields: List<Text>,
 }
 
-/// An option as a document has it, before it is judged.
+/// An option of a document, before it is judged.
 #[derive(Drop)]
 pub struct OptionRow {
     /// The name of its kind.

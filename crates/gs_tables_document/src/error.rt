@@ -3,7 +3,7 @@ use gs_ai::AiFault;
 use gs_chars::{Memory, Text};
 use gs_json::JsonFault;
 
-/// What there may be only that many of.
+/// A quantity that is limited.
 #[derive(Clone, Copy, Debug)]
 pub enum LimitName {
     /// Rows of application identifiers, at most `MOST_ROWS`.
@@ -37,8 +37,8 @@ pub enum LoadFault {
     Mismatch(LevelName, usize),
     /// The options of the level at the two indexes have the same kind, encoding and prefix length.
     Duplicate(LevelName, usize, usize),
-    /// The options of the level at the two indexes, which may be one option, are the first pair that shares a list of symbols,
-    /// and no earlier level has such a pair. The text is one that they share, with bits as `0` and `1`.
+    /// The options of the level at the two indexes, which may be one option, are the first pair that shares a list of symbols.
+    /// No earlier level has such a pair. The text is one that they share, with bits as `0` and `1`.
     Ambiguous {
         /// The level.
         level: LevelName,

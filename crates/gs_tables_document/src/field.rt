@@ -1,7 +1,7 @@
 ghost use Rattle.std.specs.Prelude.{◌≡◌};
 ghost use Rattle.gs_tables_document.specs.Items.{field_of};
 
-/// What the value of an item stands for.
+/// The meaning of the value of an item.
 #[derive(Clone, Copy, Debug, PartialEq, Eq)]
 pub enum Field {
     /// The filter value of a tag.

@@ -21,7 +21,7 @@ fn literal_text(item: &Value) -> Option<&str>
     text_arg(item, 1)
 }
 
-/// `["lit", TEXT]`.
+/// Reads `["lit", TEXT]`.
 pub(crate) fn read_literal(alloc: Global, item: &Value) -> Result<FieldItem, ItemFault>
     ensures { Reads result (literal (view item.now)) }
 {
@@ -31,7 +31,7 @@ pub(crate) fn read_literal(alloc: Global, item: &Value) -> Result<FieldItem, Ite
     }
 }
 
-/// `["lit", BITS]`.
+/// Reads `["lit", BITS]`.
 pub(crate) fn read_bits(alloc: Global, item: &Value) -> Result<FieldItem, ItemFault>
     ensures { Reads result (bit_literal (view item.now)) }
 {
@@ -41,7 +41,7 @@ pub(crate) fn read_bits(alloc: Global, item: &Value) -> Result<FieldItem, ItemFa
     }
 }
 
-/// `["pad", FIELD, n]`.
+/// Reads `["pad", FIELD, n]`.
 pub(crate) fn read_pad(item: &Value) -> Option<FieldItem>
     ensures { result ≡ pad (view item.now) }
 {
@@ -50,7 +50,7 @@ pub(crate) fn read_pad(item: &Value) -> Option<FieldItem>
     Some((Some(field), Item::Pad { n }))
 }
 
-/// `["int", FIELD, max]`.
+/// Reads `["int", FIELD, max]`.
 pub(crate) fn read_int(item: &Value) -> Option<FieldItem>
     ensures { result ≡ int (view item.now) }
 {
@@ -59,7 +59,7 @@ pub(crate) fn read_int(item: &Value) -> Option<FieldItem>
     Some((Some(field), Item::Int { max }))
 }
 
-/// `["esc", FIELD, lo, hi]`.
+/// Reads `["esc", FIELD, lo, hi]`.
 pub(crate) fn read_esc(item: &Value) -> Option<FieldItem>
     ensures { result ≡ esc (view item.now) }
 {
@@ -68,7 +68,7 @@ pub(crate) fn read_esc(item: &Value) -> Option<FieldItem>
     Some((Some(field), Item::Esc { lo, hi }))
 }
 
-/// `["digits", FIELD, lo, hi]`.
+/// Reads `["digits", FIELD, lo, hi]`.
 pub(crate) fn read_digits(item: &Value) -> Option<FieldItem>
     ensures { result ≡ digits (view item.now) }
 {
@@ -77,7 +77,7 @@ pub(crate) fn read_digits(item: &Value) -> Option<FieldItem>
     Some((Some(field), Item::Digits { lo, hi }))
 }
 
-/// `["numpad", FIELD, bits, n]`.
+/// Reads `["numpad", FIELD, bits, n]`.
 pub(crate) fn read_numpad(item: &Value) -> Option<FieldItem>
     ensures { result ≡ numpad (view item.now) }
 {
@@ -86,7 +86,7 @@ pub(crate) fn read_numpad(item: &Value) -> Option<FieldItem>
     Some((Some(field), Item::NumPad { bits, n }))
 }
 
-/// `["num", FIELD, bits, max]`.
+/// Reads `["num", FIELD, bits, max]`.
 pub(crate) fn read_num(item: &Value) -> Option<FieldItem>
     ensures { result ≡ num (view item.now) }
 {
@@ -96,7 +96,7 @@ pub(crate) fn read_num(item: &Value) -> Option<FieldItem>
     Some((Some(field), Item::Num { bits, max }))
 }
 
-/// `["numstr", FIELD, bits, hi]`.
+/// Reads `["numstr", FIELD, bits, hi]`.
 pub(crate) fn read_numstr(item: &Value) -> Option<FieldItem>
     ensures { result ≡ numstr (view item.now) }
 {
@@ -105,7 +105,7 @@ pub(crate) fn read_numstr(item: &Value) -> Option<FieldItem>
     Some((Some(field), Item::NumStr { bits, hi }))
 }
 
-/// `["ascii7", FIELD, lo, hi, bits]`.
+/// Reads `["ascii7", FIELD, lo, hi, bits]`.
 pub(crate) fn read_ascii7(item: &Value) -> Option<FieldItem>
     ensures { result ≡ ascii7 (view item.now) }
 {
@@ -115,7 +115,7 @@ pub(crate) fn read_ascii7(item: &Value) -> Option<FieldItem>
     Some((Some(field), Item::Ascii7 { lo, hi, bits }))
 }
 
-/// `["fill", a, b]`.
+/// Reads `["fill", a, b]`.
 pub(crate) fn read_fill(item: &Value) -> Option<FieldItem>
     ensures { result ≡ fill (view item.now) }
 {

@@ -13,8 +13,8 @@ use serde_json::Value;
 use std::alloc::Global;
 
 /// Returns an item of an option with the field of its value; a literal and a fill have none. Returns `Bad` if and only if the
-/// part is not an array, has an unknown name or one of the other kind of level, a wrong number or kind of arguments, an unknown
-/// field, or a number that its place in the item cannot hold.
+/// part breaks one of these rules. It is an array. Its name is known and of this kind of level. It has the right number and
+/// kind of arguments. Each field is known, and each number fits its place in the item.
 pub fn read_item(alloc: Global, item: &Node<'_>, bit_level: bool) -> Result<FieldItem, ItemFault>
     ensures { Reads result (item_of bit_level (view item.now.tree)) }
 {

@@ -5,7 +5,7 @@ use gs_chars::{List, Text};
 pub enum SerialAt {
     /// The kind has none.
     Nowhere,
-    /// At the end of the key's own value.
+    /// At the end of the key's value.
     Tail,
     /// In a separate element with this AI.
     Ai(Text),
@@ -13,7 +13,7 @@ pub enum SerialAt {
 
 /// A kind of EPC: a key of the application identifiers, and how its value is taken apart.
 pub struct Kind {
-    /// The name, as EPC URIs have it.
+    /// The name, as written in EPC URIs.
     pub name: Text,
     /// The code of the key.
     pub key: Text,

@@ -3,7 +3,7 @@
 pub struct Reading {
     /// Whether the items are those of a bit level.
     pub bits: bool,
-    /// Whether the document is of version 2, and so may have the part `n..K?`, the items `digits` and `numstr`, and the
-    /// fields `piece` and `total`.
+    /// Whether the document is of version 2. It then may have the part `n..K?`, the items `digits` and `numstr`, and the fields
+    /// `piece` and `total`.
     pub second: bool,
 }

@@ -18,15 +18,15 @@ use gs_json::{items_in, number_in, text_in, truth_in};
 use serde_json::Value;
 use std::alloc::Global;
 
-/// What a part of a document is read as.
+/// A type that a part of a document is read as.
 pub(crate) trait Row: Drop {
     ghost use Rattle.serde_json.specs.Data.{Data};
     ghost use Rattle.gs_tables_document.specs.declared.read_mode.Reading.{Reading};
 
-    /// The last is what the part is read as.
+    /// The last argument is the row that the part is read as.
     ghost reads: { Reading → Data → Self → Type 0 };
 
-    /// Reads a part of a document, whatever it is.
+    /// Reads any part of a document.
     fn read(alloc: Global, value: &Value, reading: Reading) -> Result<Self, Memory>
         ensures { IfOk result (λ row. reads reading (view value.now) row) };
 }

@@ -54,7 +54,7 @@ pub named_last : (plan : List Entry) (entry : Entry) → is_named (plan ++ entry
 named_last [] entry = rw (same_bytes entry.name) refl
 named_last (e ∷ plan) entry = named_or (bytes_eq e.name entry.name) true (is_named (plan ++ entry ∷ []) entry.name) (true_or (bytes_eq e.name entry.name)) (λ _. named_last plan entry)
 
--- what a plan names, a plan of one entry more names too
+-- a plan of one entry more names everything that a plan names
 module _ (plan : List Entry) (entry : Entry) where
   none_unknown_by : (l : List ℕ) (names : List (List ℕ)) (b : Bool) → is_named plan l ≡ b → (unknown_among plan names ≡ [] → unknown_among (plan ++ entry ∷ []) names ≡ [])
       → unknown_among plan (l ∷ names) ≡ [] → unknown_among (plan ++ entry ∷ []) (l ∷ names) ≡ []

@@ -34,10 +34,11 @@ fn text_of(alloc: Global, tree: Value) -> Result<Text, Memory>
     Ok(Text::from_vec(tree.to_vec(alloc)?))
 }
 
-/// Returns the text of a table document as one of version 2: the JSON text of the same tree with the version 2 and, in each kind,
-/// no further fields, or of the tree itself if it is of version 2. It has no spaces, the members of each object in ascending
-/// order of name, and only the last of the members with one name. It is a document of version 2 with the rows of the bytes. These
-/// are a document of version 1 or 2 whose parts and items are all known. Fails only with `Memory`.
+/// Returns the text of a table document as one of version 2. It is the JSON text of the same tree, with the version 2 and no
+/// further fields in each kind. If the document is of version 2, it is that of the tree itself. It has no spaces, the members
+/// of each object in ascending order of name, and only the last of the members with one name. It is a document of version 2
+/// with the rows of the bytes. These are a document of version 1 or 2 whose parts and items are all known. Fails only with
+/// `Memory`.
 pub fn second_text(alloc: Global, bytes: &[u8]) -> Result<Text, Memory>
     requires known { (document : Document) × Holds bytes.now document × IsKnown document }
     ensures text { IfOk result (IsMigrated bytes.now) }

@@ -55,7 +55,7 @@ code_at text k h low high =
     let size = length_taken k text (omega (arith, within)) in
     rw (digits, size, low, high) refl
 
--- what a size says: so many digits, which are a code
+-- the meaning of a size: that many digits, which are a code
 code_here : (text : List ℕ) (n : ℕ) → code_size text ≡ suc n → is_code (take (suc n) text) ≡ true
 unfolding code_size
 code_here text n h = by (is_closed 2 text) (is_closed 3 text) (is_closed 4 text) refl refl refl h

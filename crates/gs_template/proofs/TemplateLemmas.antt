@@ -56,7 +56,7 @@ drop_at xs i x h e = let next : i + 1 ≡ suc i = omega arith in rw next (by xs 
     by (y ∷ ys) zero h e = rw (e, start ys) refl
     by (y ∷ ys) (suc i) h e = by ys i (omega arith) e
 
--- the items after an index, as a slice gives them
+-- the items after an index, in the form of a slice
 pub rest_whole : (xs : List ℕ) (n : ℕ) → take (length xs - n) (drop n xs) ≡ drop n xs
 rest_whole xs n = take_all (length xs - n) (drop n xs) (let size = length-drop n xs in omega (arith, size))
 

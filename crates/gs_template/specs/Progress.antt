@@ -20,7 +20,7 @@ AreErrorsFrom codes href i further = errors_from codes 0 (parts href) ≡ errors
 abbrev pub IsFilledTo : Elements → List ℕ → List ℕ → ℕ → ℕ → Type 0
 IsFilledTo identity href out i further = filled href identity ≡ out ++ flat_map (stands_for identity) (parts_behind further (drop i href))
 
--- holds if the output so far and the unchanged rest, after n bytes, have the delimiters of the whole, and are UTF-8 if it is
+-- holds if the output so far and the unchanged rest, after n bytes, have the delimiters of the whole. They are UTF-8 if it is
 abbrev pub KeepsTo : List ℕ → List ℕ → ℕ → ℕ → Type 0
 KeepsTo href out i further =
     (filter is_delimiter (out ++ drop further (drop i href)) ≡ filter is_delimiter href)

@@ -37,7 +37,7 @@ abbrev pub bytes_behind : ℕ → ℕ
 bytes_behind zero = 0
 bytes_behind (suc n) = suc (suc n)
 
--- the parts of a text after that many of its bytes, from the start: places where they begin, otherwise single bytes
+-- the parts of a text after that many of its bytes, from the start: the places that begin in it, and otherwise single bytes
 abbrev pub parts_behind : ℕ → List ℕ → List Part
 parts_behind n [] = []
 parts_behind (suc n) (c ∷ text) = parts_behind n text
@@ -81,8 +81,8 @@ filled href identity = flat_map (stands_for identity) (parts href)
 abbrev pub reserved : List ℕ
 reserved = codes ":/?#[]@!$&'()*+,;="
 
--- trusted, RFC 3986, section 2, and own: a delimiter is a reserved character, or what no reference has: a blank, a control byte,
--- or a byte beyond ISO 646
+-- trusted, RFC 3986, section 2, and own: a delimiter is a reserved character, or one that no reference has: a blank, a control
+-- byte, or a byte beyond ISO 646
 unfoldable pub is_delimiter : ℕ → Bool
 is_delimiter c = list_any (λ x. x == c) reserved || (nat_lt c 33 || nat_lt 126 c)
 

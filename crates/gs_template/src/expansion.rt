@@ -20,7 +20,7 @@ fn pair_with<'a>(pairs: &'a [Pair], code: &[u8]) -> Option<&'a Pair>
     pairs.iter().find(|pair| is_coded(code, pair))
 }
 
-/// Returns the value of the first pair with a code, and nothing if none has it.
+/// Returns the value of the first pair with a code, or nothing if there is no such pair.
 fn value_among<'a>(pairs: &'a [Pair], code: &[u8]) -> &'a [u8]
     ensures { result.now ≡ value_of (find (is_coded code.now) pairs.now) }
 {
@@ -73,8 +73,8 @@ fn append_part(
     Ok(size + 1)
 }
 
-/// Returns the template with each place `{CODE}` replaced by the identity's value of this AI, escaped as in a Digital Link URI,
-/// or by nothing if the identity has no such element. All other bytes are unchanged (RFC 6570, section 3.2.2). A place is an
+/// Returns the template with each place `{CODE}` replaced by the identity's value of this AI, escaped as in a Digital Link URI.
+/// A place is empty if the identity has no such element. All other bytes are unchanged (RFC 6570, section 3.2.2). A place is an
 /// opening brace, 2 to 4 digits and a closing brace. No value adds a delimiter, and a template that is valid UTF-8 expands to
 /// valid UTF-8. Fails only with `Memory`.
 pub fn expand(alloc: Global, href: &[u8], identity: &Identity) -> Result<Text, Memory>

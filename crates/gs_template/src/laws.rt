@@ -16,7 +16,8 @@ pub fn values_add_no_delimiter()
         → filter is_delimiter (filled href identity) ≡ filter is_delimiter href }
 {}
 
-/// A template is cut into parts in one way: spelled one after another the parts are the template, and no place was missed.
+/// States that a template is cut into parts in one way. Spelled one after another the parts are the template, and no place was
+/// missed.
 pub fn parts_of_a_template()
     ensures { (href : List ℕ) (found : List Part) → (found ≡ parts href) ↔ AreParts found href }
 {}

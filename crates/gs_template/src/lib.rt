@@ -16,8 +16,8 @@
 //!
 //! # Differences from the standard
 //!
-//! - A name is 2 to 4 digits. A brace outside a place is literal, where RFC 6570 has an error.
-//! - The tilde is escaped too, as in a canonical link; no value contains one.
+//! - A name is 2 to 4 digits. A brace outside a place is literal; RFC 6570 makes it an error.
+//! - The tilde is escaped too, like in a canonical link; no value contains one.
 #![tactic(auto)]
 
 mod error;

@@ -72,10 +72,10 @@ fn judge(
     }
 }
 
-/// Checks that each brace of a template belongs to a place, and that each place has the AI of the key or of one of its
-/// qualifiers. Returns the first error from the start. `Brace`: an opening brace without 2 to 4 digits and a closing brace after
-/// it, or a closing brace outside a place. `Code`: a place with another AI. The row of `key` in the table lists the qualifiers;
-/// without a row, only the key's own AI is allowed. Does not allocate.
+/// Checks that each brace of a template belongs to a place. Each place must have the AI of the key or of one of its qualifiers.
+/// Returns the first error from the start. `Brace`: an opening brace without 2 to 4 digits and a closing brace after it.
+/// `Brace`: a closing brace outside a place. `Code`: a place with another AI. The row of `key` in the table lists the
+/// qualifiers; without a row, only the key's own AI is allowed. Does not allocate.
 #[tactic(auto, unfolding(crate::specs::Errors::place_errors))]
 pub fn places_ok(table: &AiTable, key: &[u8], href: &[u8]) -> Result<(), PlaceFault>
     ensures { result ≡ first_error (place_errors table.now key.now href.now) }

@@ -150,7 +150,7 @@ one_answer set form text asks = then_one (IsRead set form text) IsCanonical (one
 
 -- ---- an answer to the symbols of a level
 
--- a text says an EPC of the set, or there is an error that is not out of memory
+-- a text spells an EPC of the set, or there is an error that is not out of memory
 data Known (set : TableRows) (Reads : Result Epc EpcFault → Type 0) : Type 0 where
   says_epc : (epc : Epc) → Reads (Ok epc) → IsOfSet set epc → Known set Reads
   has_error : (error : EpcFault) → error ≢ Memory → Reads (Err error) → Known set Reads
@@ -244,7 +244,7 @@ some_canonical meaning = (Ok (canonical_link meaning.identity), refl)
 pub some_answer : (set : TableRows) (form : Form) (text : List ℕ) → AsksForSome form set → HasSome (IsAnswer set form text)
 some_answer set form text asks = then_some (IsRead set form text) IsCanonical (some_read set form text asks) (λ meaning read. some_canonical meaning)
 
--- ---- tables that are loaded keep what each form asks for
+-- ---- loaded tables satisfy the conditions of each form
 
 pub suits_one : (set : TableRows) (form : Form) → IsLoaded set → AsksForOne form set
 suits_one set form.Hex loaded = tt

@@ -1,4 +1,4 @@
--- What a text means by what it names.
+-- The meaning of a text by the identity that it names.
 use Rattle.std.proofs.Common.{◌≡◌, refl, sym, subst}
 use Rattle.std.specs.Prelude.{◌≢◌, Result, Ok, Err}
 use Rattle.gs_tables.specs.Tables.{TableRows}

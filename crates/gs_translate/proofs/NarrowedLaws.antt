@@ -18,7 +18,7 @@ use Rattle.gs_ident.proofs.IdentityLemmas.{Made, made_facts, made_with}
 use Rattle.gs_translate.specs.Targets.{key_and_serial}
 use Rattle.gs_ident.proofs.PairLemmas.{Each, each_from_all, find_by_cases, found_each, found_passes}
 
--- ---- what a filter of pairs with distinct codes leaves
+-- ---- the rest after a filter of pairs with distinct codes
 
 -- the pairs of the code are one pair of the list, whose code is listed, or none
 abbrev IsOneOf : List Pair → List (List ℕ) → List Pair → Type 0
@@ -155,7 +155,7 @@ module _ (table : List AiRow) (identity : Elements) (rules : KeepsRules table) (
       made_with table (facts.key ∷ serial ∷ []) (record { key = facts.key; qualifiers = serial ∷ []; attributes = [] })
       (All-cons (IsInOrder table) facts.key (serial ∷ []) key_in_order (All-cons (IsInOrder table) serial [] in_order (All-nil (IsInOrder table)))) made_of
 
-  -- the key with what the list of its code leaves
+  -- the key with the pairs that the list of its codes leaves
   one_is_made : (left : List Pair) → IsOneOf pairs own_row.row.qualifiers left → IsMadeWith table (record { key = facts.key; qualifiers = left; attributes = [] })
   one_is_made left (inl none) = rw none (subst (λ (key : Pair). IsMadeWith table (record { key = key; qualifiers = []; attributes = [] })) key_is alone_is_made)
   one_is_made left (inr one) =

@@ -59,7 +59,7 @@ module _ (items : List Item) (values : List (List ℕ)) where
       let both : Some why ≡ None = sym a.reason ∙ none in
       cc
 
--- what a rejection says: an item rejects, or a field is left out
+-- the cases of a rejection: an item rejects, or a field is left out
 abbrev pub Says : List Item → List (List ℕ) → List (Option Field) → Option Field → Field → Why → Type 0
 Says items values fields out field why =
     ((k : ℕ) × IsFirstRejection items values k why × (field ≡ field_at fields k)) ⊎ (AreHeld items values × (out ≡ Some field) × (why ≡ Length))

@@ -1,4 +1,4 @@
--- What element strings and links mean: one thing, by tables that satisfy their rules.
+-- The meaning of element strings and links: one thing, by tables that satisfy their rules.
 use Rattle.std.proofs.Common.{◌≡◌, ◌⊎◌, inl, inr, ℕ, List, [], ◌∷◌, map, refl, sym, ◌∙◌, ap, arith}
 use Rattle.std.specs.Prelude.{◌≢◌, Some, None, Result, Ok, Err, MatchResult}
 use Rattle.gs_chars.proofs.TruthsAndLists.{none_behind, none_in_front}

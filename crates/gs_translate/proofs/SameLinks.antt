@@ -21,7 +21,7 @@ use Rattle.gs_translate.proofs.AnswerLaws.{one_read}
 use Rattle.gs_translate.proofs.MadeLaws.{made_of_read}
 use Rattle.gs_translate.proofs.PairLaws.{ais_kept}
 
--- tables that satisfy their rules keep what each form asks for so that no text means two things
+-- tables that satisfy their rules meet the conditions of each form, so that no text means two things
 pub shaped_suits_one : (set : TableRows) (form : Form) → IsShaped set → AsksForOne form set
 shaped_suits_one set form.Hex shaped = tt
 shaped_suits_one set form.Tag shaped = tt

@@ -103,7 +103,7 @@ module _ (set : TableRows) (level : LevelName) (epc : Epc) where
     last : (i : ℕ) → option < i → i < n → Candidate set level epc i → ⊥
     none : NoneHoldsBefore set level epc n
 
-  -- what the first n options say
+  -- the facts of the first n options
   data Tried (n : ℕ) : Type 0 where
     writes : (text : List ℕ) → Writes set level epc text → Tried n
     no_candidate : ((i : ℕ) → i < n → Candidate set level epc i → ⊥) → Tried n

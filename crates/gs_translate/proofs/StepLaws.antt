@@ -28,7 +28,7 @@ then_some_from First Next (Err error) f next = (Err error, rejects error f refl)
 pub then_some : {A B E : Type 0} (First : Result A E → Type 0) (Next : A → Result B E → Type 0) → HasSome First → ((a : A) → First (Ok a) → HasSome (Next a)) → HasSome (Then First Next)
 then_some First Next first next = then_some_from First Next first.0 first.1 next
 
--- an answer whose reason is said in other words is the one that is given
+-- an answer whose reason is reworded is the given one
 pub said_ok : {A E R : Type 0} (say : E → R) (given : Result A E) (a : A) → Ok a ≡ reworded say given → given ≡ Ok a
 said_ok say (Ok own) a e = let same : own ≡ a = (let f : Ok a ≡ Ok own = e in cc) in ap Ok same
 said_ok say (Err error) a e = absurd (let f : Ok a ≡ Err (say error) = e in cc)
@@ -102,7 +102,7 @@ appends_map : {Done : Type 0} (Answer Other : Result (List ℕ) Reason → Type 
 appends_map Answer Other before now (Ok done) f a = (a.0, a.1, f (Ok a.0) a.2)
 appends_map Answer Other before now (Err reason) f a = (a.0, f (Err reason) a.1)
 
--- what a later step appends is appended by the steps together
+-- the text that a later step appends is appended by the steps together
 pub then_appended : {A Done : Type 0} (First : Result A Reason → Type 0) (Next : A → Result (List ℕ) Reason → Type 0) (a : A) (before now : List ℕ) (result : Result Done Reason) → First (Ok a) → UnlessMemory result (AppendsText (Next a) before now result) → UnlessMemory result (AppendsText (Then First Next) before now result)
 then_appended First Next a before now result first next =
     unless_map result (appends_map (Next a) (Then First Next) before now result (λ answer is. goes_on a first is)) next

@@ -1,4 +1,4 @@
--- What a text of a form means: TDS 2.0, sections 6 and 12 (URIs), 14 (tag bits) and 7 (keys); GS1 General Specifications,
+-- The meaning of a text of a form: TDS 2.0, sections 6 and 12 (URIs), 14 (tag bits) and 7 (keys). GS1 General Specifications,
 -- sections 7.8 and 4 (element strings); GS1 Digital Link URI Syntax, section 3 (links).
 use Rattle.std.specs.Prelude.{◌≡◌, ℕ, ◌<◌, ◌≤◌, List, [], length, Some, None, Result, Ok, Err, MatchResult}
 use Rattle.std.specs.Result.{result_map_both}
@@ -25,7 +25,7 @@ use Rattle.gs_translate.specs.declared.reason.Reason.{Reason}
 use Rattle.gs_translate.specs.declared.reason.Reason.TheVariants.{Epc as NoEpc, Element, Ident, Long, NoKeyPath, NotHttp, Memory as OutOfMemory}
 use Rattle.gs_translate.specs.Steps.{Reworded, Then, reworded}
 
--- ---- of what a tag or an EPC URI says
+-- ---- the contents of a tag or an EPC URI
 
 -- trusted, own: the meaning of an EPC that names these elements
 abbrev pub epc_meaning : Epc → Elements → Meaning
@@ -42,7 +42,7 @@ MeansEpc set epc answer = (elements : Elements) × IsLaidOut set epc elements ×
 abbrev pub OfElement : (ElementFault → Type 0) → Reason → Type 0
 OfElement IsError reason = (error : ElementFault) × (reason ≡ Element error) × IsError error
 
--- trusted, own: the pairs of an element string as a reader of symbols gives it, or why it has none
+-- trusted, own: the pairs of an element string as a barcode scanner transmits it, or why it has none
 abbrev pub ReadsRaw : TableRows → List ℕ → Result (List Pair) Reason → Type 0
 ReadsRaw set text answer = MatchResult answer (IsRaw set.ais text) (OfElement (IsRawError set.ais text))
 

@@ -1,5 +1,5 @@
--- What an identity has to be to be written as a tag or an EPC URI: TDS 2.0, section 7 (correspondence between EPCs and GS1
--- keys). The reasons and their order are this project's own.
+-- The conditions for writing an identity as a tag or an EPC URI: TDS 2.0, section 7 (correspondence between EPCs and GS1 keys).
+-- The reasons and their order are this project's own.
 use Rattle.std.specs.Prelude.{ℕ, ◌≤◌, ◌==◌, ◌&&◌, ◌||◌, not, Bool, true, false, if◌then◌else◌, List, ◌++◌, find, IfSome, is_none, position, slice_get, take_while, Option, Result, Ok, Err, bytes_eq}
 use Rattle.std.specs.List.{list_any}
 use Rattle.std.specs.Option.{option_map_or, option_or}

@@ -25,7 +25,7 @@ use Rattle.gs_translate.specs.Meanings.{IsRead, Means}
 use Rattle.gs_translate.specs.Steps.{Reworded, Then}
 use Rattle.gs_translate.specs.Targets.{FitsFilter, epc_for, kept}
 
--- trusted, own: what options keep: a filter value of 0 to 7, and a stem that a link may have
+-- trusted, own: the rules that options satisfy: a filter value of 0 to 7, and a stem that a link may have
 pub record AreInOrder (options : Options) : Type 0 where
   pub filter : FitsFilter options.filter
   pub stem : stem_ok options.stem ≡ true
@@ -38,7 +38,7 @@ write_reason write.NoOption = NoOption
 write_reason (write.CannotHold field why) = CannotHold field why
 write_reason write.Memory = Memory
 
--- trusted, own: the text of a level of what a text means, by the first option that holds the EPC, or the first reason why there
+-- trusted, own: the text of a level for a text's meaning, by the first option that holds the EPC, or the first reason why there
 -- is none
 abbrev pub IsOfLevel : TableRows → List PrefixEntry → Options → LevelName → Meaning → Result (List ℕ) Reason → Type 0
 IsOfLevel set prefixes options level meaning answer =
@@ -64,7 +64,7 @@ abbrev pub IsTranslation : TableRows → List PrefixEntry → Options → Form �
 IsTranslation set prefixes options from to text answer =
     Then (IsRead set from text) (λ meaning. IsSpelling set prefixes options to (kept set options.keys_only meaning)) answer
 
--- trusted, own: what texts are translated by, and from which form to which
+-- trusted, own: the data by which texts are translated, and from which form to which
 pub record Translating : Type 0 where
   pub set : TableRows
   pub prefixes : List PrefixEntry

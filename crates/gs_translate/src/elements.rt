@@ -33,7 +33,7 @@ fn meaning_of_pairs(alloc: Global, set: &TableSet, pairs: Vec<Pair>) -> Result<M
     }
 }
 
-/// Returns the meaning of an element string as a reader of symbols gives it.
+/// Returns the meaning of an element string as a barcode scanner transmits it.
 pub(crate) fn raw_meaning(alloc: Global, set: &TableSet, text: &[u8]) -> Result<Meaning, Reason>
     ensures meaning { UnlessMemory result (Then (ReadsRaw set.now text.now) (IsIdentified set.now) result) }
     ensures with_table { IfOk result (λ meaning. IsMadeWith set.now.ais meaning.identity) }

@@ -1,4 +1,4 @@
-/// The facts of an EPC that an identity may lack.
+/// The facts of an EPC that an identity may not have.
 #[derive(Clone, Copy)]
 pub enum FieldName {
     /// The length of the GS1 Company Prefix.

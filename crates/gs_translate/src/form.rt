@@ -7,7 +7,7 @@ pub enum Form {
     Tag,
     /// Pure identity URIs (TDS 2.0, section 6).
     Pure,
-    /// Element strings as a reader of symbols gives them (GS1 General Specifications, section 7.8).
+    /// Element strings as barcode scanners transmit them (GS1 General Specifications, section 7.8).
     Raw,
     /// Bracketed element strings (GS1 General Specifications, section 4, human readable interpretation).
     Bracketed,

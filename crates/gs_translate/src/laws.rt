@@ -9,8 +9,8 @@ ghost use Rattle.gs_translate.specs.Conditions.{AsksForOne, AsksForSome};
 ghost use Rattle.gs_translate.specs.Meanings.{IsRead};
 ghost use Rattle.gs_translate.specs.StepsSupport.{HasOne, HasSome};
 
-/// States that a text has at most one meaning in a form, and that it has one or is rejected, by tables that meet the form's
-/// conditions. Loaded tables meet them for every form.
+/// States that by tables that meet a form's conditions a text has at most one meaning in that form. It has one or is rejected.
+/// Loaded tables meet them for every form.
 pub fn each_text_has_one_meaning()
     ensures at_most_one { (set : TableRows) (form : Form) (text : List ℕ) → AsksForOne form set
         → HasOne (IsRead set form text) }
@@ -26,7 +26,7 @@ pub fn each_text_has_one_answer()
         → HasSome (IsAnswer set form text) }
 {}
 
-/// Tables that are loaded keep what each form asks for.
+/// States that loaded tables satisfy the conditions of each form.
 pub fn loaded_tables_suit_each_form()
     ensures one { (set : TableRows) (form : Form) → IsLoaded set → AsksForOne form set }
     ensures some { (set : TableRows) (form : Form) → IsLoaded set → AsksForSome form set }

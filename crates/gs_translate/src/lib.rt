@@ -1,7 +1,7 @@
-//! What texts mean in the forms of GS1 identities, the answers to them, and their translations.
+//! The meanings of texts in the forms of GS1 identities, the answers to them, and their translations.
 //!
-//! The six forms are tag bits in hexadecimal digits, EPC tag URIs, pure identity URIs, element strings as barcode scanners
-//! transmit them and in brackets, and GS1 Digital Links.
+//! The six forms: tag bits in hexadecimal digits, EPC tag URIs, pure identity URIs, GS1 Digital Links, and two forms of element
+//! strings. These are element strings as barcode scanners transmit them, and those in brackets.
 //!
 //! - `read` returns the meaning of a text, or the first reason why it has none.
 //! - `translate` returns its one spelling in a requested form, and `Translator` does so for one text after another.
@@ -19,9 +19,9 @@
 //!
 //! # Differences from the standards
 //!
-//! - A translation goes by the identity, the elements that are named, and not from pattern to pattern as in GS1 EPC Tag Data
-//!   Translation: element strings and links take part, and an EPC that becomes another keeps its filter value.
-//! - The order of the reasons, and what a text of more than 2,048 bytes gets, are this project's own.
+//! - A translation goes by the identity, the elements that are named. GS1 EPC Tag Data Translation goes from pattern to
+//!   pattern. So element strings and links take part, and an EPC that becomes another keeps its filter value.
+//! - The order of the reasons, and the answer to a text of more than 2,048 bytes, are this project's own.
 //! - The rules of the GS1 General Specifications on elements that require or exclude each other are not checked, except for two
 //!   keys: such a text names two things and is rejected.
 #![tactic(auto)]

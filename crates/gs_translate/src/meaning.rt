@@ -7,13 +7,13 @@ use gs_chars::Text;
 use gs_ident::Identity;
 use gs_tables::TableSet;
 
-/// What a text means.
+/// The meaning of a text.
 pub struct Meaning {
     /// The identity that it names.
     pub identity: Identity,
-    /// The number of digits of the GS1 Company Prefix, if the form has it.
+    /// The number of digits of the GS1 Company Prefix, if the form gives it.
     pub gcp: Option<u8>,
-    /// The filter value, if the form has it.
+    /// The filter value, if the form gives it.
     pub filter: Option<u8>,
     /// The name of the encoding, empty if the form has none.
     pub encoding: Text,

@@ -19,7 +19,7 @@ use gs_epc::{Named, name_hex, name_pure, name_tag};
 use gs_tables::TableSet;
 use std::alloc::Global;
 
-/// Returns the meaning of what a tag or an EPC URI names.
+/// Returns the meaning of an identity that a tag or an EPC URI names.
 fn meaning_of(named: Named) -> Meaning
     ensures meaning { (set : TableRows) → (epc : Epc) → IsNamed set epc named → MeansEpc set epc (Ok result) }
     ensures identity { result.identity ≡ named.identity }

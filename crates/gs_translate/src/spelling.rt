@@ -36,7 +36,7 @@ fn write_epc(
     Ok(write_lent(alloc, set, level, epc)?)
 }
 
-/// Returns the text of a level of what a text means, or the first reason why there is none.
+/// Returns the text of a level for a meaning, or the first reason why there is none.
 fn write_meaning(
     alloc: Global,
     set: &TableSet,
@@ -53,7 +53,7 @@ fn write_meaning(
     write_epc(alloc, set, level, &epc)
 }
 
-/// Appends the text of a level of what a text means, or gives the first reason why there is none.
+/// Appends the text of a level for a meaning, or gives the first reason why there is none.
 fn append_meaning(
     alloc: Global,
     set: &TableSet,

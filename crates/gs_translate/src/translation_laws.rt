@@ -31,9 +31,9 @@ pub fn canonical_links_are_translations()
         → IsTranslation set prefixes options form Target.Canon text answer ↔ IsAnswer set form text answer }
 {}
 
-/// States that the translation of a text means, in the form of the target, the identity of the text, narrowed if only keys are
-/// kept. This holds in each form by loaded tables, and for element strings and links by any tables that satisfy their rules. The
-/// limit on the length of a text is not part of it: an answer may be longer than a text that is read.
+/// States that the translation of a text means, in the form of the target, the identity of the text. The identity is narrowed
+/// if only keys are kept. This holds in each form by loaded tables, and for element strings and links by any tables that
+/// satisfy their rules. The limit on the length of a text is not part of it: an answer may be longer than a text that is read.
 pub fn a_spelling_means_the_same()
     ensures of_pairs { (set : TableRows) (prefixes : List PrefixEntry) (options : Options) (from : Form)
         (to : Target) (text answer : List ℕ) (source : Meaning)

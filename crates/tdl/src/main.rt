@@ -1,5 +1,5 @@
-//! The process: its arguments, the standard streams, the files and the door of the system, handed to `run`, and the status as its
-//! number. It answers `--help` and `--version`, and writes a line to standard error if something failed.
+//! The process: its arguments, the standard streams, the files and the listener of the system, handed to `run`, and the status
+//! as its number. It answers `--help` and `--version`, and writes a line to standard error if something failed.
 #![tactic(auto)]
 
 mod messages;
@@ -37,7 +37,7 @@ fn print_text(rt: HostRuntime, pieces: &[&str]) -> Status {
     Status::Done
 }
 
-/// Runs the program over the system, and returns the status. A line on standard error says what failed.
+/// Runs the program over the system, and returns the status. Writes the reason of a failure as a line to standard error.
 fn run_over_system(rt: HostRuntime, arguments: &[String]) -> Status {
     let mut files = HostFiles::new(rt.alloc(), rt);
     let mut input = StdinSource::new(rt.stdin());

@@ -4,7 +4,7 @@ use tdl_arguments::Request;
 use tdl_help::Wrong;
 use tdl_run::Status;
 
-/// Writes what cannot be done, and the system's words for the reason, as a line to standard error.
+/// Writes one line to standard error: the action that failed, and the system's words for the reason.
 pub fn say_reason(rt: HostRuntime, what: &str, error: Error) {
     let _ = eprintln!(rt; "tdl: {what}: {error}");
 }
@@ -39,7 +39,7 @@ pub fn say_place(rt: HostRuntime, request: Option<Request<'_>>, error: Error) {
     }
 }
 
-/// Writes what a status says that names no argument, file or address. Nothing if nothing failed.
+/// Writes the message of a status without an argument, file or address. Writes nothing if nothing failed.
 pub fn say_kind(rt: HostRuntime, status: Status, error: Option<Error>) {
     let what = match status {
         Status::ReadFault => "cannot read standard input",

@@ -1,4 +1,4 @@
--- The answers to class URIs and to links, by what reading and writing answered.
+-- The answers to class URIs and to links, by the answers of reading and writing.
 use Rattle.std.proofs.Common.{◌≡◌, ◌≤◌, ℕ, List, length, refl, ap, inl, inr}
 use Rattle.std.specs.Prelude.{◌≢◌, Result, Ok, Err}
 use Rattle.gs_class.specs.declared.error.ClassFault.{ClassFault}

@@ -1,4 +1,4 @@
--- The answers to dumps and to the lines that show them, by what reading, showing and writing answered.
+-- The answers to dumps and to the lines that show them, by the answers of reading, showing and writing.
 use Rattle.std.proofs.Common.{◌≡◌, ◌≢◌, ◌≤◌, ℕ, List, length, refl}
 use Rattle.std.specs.Prelude.{Result, Ok, Err}
 use Rattle.gs_translate.specs.declared.reason.Reason.TheVariants as reason

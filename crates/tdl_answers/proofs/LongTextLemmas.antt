@@ -1,4 +1,4 @@
--- Long texts, and answers with reworded reasons: at most one answer, and at least one.
+-- Long texts, and reworded reasons: at most one answer, and at least one.
 use Rattle.std.proofs.Common.{◌≤◌, ℕ, List, length, refl, sym, ◌∙◌, ap, inl, inr}
 use Rattle.std.specs.Prelude.{Result, Err}
 use Rattle.std.proofs.Math.Nat.{not-le_of_lt}

@@ -21,17 +21,17 @@ use Rattle.tdl_lines.specs.Outputs.{LineAnswer}
 
 -- ---- class URIs
 
--- trusted, own: what class URIs are read by: application identifiers and classes
+-- trusted, own: the data by which class URIs are read: application identifiers and classes
 pub record ClassReading : Type 0 where
   pub ais : List AiRow
   pub classes : ClassRows
 
--- trusted, own: what class URIs are read by, of these application identifiers and these classes
+-- trusted, own: the data for reading class URIs, of these application identifiers and these classes
 abbrev pub reading_by : List AiRow → ClassRows → ClassReading
 reading_by ais classes = record { ais = ais; classes = classes }
 
 -- trusted, own: the answer to a text that is not long: the canonical link of the identity that it is a class URI of, or why it
--- is none
+-- is not one
 abbrev pub LinksClass : ClassRows → List ℕ → Result (List ℕ) ClassReason → Type 0
 LinksClass set text answer =
     Then (Reworded Memory of_class (ReadsAs set text)) (λ identity link. link ≡ Ok (canonical_link identity)) answer
@@ -46,23 +46,24 @@ IsClassCanonLine set text line = IsLineOf class_text (IsClassLink set text) line
 
 -- ---- links
 
--- trusted, own: what class URIs are written by: tables, company prefix lengths, classes, and a length that is named
+-- trusted, own: the data by which class URIs are written: tables, company prefix lengths, classes, and the named length, if
+-- there is one
 pub record ClassWriting : Type 0 where
   pub tables : TableRows
   pub prefixes : List PrefixEntry
   pub classes : ClassRows
   pub gcp : Option ℕ
 
--- trusted, own: what class URIs are written by, of these
+-- trusted, own: the data for writing class URIs, of these
 abbrev pub writing_by : TableRows → List PrefixEntry → ClassRows → Option ℕ → ClassWriting
 writing_by tables prefixes classes gcp = record { tables = tables; prefixes = prefixes; classes = classes; gcp = gcp }
 
--- trusted, own: the class URI of what a text means as a link, or why there is none; a long text is rejected as long
+-- trusted, own: the class URI of the meaning of a text as a link, or why there is none; a long text is rejected as long
 abbrev pub IsClassText : ClassWriting → List ℕ → Result (List ℕ) ClassReason → Type 0
 IsClassText by text answer =
     Then (Restated Common (IsRead by.tables Link text))
     (λ meaning written. written ≡ reworded of_class_writing (class_answer by.classes by.prefixes by.gcp meaning.identity)) answer
 
--- trusted, own: the answer line of a text, by the class URI of what it means as a link
+-- trusted, own: the answer line of a text, by the class URI of its meaning as a link
 abbrev pub IsClassUriLine : ClassWriting → List ℕ → LineAnswer → Type 0
 IsClassUriLine by text line = IsLineOf class_text (IsClassText by text) line

@@ -12,7 +12,7 @@ use Rattle.gs_translate.specs.Reasons.{reason_text}
 use Rattle.tdl_answers.specs.declared.class_reason.ClassReason.{ClassReason}
 use Rattle.tdl_answers.specs.declared.class_reason.ClassReason.TheVariants.{Common, NoClass, MissingElement}
 
--- trusted, own: why a text is not class URI
+-- trusted, own: why a text is not a class URI
 abbrev pub of_class : ClassFault → ClassReason
 of_class reading.NoReading = Common (reason.Epc epc.NoReading)
 of_class reading.Memory = Common reason.Memory

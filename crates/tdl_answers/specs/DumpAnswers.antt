@@ -16,7 +16,7 @@ use Rattle.tdl_lines.specs.Outputs.{LineAnswer}
 
 -- ---- dumps
 
--- trusted, own: the answer to a text that is not long: the line that shows the dump that it is, or why there is none
+-- trusted, own: the answer to a text that is not long: the line that shows its dump, or why there is none
 abbrev pub ShowsText : TableRows → List ℕ → Result (List ℕ) DumpReason → Type 0
 ShowsText set text answer =
     Then (Reworded Memory of_reading (ReadsDump set text)) (λ dump. Reworded WriteMemory of_writing (ShowsDump set dump)) answer
@@ -31,7 +31,7 @@ IsDumpReadLine set text line = IsLineOf dump_text (IsDumpShown set text) line
 
 -- ---- lines that show dumps
 
--- trusted, own: the answer to a text that is not long: the text of the dump that it shows, or why there is none
+-- trusted, own: the answer to a text that is not long: the text of its dump, or why there is none
 abbrev pub WritesText : TableRows → List ℕ → Result (List ℕ) DumpReason → Type 0
 WritesText set text answer =
     Then (Reworded LineMemory of_line (ReadsShown set text)) (λ dump. Reworded WriteMemory of_writing (WritesDump set dump)) answer

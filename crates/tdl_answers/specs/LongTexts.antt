@@ -1,4 +1,4 @@
--- Long texts, and answers with reworded reasons.
+-- Long texts, and reworded reasons of answers.
 use Rattle.std.specs.Prelude.{◌≡◌, ◌<◌, ◌≤◌, ℕ, List, length, Result, Err}
 use Rattle.gs_chars.specs.Limits.{longest_text}
 use Rattle.gs_translate.specs.Steps.{reworded}

@@ -126,7 +126,7 @@ impl<'a> ClassUriLines<'a> {
         }
     }
 
-    /// Returns the class URI of what a text means as a link.
+    /// Returns the class URI of the meaning of a text as a link.
     fn class_text(&self, alloc: Global, text: &[u8]) -> Result<Text, ClassReason>
         ensures { HasMemory (λ reason. reason ≡ Common OutOfMemory) result → IsClassText self.now text.now result }
     {

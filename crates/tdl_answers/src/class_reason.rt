@@ -6,7 +6,7 @@ use gs_translate::{FieldName, Reason, append_reason, append_word};
 use std::alloc::Global;
 use tdl_messages::Reasoned;
 
-/// Why a class URI names nothing, or what a link names is not written as a class URI.
+/// Why a class URI names nothing, or why the identity of a link is not written as a class URI.
 #[derive(Drop)]
 pub enum ClassReason {
     /// A reason that translations have too: the text is long or has no reading, is not a link, or its identity is not written.

@@ -17,7 +17,7 @@ pub enum DumpReason {
     Extended,
     /// The bit of the word that says that the bank holds no EPC is 1.
     Toggle,
-    /// The bits after the word are not as many as the words that it says.
+    /// The number of bits after the word is not that of the words in it.
     Words {
         /// How many words it says.
         said: u8,

@@ -1,4 +1,4 @@
-//! What answers the lines of an input: the translations of their texts.
+//! The answers to the lines of an input: the translations of their texts.
 //!
 //! - `TranslatedLines` answers each text by its translation, for the line loop of tdl_lines; `answer_lines` runs that loop.
 //!
@@ -14,7 +14,7 @@
 //!
 //! # Differences from the standards
 //!
-//! - No standard defines lines of texts and answers: their form is this project's own (docs/CLI.md, 'Lines').
+//! - No standard defines lines of texts with their answers: the form is this project's own (docs/CLI.md, 'Lines').
 #![tactic(auto)]
 
 mod class_lines;

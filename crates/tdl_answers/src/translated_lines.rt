@@ -20,7 +20,7 @@ use tdl_messages::append_rejected;
 /// An answerer of texts by their translations.
 #[derive(Drop)]
 pub struct TranslatedLines<'a> {
-    /// What translates the texts.
+    /// The data by which the texts are translated.
     pub translator: Translator<'a>,
 }
 
@@ -52,10 +52,10 @@ impl Answerer for TranslatedLines<'_> {
 /// Answers each line of the input by its translation, from one form to another, by these tables, prefixes and options: `ok TEXT`
 /// or `no REASON`, once the line has ended. The filter value of the options is at most 7, and `stem_ok` allows their stem.
 ///
-/// Treats lines, the held part of a line, `limit` and the statuses as `answer_lines` of tdl_lines does: answers at most `limit`
-/// bytes and takes at most one byte more. Returns `ReadFault` only if the input counted an error, `WriteFault` only if the output
-/// did, and `InputLong` if and only if more than `limit` bytes were taken. Never returns `Usage` or `Refused`. `limit` is below
-/// 2^63.
+/// Treats lines, the held part of a line, `limit` and the statuses as `answer_lines` of tdl_lines does. It answers at most
+/// `limit` bytes and takes at most one byte more. Returns `ReadFault` only if the input counted an error, and `WriteFault` only
+/// if the output did. Returns `InputLong` if and only if more than `limit` bytes were taken. Never returns `Usage` or
+/// `Refused`. `limit` is below 2^63.
 pub fn answer_lines<S: Source, K: Sink>(
     alloc: Global,
     set: &TableSet,

@@ -1,4 +1,4 @@
--- What arguments ask for.
+-- The request that arguments make.
 use Rattle.std.proofs.Common.{◌≡◌, ℕ, ◌≤◌, ◌&&◌, Bool, true, false, List, [], ◌∷◌, ◌++◌, Option, None, Some, append-nil, arith, drop, length, refl, subst, sym, ◌∙◌, ap, inl, inr}
 use Rattle.std.specs.List.{list_all}
 use Rattle.std.proofs.lemmas.Bool.{le-leb, leb-true}
@@ -113,7 +113,7 @@ plain_spelled words parts e =
     let of_found : AreOf words (behind_name words m.0) = rw (no_word (operands_of m.0) plain.0, append-nil (command_name m.0)) (split, plain.1) in
     subst (λ (p : Parts). AreOf words p) m.2 of_found
 
--- words that are in front of arguments are no more than these
+-- words with which arguments begin are at most as many as these
 stands_length : (front words : List (List ℕ)) → stands_before front words ≡ true → length front ≤ length words
 stands_length [] words e = omega arith
 stands_length (word ∷ front) [] e = absurd (let f : false ≡ true = e in cc)
@@ -121,7 +121,7 @@ stands_length (word ∷ front) (first ∷ words) e =
     let fewer = stands_length front words (and_parts (bytes_eq first word) (stands_before front words) e).1 in
     omega arith
 
--- the words of the command without operands that arguments begin with are no more than these
+-- the words of the command without operands that arguments begin with are at most as many as these
 pub plain_count : (front : List (Bor (List ℕ))) (words : List (List ℕ)) (count : ℕ) (found : Option Command) (command : Command) → found ≡ plain_command words → found ≡ Some command → known_front front ≡ command_name command → length words ≡ count → length front ≤ count
 plain_count front words count found command is was same counted =
     let stands = found_passes (λ (command : Command). stands_before (command_name command) words) plain_commands command (sym is ∙ was) in

@@ -1,4 +1,4 @@
--- The commands: for each the arguments of it and its operands, the names that it takes, and what it uses.
+-- The commands: for each the arguments of it and its operands, the names that it takes, and the files and streams that it uses.
 use Rattle.std.specs.Prelude.{ℕ, nat_le, ◌||◌, Bool, true, false, List, [], ◌∷◌, ◌++◌, Some, None, codes, decimal}
 use Rattle.gs_translate.specs.declared.form.Form.{Form}
 use Rattle.gs_translate.specs.declared.form.Form.TheVariants.{Hex, Tag, Pure, Raw, Bracketed, Link}
@@ -94,15 +94,15 @@ names_of DumpRead = optional Tables ∷ []
 names_of DumpWrite = optional Tables ∷ []
 names_of Merge = needed Links ∷ needed Second ∷ optional Third ∷ optional Tables ∷ optional Voc ∷ []
 
--- trusted, own: the work of a command: on the lines of the input, on its request heads as those of one connection, on the door,
--- or on none of these
+-- trusted, own: the work of a command: on the lines of the input, on its request heads like those of one connection, on the
+-- listener, or on none of these
 pub data Work : Type 0 where
   on_lines : Work
   on_heads : Work
   on_door : Work
   on_none : Work
 
--- trusted, own: what a command works on
+-- trusted, own: the work of a command
 abbrev pub work_of : Command → Work
 work_of (Canon form) = on_lines
 work_of (Translate from to) = on_lines
@@ -127,7 +127,7 @@ abbrev pub is_on_heads : Work → Bool
 is_on_heads on_heads = true
 is_on_heads work = false
 
--- trusted, own: holds if the work is on the door
+-- trusted, own: holds if the work is on the listener
 abbrev pub is_on_door : Work → Bool
 is_on_door on_door = true
 is_on_door work = false
@@ -144,6 +144,6 @@ answers_heads command = is_on_heads (work_of command)
 abbrev pub reads_input : Command → Bool
 reads_input command = answers_lines command || answers_heads command
 
--- trusted, own: holds if the command uses the door
+-- trusted, own: holds if the command uses the listener
 abbrev pub uses_door : Command → Bool
 uses_door command = is_on_door (work_of command)

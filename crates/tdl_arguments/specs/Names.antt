@@ -107,7 +107,7 @@ HasPairs rows words = (pairs : NamedPairs) × AreOfRows rows words pairs
 abbrev pub HasNoPairs : List NameRow → List (List ℕ) → Type 0
 HasNoPairs rows words = (pairs : NamedPairs) → AreOfRows rows words pairs → ⊥
 
--- holds if the arguments are not pairs, or the fact holds of the pairs
+-- holds if the arguments are not pairs, or the pairs have this property
 abbrev pub OfPairs : List (List ℕ) → (NamedPairs → Type 0) → Type 0
 OfPairs words Fact = (pairs : NamedPairs) → ArePairs words pairs → Fact pairs
 

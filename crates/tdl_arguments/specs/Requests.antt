@@ -95,8 +95,9 @@ number_named number_of name pairs = option_and_then number_of (look_up (name_wor
 abbrev pub count_named : NamedPairs → ℕ
 count_named pairs = unwrap_or (number_named count_of Count pairs) 0
 
--- trusted, own: The values of the names in the pairs, with their defaults. Those are references that are not templates, no
--- connection, no filter value, no company prefix length, no encoding, all elements kept, and the stem of canonical links.
+-- trusted, own: The values of the names in the pairs, with their defaults. The defaults are references that are not templates,
+-- no connection, no filter value and no company prefix length. They are also no encoding, all elements kept, and the stem of
+-- canonical links.
 abbrev pub named_values : NamedPairs → Values
 named_values pairs = record {
   voc = value_or default_voc Voc pairs;
@@ -140,13 +141,13 @@ pub record WordsInOrder (words : List (List ℕ)) (asked : Asked) : Type 0 where
 abbrev pub NotInOrder : List (List ℕ) → Type 0
 NotInOrder words = (asked : Asked) → WordsInOrder words asked → ⊥
 
--- trusted, own: holds if the words are valid, and the fact holds of what they ask for
+-- trusted, own: holds if the words are valid, and their request has this property
 pub record Asking (words : List (List ℕ)) (Fact : Asked → Type 0) : Type 0 where
   pub asked : Asked
   pub order : WordsInOrder words asked
   pub fact : Fact asked
 
--- trusted, own: holds if the words are valid and the fact holds of what they ask for, or if they are invalid and the other fact
+-- trusted, own: holds if the words are valid and their request has this property, or if they are invalid and the other fact
 -- holds
 abbrev pub AskingOr : List (List ℕ) → (Asked → Type 0) → Type 0 → Type 0
 AskingOr words Fact Other = Asking words Fact ⊎ (NotInOrder words × Other)

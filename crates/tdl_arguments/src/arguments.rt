@@ -149,7 +149,7 @@ fn gen_of(words: &[String]) -> Option<Split<'_>>
     gen_by(words[0].as_str(), &words[1..])
 }
 
-/// Returns whether the words are in front of the arguments.
+/// Returns whether the arguments begin with these words.
 fn stands_before(front: &[&str], words: &[String]) -> bool
     ensures { result ≡ stands_before (known_front front.now) (map string_bytes words.now) }
 {
@@ -240,8 +240,8 @@ fn may_have(command: Command, values: NamedValues<'_>) -> bool
     }
 }
 
-/// Returns the request of a command with the arguments after its operands. Returns `None` if and only if these are not pairs that
-/// the command takes, a required name is missing, or this command may not have a value.
+/// Returns the request of a command with the arguments after its operands. Returns `None` if and only if one of three holds:
+/// they are not pairs that the command takes, a required name is missing, or this command may not have a value.
 fn request_of(command: Command, words: &[String]) -> Option<Request<'_>>
     ensures request { IfSome result (λ request. Asks command (known_words words.now) (known_request request)) }
     ensures none { IfNone result (AsksNothing command (known_words words.now)) }

@@ -12,9 +12,9 @@ pub enum Command {
     Canon(Form),
     /// Answers each line of the input, a text of the first form, by its translation to the second.
     Translate(Form, Target),
-    /// Loads the files, and counts what they have.
+    /// Loads the files, and counts their contents.
     Check,
-    /// Answers the requests of the input, as those of one connection.
+    /// Answers the requests of the input like those of one connection.
     Resolve,
     /// Answers the requests of the connections that a listener accepts.
     Serve,

@@ -1,4 +1,4 @@
-//! The arguments of the command line: what they ask for, or that they are not valid.
+//! The arguments of the command line: the request that they make, or that they are not valid.
 //!
 //! - `read_arguments` gives the request of arguments: a command with its operands, the files that they name, and their values, each in range.
 //!   `without_program_name` gives the arguments of a process without the program's name.

@@ -35,7 +35,8 @@ fn is_given(words: &[String], row: NameRow) -> bool
     }
 }
 
-/// Returns whether a row takes this name with this value, and none of its names has a value among the others, if these are pairs.
+/// Returns whether a row takes this name with this value, and none of its names has a value among the others. The arguments are
+/// pairs.
 fn takes(rows: &[NameRow], name: &str, value: &str, others: &[String]) -> bool
     ensures { OfPairs (known_words others.now) (λ pairs. result ≡ takes rows.now name.now value.now pairs) }
 {

@@ -7,7 +7,7 @@ ghost use Rattle.tdl_arguments.specs.Ranges.{count_of, filter_of, gcp_of, is_num
 
 use gs_chars::are_digits;
 
-/// Returns whether digits begin with a zero that is not the whole of them.
+/// Returns whether there is a leading zero before other digits.
 fn has_leading_zero(digits: &[u8]) -> bool
     ensures { result ≡ has_leading_zero digits.now }
 {

@@ -51,7 +51,7 @@ pub struct NamedValues<'a> {
     pub stem: &'a str,
 }
 
-/// What the program is asked to do.
+/// The request to the program.
 #[derive(Clone, Copy)]
 pub struct Request<'a> {
     /// The command with its operands.

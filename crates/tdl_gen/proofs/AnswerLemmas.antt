@@ -21,7 +21,7 @@ filter_one_is_in_order = record { filter = omega arith; stem = canonical_stem_ok
 pub in_order : (options : Options) → options ≡ filter_one → AreInOrder options
 in_order options is = rw is filter_one_is_in_order
 
--- a translation by what lines are answered by
+-- a translation by the data of a line's answer
 pub plain : (set : TableRows) (prefixes : List PrefixEntry) (options : Options) (from : Form) (to : Target) (text : List ℕ) (answer : Result (List ℕ) Reason) → prefixes ≡ [] → options ≡ filter_one → UnlessMemory answer (IsTranslation set prefixes options from to text answer) → UnlessMemory answer (IsPlain set from to text answer)
 unfolding IsPlain
 plain set prefixes options from to text answer none is translated =

@@ -29,7 +29,7 @@ abbrev pub IsLineAnswer : TableRows → List ℕ → Result (List ℕ) Reason �
 IsLineAnswer set line answer =
     Then (IsPlain set form.Pure target.Hex line) (IsPlain set form.Hex target.Canon) answer
 
--- trusted, own: these are the answers to the first lines of the generator, in their order, that many as there are
+-- trusted, own: these are the answers to the first lines of the generator, in their order, one a line
 pub data AnswersFirst (set : TableRows) : ℕ → List (Result (List ℕ) Reason) → Type 0 where
   no_line : AnswersFirst set 0 []
   one_more : (n : ℕ) (answers : List (Result (List ℕ) Reason)) (answer : Result (List ℕ) Reason) → AnswersFirst set n answers → IsLineAnswer set (generated_line n) answer → AnswersFirst set (suc n) (answers ++ answer ∷ [])

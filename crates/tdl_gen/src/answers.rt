@@ -9,7 +9,7 @@ use gs_tables::TableSet;
 use gs_translate::{Form, Options, Reason, Target, translate};
 use std::alloc::Global;
 
-/// What lines are answered by.
+/// The data by which lines are answered.
 #[derive(Clone, Copy)]
 pub struct Answering<'a> {
     /// The tables.

@@ -8,7 +8,7 @@ use std::marker::Model;
 /// The factor of a step.
 const FACTOR: u64 = 6_364_136_223_846_793_005;
 
-/// What a step adds.
+/// The number that each step adds.
 const INCREMENT: u64 = 1_442_695_040_888_963_407;
 
 /// The lines from the one of a number on. Contracts see the number.

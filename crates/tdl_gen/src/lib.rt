@@ -1,7 +1,7 @@
 //! The generator of lines: how many of its lines are answered, and how many bytes their answers have, by tables.
 //!
-//! - `generate` makes a number of pure identity URIs of SGTIN, translates each to tag bits and these to the canonical link, and
-//!   writes one line of counts. So a load of any size needs no file, and its counts are known beforehand.
+//! - `generate` makes a number of pure identity URIs of SGTIN and translates each to tag bits and these to the canonical link.
+//!   It writes one line of counts. So a load of any size needs no file, and its counts are known beforehand.
 //!
 //! # Example
 //!

@@ -1,9 +1,9 @@
-//! What the program says beside `run`: its help, its version, and which argument is wrong.
+//! The program's texts outside `run`: its help, its version, and which argument is wrong.
 //!
 //! - `asked_text` gives the text that `--help`, `--version`, or a command and `--help` ask for. bin/tdl prints the same text, which
 //!   it reads in src/text.rt.
 //! - `status_without_arguments` gives the status of a process whose arguments cannot be read.
-//! - `wrong_argument` finds the first wrong argument of arguments that are not in order, and the reason.
+//! - `wrong_argument` finds the first wrong argument of invalid arguments, and the reason.
 //!
 //! # Differences from the standards
 //!

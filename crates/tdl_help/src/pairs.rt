@@ -73,7 +73,7 @@ fn first_missing(rows: &[NameRow], options: &[String]) -> Option<&'static str> {
     None
 }
 
-/// Finds what is wrong with the options of a command, which come after so many other arguments.
+/// Finds the error in the options of a command, which follow `before` other arguments.
 pub(crate) fn wrong_pairs(rows: &[NameRow], options: &[String], before: usize) -> Wrong {
     for place in 0..options.len() {
         if place % 2 == 1 {

@@ -1,6 +1,6 @@
 use tdl_arguments::{Name, NameRow};
 
-/// Returns what the values of an option are.
+/// Returns a description of the values of an option.
 pub(crate) fn range_of(name: Name) -> &'static str {
     match name {
         Name::Voc => "it is not 1 to 256 bytes from 33 to 126, or not allowed with this command",

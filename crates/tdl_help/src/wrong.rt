@@ -2,10 +2,10 @@ use crate::pairs::wrong_pairs;
 use gs_translate::{Form, Target};
 use tdl_arguments::{Command, read_arguments};
 
-/// What is wrong with arguments.
+/// The error in arguments.
 #[derive(Clone, Copy)]
 pub struct Wrong {
-    /// The index of the wrong argument. None has it if an argument is missing.
+    /// The index of the wrong argument, or `usize::MAX` if an argument is missing.
     pub place: usize,
     /// The reason.
     pub why: &'static str,
@@ -121,7 +121,7 @@ fn command_of(words: &[String]) -> Result<(Command, usize), Wrong> {
     }
 }
 
-/// Finds what is wrong with arguments that are not in order.
+/// Finds the error in invalid arguments.
 pub fn wrong_argument(words: &[String]) -> Wrong {
     match command_of(words) {
         Ok((command, operands)) => {

@@ -1,4 +1,4 @@
--- What was done of an input, piece after piece, and what is written in all.
+-- The progress over an input, piece after piece, and the whole output.
 use Rattle.std.proofs.Common.{◌≡◌, ℕ, ◌+◌, ◌-◌, ◌<◌, ◌≤◌, ◌||◌, Bool, true, false, ltb, List, [], ◌∷◌, ◌++◌, Option, Some, None, length, take, refl, sym, ◌∙◌, ap, arith, append_assoc, append-nil, length-append, length-take, inl, inr}
 use Rattle.std.specs.Prelude.{if◌then◌else◌}
 use Rattle.std.specs.List.{list_any}
@@ -24,7 +24,7 @@ use Rattle.tdl_lines.proofs.HeldLemmas.{begun_more, begun_unended, cut_ended, cu
 use Rattle.tdl_lines.proofs.OutputLemmas.{each-append, printed_lines-append, all_begins, begins_more}
 use Rattle.tdl_lines.proofs.SameLines.{same_lines}
 
--- ---- answers to lines behind others
+-- ---- answers to lines after others
 
 -- how the answering ended, with an earlier rejection
 abbrev pub behind : Bool → Answering → Answering
@@ -60,7 +60,7 @@ lines_join a b all x y first answering.Memory e p q = begins_join a b all x y fi
 
 -- ---- progress
 
--- so many bytes more are more than those that are held of a long line
+-- the most held bytes are more than those that are held of a long line
 room_of_line : longest_text + 1 < most_held
 room_of_line = omega arith
 
@@ -73,14 +73,14 @@ progress_start whole held buffer none = record {
   held_is = none;
 }
 
--- what is held is no more than may be
+-- the number of held bytes is within its limit
 pub progress_held : {Is : List ℕ → LineAnswer → Type 0} (whole left before now : Option (List ℕ)) (held : List ℕ) (many : ℕ) (rejected : Bool) → Progress Is whole left before now held many rejected → length held ≤ most_held
 progress_held whole left before now held many rejected p = omega (arith, ap length p.held_is, length-take most_held (begun_line p.bytes))
 
 taken_is : {Is : List ℕ → LineAnswer → Type 0} (whole mid left before now : Option (List ℕ)) (held buffer : List ℕ) (many more : ℕ) (rejected : Bool) (p : Progress Is whole mid before now held many rejected) (r : ReadsMore held buffer mid left more) → whole ≡ prepend_known (p.bytes ++ r.piece) left
 taken_is whole mid left before now held buffer many more rejected p r = p.taken ∙ ap (prepend_known p.bytes) r.taken ∙ prepend_twice p.bytes r.piece left
 
--- the lines of what was taken, whose answers were written as far as the answering came
+-- the lines of the taken bytes, whose answers were written up to the end of the answering
 record Written (Is : List ℕ → LineAnswer → Type 0) (bytes : List ℕ) (before now : Option (List ℕ)) (ans : Answering) : Type 0 where
   output : List ℕ
   appended : now ≡ append_known before output
@@ -93,7 +93,7 @@ written_more a b all before now after rejected ans e p w = record {
   of_lines = lines_join a b all p.0 w.output rejected ans e p.2 w.of_lines;
 }
 
--- the ended lines of what was taken after a read
+-- the ended lines of the taken bytes after a read
 ended_written : {Is : List ℕ → LineAnswer → Type 0} (whole mid left before now after : Option (List ℕ)) (held buffer : List ℕ) (many more : ℕ) (rejected : Bool) (ans : Answering) → AnswersLongAlike Is → (p : Progress Is whole mid before now held many rejected) → (r : ReadsMore held buffer mid left more) → Appends now after (λ output. OfLines Is (ended_lines buffer) output ans) → Written Is (ended_lines (p.bytes ++ r.piece)) before after (behind rejected ans)
 ended_written {Is = Is} whole mid left before now after held buffer many more rejected ans alike p r w =
     let is : buffer ≡ take most_held (begun_line p.bytes) ++ r.piece = r.joined ∙ ap (λ h. h ++ r.piece) p.held_is in
@@ -119,13 +119,13 @@ progress_more {Is = Is} whole mid left before now after held buffer kept many mo
           ∙ ap (take most_held) (sym (begun_more p.bytes r.piece));
     }
 
--- ---- what is written in all
+-- ---- the whole output
 
 -- nothing begins the answers
 pub begins_nothing : {Is : List ℕ → LineAnswer → Type 0} (bytes : List ℕ) → BeginsAnswers Is bytes []
 begins_nothing bytes = record { lines = []; others = lines_of bytes; first = refl; answers = []; each = no_line; len = 0; begun = refl }
 
--- some bytes of an input that is gathered in part, as far as it is known
+-- some bytes of a partly gathered input, or of some such input if it is unknown
 pub record Known (gathered : List ℕ) (before left : Option (List ℕ)) : Type 0 where
   pub rest : List ℕ
   pub known : IsKnown before (gathered ++ rest)
@@ -173,7 +173,7 @@ whole_first gathered more =
       joined = ap lines_of (ap (λ (w : List ℕ). w ++ more) b.joined ∙ append_assoc (ended_lines gathered) b.rest more) ∙ lines_of-ended gathered (b.rest ++ more);
     }
 
--- the ended lines of what was gathered before an error come first among those that are answered
+-- the ended lines of the bytes gathered before an error are the first of those that are answered
 error_first : (limit : ℕ) (gathered rest : List ℕ) → length gathered ≤ limit → FirstLines (lines_of (ended_lines gathered)) (lines_of (answered_part limit (gathered ++ rest)))
 error_first limit gathered rest few = elim (true_or_false (ltb limit (length (gathered ++ rest)))) as (λ _. FirstLines (lines_of (ended_lines gathered)) (lines_of (answered_part limit (gathered ++ rest)))) [
   | inl more ↦
@@ -215,7 +215,7 @@ nothing : (bytes : List ℕ) → length bytes ≡ 0 → bytes ≡ []
 nothing [] none = refl
 nothing (b ∷ bytes) none = absurd (omega arith)
 
--- what is written after an error of the input
+-- the output after an error of the input
 pub after_read_error : {Is : List ℕ → LineAnswer → Type 0} (limit many : ℕ) (whole left before now : Option (List ℕ)) (held : List ℕ) (rejected : Bool) → Progress Is whole left before now held many rejected → many ≤ limit → Appends before now (λ output. WritesAnswers Is limit whole left output ReadFault)
 after_read_error limit many whole left before now held rejected p few =
     let a = p.answered in
@@ -230,7 +230,7 @@ after_read_error limit many whole left before now held rejected p few =
       },
     )
 
--- what is written where more than the limit was taken
+-- the output if more than the limit was taken
 pub after_limit : {Is : List ℕ → LineAnswer → Type 0} (limit many more : ℕ) (whole mid left before now : Option (List ℕ)) (held buffer : List ℕ) (rejected : Bool) → (p : Progress Is whole mid before now held many rejected) → (r : ReadsMore held buffer mid left more) → many ≡ limit → 0 < more → Appends before now (λ output. WritesAnswers Is limit whole left output InputLong)
 after_limit {Is = Is} limit many more whole mid left before now held buffer rejected p r full some =
     let a = p.answered in
@@ -252,7 +252,7 @@ pub more_than_limit : {Is : List ℕ → LineAnswer → Type 0} (limit many more
 more_than_limit limit many more whole mid left before now held buffer rejected p r full some =
     (p.bytes ++ r.piece, omega (arith, length-append p.bytes r.piece, p.length_is, full, r.length_is, some), taken_is whole mid left before now held buffer many more rejected p r)
 
--- so many bytes were taken, and no more
+-- that many bytes were taken, and no more
 pub at_most : {Is : List ℕ → LineAnswer → Type 0} (most many more : ℕ) (whole mid left before now : Option (List ℕ)) (held buffer : List ℕ) (rejected : Bool) → (p : Progress Is whole mid before now held many rejected) → (r : ReadsMore held buffer mid left more) → many + more ≤ most → TakesAtMost most whole left
 at_most most many more whole mid left before now held buffer rejected p r few =
     (p.bytes ++ r.piece, omega (arith, length-append p.bytes r.piece, p.length_is, r.length_is, few), taken_is whole mid left before now held buffer many more rejected p r)
@@ -270,7 +270,7 @@ after_want limit many more whole mid left before now after held buffer rejected 
     let w = after_write_error limit many more whole mid left before now after held buffer rejected alike p r few a in
     (w.0, w.1, record { all = tt; first = w.2.first; ended = tt })
 
--- what is written where nothing is left
+-- the output if nothing is left
 end_of : {Is : List ℕ → LineAnswer → Type 0} (limit : ℕ) (bytes output : List ℕ) (whole left : Option (List ℕ)) (earlier : Bool) (ans : Answering) → length bytes ≤ limit → IsAtEnd left → whole ≡ prepend_known bytes left → OfLines Is bytes output (behind earlier ans) → WritesAnswers Is limit whole left output (status_at_end earlier ans)
 end_of limit bytes output whole left true (answering.Whole second) few end t o =
     record { all = input_whole limit bytes output whole left true SomeRefused few end (known_part bytes whole left t) o refl; first = tt; ended = tt }
@@ -283,7 +283,7 @@ end_of limit bytes output whole left earlier answering.SinkFault few end t o =
 end_of limit bytes output whole left earlier answering.Memory few end t o =
     record { all = tt; first = begins_whole limit bytes output whole left few end (known_part bytes whole left t) o; ended = tt }
 
--- what is written at the end of an input, whose last line was answered as what was held of it
+-- the output at the end of an input, whose last line was answered by its held bytes
 pub after_end : {Is : List ℕ → LineAnswer → Type 0} (limit many more : ℕ) (whole mid left before now after : Option (List ℕ)) (held buffer : List ℕ) (rejected : Bool) (ans : Answering) → AnswersLongAlike Is → (p : Progress Is whole mid before now held many rejected) → (r : ReadsMore held buffer mid left more) → more ≡ 0 → many ≤ limit → IsAtEnd left → Appends now after (λ output. OfLines Is buffer output ans) → Appends before after (λ output. WritesAnswers Is limit whole left output (status_at_end rejected ans))
 after_end {Is = Is} limit many more whole mid left before now after held buffer rejected ans alike p r zero few end a =
     let none : r.piece ≡ [] = nothing r.piece (r.length_is ∙ zero) in

@@ -1,4 +1,4 @@
--- What is written of the answers, block after block.
+-- The output of the answers, block after block.
 use Rattle.std.proofs.Common.{◌≡◌, ℕ, ◌+◌, ◌||◌, Bool, false, List, [], ◌++◌, Option, length, take, sym, ◌∙◌, ap, arith}
 use Rattle.std.proofs.lemmas.List.{take_all}
 use Rattle.std.proofs.Math.Seq.{take-append-add}
@@ -7,7 +7,7 @@ use Rattle.tdl_lines.specs.Outputs.{Appends, BeginsAnswers, LineAnswer}
 use Rattle.tdl_lines.specs.OutputsSupport.{AnswersFront}
 use Rattle.tdl_lines.proofs.OutputLemmas.{front_start, front_join, front_begins}
 
--- what was done of bytes, behind what was written before
+-- the answers to bytes, after an earlier output
 front_after : {Is : List ℕ → LineAnswer → Type 0} (bytes rest output before : List ℕ) (rejected : Bool) → AnswersFront Is bytes rest [] output rejected → AnswersFront Is bytes rest before (before ++ output) rejected
 front_after bytes rest output before rejected x = record { lines = x.lines; answers = x.answers; split = x.split; each = x.each; written = ap (λ (w : List ℕ). before ++ w) x.written; known = x.known }
 
@@ -30,7 +30,7 @@ appends_part {Is = Is} initial before now bytes mid rest old out first second n 
     let begins : BeginsAnswers Is bytes (take (length a.0 + n) (a.0 ++ out)) = front_begins bytes rest (a.0 ++ out) (first || second) (length a.0 + n) joined in
     (a.0 ++ take n out, w ∙ ap (λ (k : Option (List ℕ)). append_known k (take n out)) a.1 ∙ append_twice initial a.0 (take n out), rw (take-append-add a.0 out n) at begins)
 
--- what was written before a block begins the answers
+-- the output before a block begins the answers
 pub appends_begins : {Is : List ℕ → LineAnswer → Type 0} (initial now : Option (List ℕ)) (bytes rest : List ℕ) (rejected : Bool) → Appends initial now (λ o. AnswersFront Is bytes rest [] o rejected) → Appends initial now (λ o. BeginsAnswers Is bytes o)
 appends_begins {Is = Is} initial now bytes rest rejected a =
     let begins : BeginsAnswers Is bytes (take (length a.0) a.0) = front_begins bytes rest a.0 rejected (length a.0) a.2 in

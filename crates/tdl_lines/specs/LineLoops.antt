@@ -24,7 +24,8 @@ OnSinkFault (Whole rejected) fact = Unit {0}
 OnSinkFault SinkFault fact = fact
 OnSinkFault Memory fact = Unit {0}
 
--- the status of an input that was read to its end, by whether an earlier line was rejected and by the answering of the last one
+-- the status of an input that was read to its end; it depends on whether an earlier line was rejected, and on the answering of
+-- the last one
 abbrev pub status_at_end : Bool → Answering → Status
 status_at_end true (Whole rejected) = status.SomeRefused
 status_at_end false (Whole true) = status.SomeRefused

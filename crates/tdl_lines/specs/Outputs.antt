@@ -24,14 +24,14 @@ abbrev pub is_rejected : LineAnswer → Bool
 is_rejected (accepted text) = false
 is_rejected (rejected reason) = true
 
--- trusted, own: holds if the line of an answer to the text was appended, and `any_rejected` tells whether it is a rejection
+-- trusted, own: holds if the line of an answer to the text was appended, and `any_rejected` is whether it is a rejection
 pub record AddsAnswer (Is : List ℕ → LineAnswer → Type 0) (text before now : List ℕ) (any_rejected : Bool) : Type 0 where
   pub answer : LineAnswer
   pub is : Is text answer
   pub written : now ≡ before ++ printed answer
   pub known : any_rejected ≡ is_rejected answer
 
--- trusted, own: holds if each line has one of the answers, in order; `Is` says what is an answer to a text
+-- trusted, own: holds if each line has one of the answers, in order; `Is` relates a text to its answers
 pub data AnswersEach (Is : List ℕ → LineAnswer → Type 0) : List (List ℕ) → List LineAnswer → Type 0 where
   no_line : AnswersEach Is [] []
   one_line : (line : List ℕ) (answer : LineAnswer) (lines : List (List ℕ)) (answers : List LineAnswer) → Is (text_of line) answer → AnswersEach Is lines answers → AnswersEach Is (line ∷ lines) (answer ∷ answers)
@@ -45,7 +45,7 @@ printed_lines answers = flat_map printed answers
 abbrev pub answered_part : ℕ → List ℕ → List ℕ
 answered_part limit input = if nat_lt limit (length input) then ended_lines (take limit input) else input
 
--- trusted, own: holds if `output` is the answers to all lines of the bytes, and `any_rejected` tells whether one is a rejection
+-- trusted, own: holds if `output` is the answers to all lines of the bytes, and `any_rejected` is whether one is a rejection
 pub record AnswersAll (Is : List ℕ → LineAnswer → Type 0) (bytes output : List ℕ) (any_rejected : Bool) : Type 0 where
   pub answers : List LineAnswer
   pub each : AnswersEach Is (lines_of bytes) answers
@@ -56,7 +56,8 @@ pub record AnswersAll (Is : List ℕ → LineAnswer → Type 0) (bytes output : 
 abbrev pub status_of : ℕ → List ℕ → Bool → Status
 status_of limit input any_rejected = if nat_lt limit (length input) then InputLong else if any_rejected then SomeRefused else Done
 
--- trusted, own: holds if `output` is the answers to the lines of the input, as far as it is known, and `status` is their status
+-- trusted, own: holds if `output` is the answers to the lines of the input, or of some input if it is unknown, and `status` is
+-- their status
 pub record AnswersInput (Is : List ℕ → LineAnswer → Type 0) (limit : ℕ) (input : Option (List ℕ)) (output : List ℕ) (status : Status) : Type 0 where
   pub bytes : List ℕ
   pub of_input : IsKnown input bytes
@@ -83,19 +84,19 @@ pub record BeginsAnswers (Is : List ℕ → LineAnswer → Type 0) (bytes output
   pub len : ℕ
   pub begun : output ≡ take len (printed_lines answers)
 
--- trusted, own: holds if `output` is a prefix of the answers to the first lines of the input, as far as it is known
+-- trusted, own: holds if `output` is a prefix of the answers to the first lines of the input, or of some input if it is unknown
 pub record BeginsInput (Is : List ℕ → LineAnswer → Type 0) (limit : ℕ) (input : Option (List ℕ)) (output : List ℕ) : Type 0 where
   pub bytes : List ℕ
   pub of_input : IsKnown input bytes
   pub begins : BeginsAnswers Is (answered_part limit bytes) output
 
--- trusted, own: holds if `output` is what the status says of the lines of the input: all answers, or a prefix of them; after an
--- error of the input, the answers to the lines that had ended
+-- trusted, own: holds if `output` is the answers to the lines of the input that belong to the status: all answers, or a prefix
+-- of them; after an error of the input, the answers to the lines that had ended
 pub record WritesAnswers (Is : List ℕ → LineAnswer → Type 0) (limit : ℕ) (before now : Option (List ℕ)) (output : List ℕ) (status : Status) : Type 0 where
   pub all : OnTrue (is_written status) (AnswersInput Is limit before output status)
   pub first : OnTrue (is_cut_short status) (BeginsInput Is limit before output)
   pub ended : OnTrue (is_status status ReadFault) (AnswersEnded Is limit before now output)
 
--- trusted, own: holds if the sink gained an output of which the fact holds, or its contents are unknown
+-- trusted, own: holds if the sink gained an output with this property, or its contents are unknown
 abbrev pub Appends : Option (List ℕ) → Option (List ℕ) → (List ℕ → Type 0) → Type 0
 Appends before now fact = (output : List ℕ) × (now ≡ append_known before output) × fact output

@@ -5,7 +5,7 @@ ghost use Rattle.tdl_lines.specs.OutputsSupport.{AnswersLongAlike};
 use gs_chars::Memory;
 use std::alloc::Global;
 
-/// A trait of what answers the texts of lines.
+/// A trait of objects that answer the texts of lines.
 pub trait Answerer {
     /// Holds if this is an answer to a text.
     ghost is_answer: { Self → List ℕ → LineAnswer → Type 0 };

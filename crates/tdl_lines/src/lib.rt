@@ -1,7 +1,7 @@
-//! The lines of an input and their answers: where lines begin and end, the answer to each, and the status of a run over them.
+//! The lines of an input and their answers: the bounds of lines, the answer to each, and the status of a run over them.
 //!
 //! - `answer_lines` answers each line of a source, which it reads in pieces, and writes the answers to a sink.
-//! - `Answerer` is a trait of what answers a text; `print_line` writes one line. `Status` says how a run ended.
+//! - `Answerer` is a trait of objects that answer a text; `print_line` writes one line. `Status` says how a run ended.
 //!
 //! # Example
 //!
@@ -17,7 +17,7 @@
 //! # Differences from the standards
 //!
 //! - No standard has such an input. One carriage return before a line feed, or at the end of the input, is not part of a line.
-//! - A text of more than 2,048 bytes is too long, whatever its bytes are.
+//! - Any text of more than 2,048 bytes is too long.
 #![tactic(auto)]
 
 mod answerer;

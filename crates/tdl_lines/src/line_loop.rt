@@ -59,7 +59,7 @@ fn answer_block<'a, A: Answerer>(
 /// The outcome of answering lines.
 #[derive(Clone, Copy)]
 enum Answering {
-    /// All lines were answered; `rejected` tells whether an answer is a rejection.
+    /// All lines were answered; `rejected` is whether an answer is a rejection.
     Whole { rejected: bool },
     /// The output counted an error.
     SinkFault,

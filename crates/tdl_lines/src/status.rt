@@ -15,7 +15,7 @@ pub enum Status {
     Usage,
     /// A file is rejected.
     Refused,
-    /// The input, a file or the door counted an error, or a file is missing.
+    /// The input, a file or the listener counted an error, or a file is missing.
     ReadFault,
     /// The output counted an error.
     WriteFault,

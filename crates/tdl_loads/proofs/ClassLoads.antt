@@ -1,4 +1,4 @@
--- What is loaded of classes: of the table, and no text has two readings by them; and how their file was read.
+-- The loaded classes: they belong to the table, and no text has two readings by them; and how their file was read.
 use Rattle.std.proofs.Common.{◌≡◌, ℕ, ◌≤◌, ◌==◌, Bool, true, false, not, List, [], ◌∷◌, ◌++◌, map, Option, Some, None, length, refl, sym, ◌∙◌, ap, inl, inr}
 use Rattle.std.specs.Prelude.{Result, Ok, Err, codes}
 use Rattle.std.specs.Option.{option_map_or}

@@ -125,7 +125,7 @@ names_after names k (inr (inr e)) = rw e refl
 
 -- ---- two loads, one after another
 
--- a load that opens no more than these names
+-- a load that opens only these names
 pub any_stop : {A B : Type 0} {Give : Option FilesInMemory → Result A Stop → Type 0} {As : Type 0} {before now : FilesKnown} {answer : Result A Unloaded} (Made : Option FilesInMemory → Result B Stop → Type 0) (names : List (List ℕ)) → Loads Give names As before now answer → StopsOpening Made (λ kind. names) before now
 any_stop Made names l = record { decided = λ known stop is gives. l.opened }
 

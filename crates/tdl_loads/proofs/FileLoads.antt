@@ -1,4 +1,4 @@
--- What is loaded of a file of a kind, by how it was read and judged.
+-- The load of a file of a kind, by how it was read and judged.
 use Rattle.std.proofs.Common.{ℕ, ◌≤◌, List, Option, length, refl, sym, ap, inl, inr, arith}
 use Rattle.std.proofs.lemmas.Grind.{common_steps}
 use Rattle.std.specs.Prelude.{Result, Ok, Err}
@@ -28,7 +28,7 @@ file_judged files kind Judges name bytes before now verdict (Err unloaded.Memory
 file_judged files kind Judges name bytes before now verdict (Err unloaded.ReadFault) is few j e = absurd e
 file_judged files kind Judges name bytes before now verdict (Err (unloaded.Refused rejection)) is few j e = judged bytes verdict is few j (sym e)
 
--- a file that was judged by what it is judged
+-- a file that was judged by a relation of verdicts
 pub file_judged_by : {A : Type 0} (files : Option (List (List ℕ × List ℕ))) (kind : FileKind) (Judges : List ℕ → Result A FileFault → Type 0) (name bytes : List ℕ) (before now : ℕ) (result : Result A Unloaded) → IsFile files name bytes → length bytes ≤ file_limit kind → JudgedBy kind (Judges bytes) result → LoadedBy (FileGives files kind Judges name) before now result
 file_judged_by files kind Judges name bytes before now (Ok a) is few j = judged bytes (Ok a) is few j refl
 file_judged_by files kind Judges name bytes before now (Err unloaded.Memory) is few j = tt
@@ -36,7 +36,7 @@ file_judged_by files kind Judges name bytes before now (Err unloaded.ReadFault) 
 file_judged_by files kind Judges name bytes before now (Err (unloaded.Refused rejection)) is few j =
     judged bytes (Err rejection.error) is few j.1 (ap (λ (k : FileKind). Err (rejected (record { kind = k; error = rejection.error }))) j.0)
 
--- what stands in the place of a file that is not named
+-- the default if no file is named
 pub unnamed_judged : {A : Type 0} (kind : FileKind) (Unnamed : Result A FileFault → Type 0) (before now : ℕ) (verdict : Result A FileFault) (result : Result A Unloaded) → Unnamed verdict → JudgedAs kind verdict result → LoadedBy (StandsFor kind Unnamed) before now result
 unnamed_judged kind Unnamed before now verdict (Ok a) j e = record { verdict = verdict; judged = j; is = sym (ap (of_verdict kind) e) }
 unnamed_judged kind Unnamed before now verdict (Err unloaded.Memory) j e = tt
@@ -55,7 +55,7 @@ not_loaded First Next before now (unloaded.Refused rejection) g = rejects (rejec
 rises_before : (before between now : ℕ) → before ≤ between → Rises between now → Rises before now
 rises_before before between now less rises = grind (arith, common_steps)
 
--- behind one that is loaded it goes on
+-- after a file that is loaded the load goes on
 pub loads_on : {A B : Type 0} (First : Result A Stop → Type 0) (Next : A → Result B Stop → Type 0) (before between now : ℕ) (a : A) (result : Result B Unloaded) → First (Ok a) → before ≤ between → LoadedBy (Next a) between now result → LoadedBy (Then First Next) before now result
 loads_on First Next before between now a (Ok b) f less g = goes_on a f g
 loads_on First Next before between now a (Err unloaded.Memory) f less g = tt

@@ -1,4 +1,4 @@
--- What the files give one after another, and what they give part by part.
+-- The results of the files one at a time, and part by part.
 use Rattle.std.proofs.Common.{◌≡◌, ℕ, List, Option, refl, ap, ◌∙◌, inl, inr}
 use Rattle.std.specs.Prelude.{Result, Ok, Err}
 use Rattle.gs_links.specs.declared.link.Link.{Link}
@@ -68,7 +68,7 @@ module _ (links : List Link) (Next : Linked → Result Loaded Stop → Type 0) w
       rejects stop' (ap Err same) e
   flat_merged (Err stop) answer (goes_on contexts g n) = absurd (let given : Result (List Context) Stop = Ok contexts in let f : given ≡ Err stop = g in cc)
 
--- ---- what the files give
+-- ---- the results of the files
 
 pub parts_flat : (files : Option FilesInMemory) (asked : Asked) (answer : Result Loaded Stop) → PartsGive files asked answer → FilesGive files asked answer
 parts_flat files asked answer x =

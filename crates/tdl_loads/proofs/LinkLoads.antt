@@ -1,4 +1,4 @@
--- What is loaded of links, by how they were read and judged.
+-- The load of links, by how they were read and judged.
 use Rattle.std.proofs.Common.{◌≡◌, ℕ, ◌+◌, ◌≤◌, Bool, true, List, [], ◌∷◌, ◌++◌, Option, Some, None, drop, length, map, slice_get, refl, sym, ap, subst, ◌∙◌, inl, inr}
 use Rattle.std.specs.Prelude.{Result, Ok, Err}
 use Rattle.std.specs.List.{enumerate_from, flat_map}
@@ -49,7 +49,7 @@ no_place_error : (i : ℕ) (errors : List PlaceFault) → Ok (tt {0}) ≡ first_
 no_place_error i [] e = refl
 no_place_error i (one ∷ errors) e = absurd (let made : Result (Unit {0}) PlaceFault = Ok (tt {0}) in let f : made ≡ Err one = e in cc)
 
--- a link whose reference is in order, or has an error
+-- a link whose reference is valid, or has an error
 pub link_placed : (ais : List AiRow) (i : ℕ) (link : Link) (errors : List PlaceFault) → link_errors ais (i, link) ≡ map (Place i) errors → Ok (tt {0}) ≡ first_error errors → Ok (tt {0}) ≡ first_or (link_errors ais (i, link)) (tt {0})
 link_placed ais i link errors is e = rw is (no_place_error i errors e)
 
@@ -81,7 +81,7 @@ places_more ais links i link at none = rw (drop_at links i link at) (ap (λ (es 
 pub places_found : (ais : List AiRow) (links : List Link) (i : ℕ) (link : Link) (error : FileFault) → slice_get links i ≡ Some link → Err error ≡ first_or (link_errors ais (i, link)) (tt {0}) → Err error ≡ first_or (errors_from ais links i) (tt {0})
 places_found ais links i link error at found = rw (drop_at links i link at) (front_first (link_errors ais (i, link)) (errors_from ais links (i + 1)) error found)
 
--- all links are in order, or the first that is not gives the error of all
+-- all links are valid, or the first that is not gives the error of all
 pub places_clear : (ais : List AiRow) (links : List Link) (i : ℕ) → places_errors ais links ≡ errors_from ais links i → length links ≤ i → Ok (tt {0}) ≡ first_or (places_errors ais links) (tt {0})
 places_clear ais links i so_far high = rw (so_far ∙ places_end ais links i high) refl
 
@@ -109,9 +109,9 @@ pub store_placed : (kind : FileKind) (templates : Bool) (ais : List AiRow) (answ
 store_placed kind templates ais answer links result (inl e) j = absurd (let made : Result (List Link) StoreFault = Ok links in let f : made ≡ Err store.Memory = e in cc)
 store_placed kind templates ais answer links result (inr e) j = rw (← e) j
 
--- ---- verdicts by what is judged
+-- ---- verdicts and their errors
 
--- a verdict is told by its error
+-- a verdict that is an error has the kind and the error of the rejection
 judged_error : {A : Type 0} (kind : FileKind) (verdict : Result A FileFault) (rejection : Rejection) → of_verdict kind verdict ≡ Err (rejected rejection) → (rejection.kind ≡ kind) × (verdict ≡ Err rejection.error)
 judged_error kind (Ok a) rejection e = absurd (let f : Ok a ≡ Err (rejected rejection) = e in cc)
 judged_error {A = A} kind (Err error) rejection e =
@@ -164,7 +164,7 @@ with_unmerged ais voc verdict third (unloaded.Refused rejection) j =
     let told = judged_error kind.Merge verdict rejection j in
     rw (told.1, merged_error ais voc rejection.error third) (ap (λ (k : FileKind). Err (rejected (record { kind = k; error = rejection.error }))) (sym told.0))
 
--- a merge that gives none, and links with the document that they were merged to
+-- a merge without a result, and links with their merged document
 pub merging_not : (ais : List AiRow) (voc : List ℕ) (links : List Link) (second third : Option (List Link)) (some : List Link) (u : Unloaded) → second ≡ Some some → JudgedAs kind.Merge (merge_verdict (merge_answer links some)) (Err u) → JudgedAs kind.Merge (merging ais voc links second third) (Err u)
 merging_not ais voc links second third some u e j =
     subst (λ (s : Option (List Link)). JudgedAs kind.Merge (merging ais voc links s third) (Err u)) (sym e) (with_unmerged ais voc (merge_verdict (merge_answer links some)) third u j)

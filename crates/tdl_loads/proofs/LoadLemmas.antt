@@ -1,4 +1,4 @@
--- What files give: one answer, and no other but for the text of an ambiguous level.
+-- The answers that files give: one answer, or two that differ only in the text of an ambiguous level.
 use Rattle.std.proofs.Common.{◌≡◌, ℕ, ◌<◌, ◌≤◌, Bool, true, false, List, [], Option, Some, None, length, refl, sym, ◌∙◌, ap, inl, inr, arith}
 use Rattle.std.specs.Prelude.{Result, Ok, Err, option_map}
 use Rattle.std.proofs.lemmas.Bool.Decides.{leb_tells}
@@ -51,7 +51,7 @@ same_file files name bytes other a b = let e : Some bytes ≡ Some other = sym a
 not_absent : (files : List (List ℕ × List ℕ)) (name bytes : List ℕ) → IsAbsent (Some files) name → IsFile (Some files) name bytes → ⊥
 not_absent files name bytes a b = let e : None ≡ Some bytes = sym a ∙ b in cc
 
--- two answers of a step are one, or both stop at one place where a text has two derivations, by texts that may differ
+-- two answers of a step are one, or both stop at one ambiguity, by texts that may differ
 pub data AlikeStops {A : Type 0} (one other : Result A Stop) : Type 0 where
   one_stop : one ≡ other → AlikeStops one other
   two_texts : (place : Ambiguity) (text text' : List ℕ) → one ≡ Err (ambiguous place text) → other ≡ Err (ambiguous place text') → AlikeStops one other
@@ -92,7 +92,7 @@ tables_one : (source : List ℕ) (Ruled : Result TableRows LoadFault → Type 0)
 tables_one source Ruled ruling a b x y =
     rw (x.is, y.is) (alike_answers source x.answer y.answer (judged_alike Ruled ruling x.answer y.answer x.is_answer y.is_answer x.enough y.enough))
 
--- what is given and a stop are not alike, and two of what is given that are alike are one
+-- a value and a stop are not alike, and two values that are alike are one
 pub not_alike : {A : Type 0} (stop : Stop) (a : A) → AlikeStops (Ok a) (Err stop) → ⊥
 not_alike stop a (one_stop e) = let f : Ok a ≡ Err stop = e in cc
 not_alike stop a (two_texts place text text' e f) = let g : Ok a ≡ Err (ambiguous place text) = e in cc

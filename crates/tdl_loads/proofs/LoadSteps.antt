@@ -1,4 +1,4 @@
--- What a load did of the files, by what its steps did.
+-- The effect of a load on the files, by that of its steps.
 use Rattle.std.proofs.Common.{ℕ, ◌≤◌, List, Option, Some, None, [], ◌++◌, ◌∷◌, ◌≡◌, suc, zero, take, length, refl, sym, ap, subst, ◌∙◌, inl, inr, arith}
 use Rattle.std.specs.Prelude.{Result, Ok, Err}
 use Rattle.gs_port.specs.Files.{AddsNames, IsFile}
@@ -70,7 +70,7 @@ module _ {A : Type 0} (files : Option FilesInMemory) (kind : FileKind) (Judges :
   bytes_unloaded name before now unloaded.ReadFault (inr gives) = inr (gives.0, bytes_stop name (missing gives.0) gives.1)
   bytes_unloaded name before now (unloaded.Refused rejection) gives = bytes_stop name (rejected rejection) gives
 
--- ---- a load whose last step is about what was read
+-- ---- a load whose last step uses the earlier results
 
 pub loads_given : {A B : Type 0} (Give : Option FilesInMemory → Result A Stop → Type 0) (Made : Option FilesInMemory → Result B Stop → Type 0) (names : List (List ℕ)) (As : Type 0) (before now : FilesKnown) (a : A) (result : Result B Unloaded) → Loads Give names As before now (Ok a) → LoadedBy (Made before.files) before.errors now.errors result → Loads Made names As before now result
 loads_given Give Made names As before now a result l g =
@@ -97,7 +97,7 @@ no_name : (one other : List (List ℕ)) → one ++ other ≡ [] → (one ≡ [])
 no_name [] other e = (refl, e)
 no_name (x ∷ one) other e = cc
 
--- the files that a load with two steps goes by
+-- the results of a load with two steps
 abbrev pub Steps : {A B : Type 0} → (Option FilesInMemory → Result A Stop → Type 0) → (Option FilesInMemory → A → Result B Stop → Type 0) → Option FilesInMemory → Result B Stop → Type 0
 Steps First Next files answer = Then (First files) (Next files) answer
 
@@ -112,7 +112,7 @@ loads_stop First Next one other As before now u l = record {
   counts = l.counts;
 }
 
--- a first step that gives something, and another behind it
+-- a first step that gives something, and another after it
 pub loads_then : {A B : Type 0} (First : Option FilesInMemory → Result A Stop → Type 0) (Next : Option FilesInMemory → A → Result B Stop → Type 0) (one other : List (List ℕ)) (AsOne AsOther As : Type 0) (before between now : FilesKnown) (a : A) (result : Result B Unloaded) → (AsOne → AsOther → As) → Loads First one AsOne before between (Ok a) → Loads (λ files. Next files a) other AsOther between now result → Loads (Steps First Next) (one ++ other) As before now result
 loads_then First Next one other AsOne AsOther As before between now a result both l m =
     let next : LoadedBy (Next before.files a) between.errors now.errors result = subst (λ files. LoadedBy (Next files a) between.errors now.errors result) l.known m.loaded in

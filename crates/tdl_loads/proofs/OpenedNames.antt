@@ -23,7 +23,7 @@ adds_both before between now one other (inl none) (inr more) = inl (more ∙ ap 
 adds_both before between now one other (inr first) (inr more) =
     inr (more ∙ ap (λ names. with_names names other) first ∙ names_twice before one other)
 
--- a fact that does not rest on what is given
+-- a fact that does not depend on the given value
 pub whatever_given : {A E : Type 0} (result : Result A E) (fact : Type 0) → fact → IfOk result (λ _. fact)
 whatever_given (Ok a) fact f = f
 whatever_given (Err e) fact f = tt
@@ -36,7 +36,7 @@ pub opens_both : (before between now : Option (List (List ℕ))) (one other : Li
 opens_both before between now one other first more =
     (length one + more.0, rw (take-append-add one other more.0) (adds_both before between now one (take more.0 other) first more.1))
 
--- names that were added, and then others where something is given
+-- names that were added, and then others if something is given
 pub adds_given : {A E : Type 0} (result : Result A E) (before between now : Option (List (List ℕ))) (one other : List (List ℕ)) → AddsNames before one between → IfOk result (λ _. AddsNames between other now) → IfOk result (λ _. AddsNames before (one ++ other) now)
 adds_given (Ok a) before between now one other first more = adds_both before between now one other first more
 adds_given (Err e) before between now one other first more = tt

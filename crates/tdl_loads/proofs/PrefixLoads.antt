@@ -1,4 +1,4 @@
--- What is loaded of a list of company prefix lengths, by how its file was read.
+-- The load of a list of company prefix lengths, by how its file was read.
 use Rattle.std.proofs.Common.{◌≡◌, ℕ, ◌≤◌, List, Option, Some, length, refl, sym, ◌∙◌, ap, inl, inr}
 use Rattle.std.specs.Prelude.{Result, Ok, Err}
 use Rattle.gs_port.specs.Files.{IsFile}

@@ -1,4 +1,4 @@
--- What is loaded, by how files were read.
+-- Loads, by how files were read.
 use Rattle.std.proofs.Common.{◌≡◌, ℕ, ◌≤◌, false, true, List, [], Option, Some, None, length, refl, sym, ◌∙◌, ap}
 use Rattle.std.specs.Prelude.{Result, Ok, Err, is_some}
 use Rattle.gs_tables_document.specs.declared.error.LoadFault.{LoadFault}
@@ -64,15 +64,15 @@ given_file files name given (judged bytes verdict is few j e) =
     let both = given_by bytes (LoadAnswer bytes) verdict given j e in
     rw both.1 both.0
 
--- ---- tables that are loaded keep the rules, and none of their levels is ambiguous
+-- ---- loaded tables satisfy the rules, and none of their levels is ambiguous
 
 loaded_named : (files : Option (List (List ℕ × List ℕ))) (name : Option (List ℕ)) (given : TablesWithSource) → TablesGive files name (Ok given) → IsLoaded given.tables
 loaded_named files None given gives = judged_loaded RuledRows ruling_of_builtin given.tables (given_by [] BuiltInAnswer gives.verdict given gives.judged gives.is).0
 loaded_named files (Some name) given gives = judged_loaded (Shape given.source) (ruling_of_bytes given.source) given.tables (given_file files name given gives)
 
--- ---- the tables of what is loaded
+-- ---- the tables of a load
 
--- what is loaded has the tables, with their document, that files give
+-- the load has the tables, with their document, that files give
 record HasTables (files : Option (List (List ℕ × List ℕ))) (asked : Asked) (loaded : Loaded) : Type 0 where
   given : TablesWithSource
   gives : TablesGive files asked.files.tables (Ok given)

@@ -1,4 +1,4 @@
--- What files give, and the rows in place of files that are not named.
+-- The results of files, and the default rows of files that are not named.
 use Rattle.std.specs.Prelude.{◌≡◌, ℕ, ◌<◌, ◌≤◌, Bool, true, false, List, [], ◌++◌, length, take, Option, Some, None, Result, Ok, Err, IfOk, ◌≢◌, if◌then◌else◌, map, option_map, option_to_list}
 use Rattle.std.specs.List.{enumerate_from, flat_map}
 use Rattle.gs_ai.specs.declared.row.AiRow.{AiRow}
@@ -62,25 +62,26 @@ abbrev pub of_verdict : {A : Type 0} → FileKind → Result A FileFault → Res
 of_verdict kind (Ok a) = Ok a
 of_verdict kind (Err error) = Err (rejected (record { kind = kind; error = error }))
 
--- trusted, own: holds if this is what the named file of a kind gives: it is missing, it has more bytes than its kind may have, or
--- its bytes have this verdict
+-- trusted, own: holds if this is the result of the named file of a kind: it is missing, it has more bytes than its kind may
+-- have, or its bytes have this verdict
 pub data FileGives {A : Type 0} (files : Option FilesInMemory) (kind : FileKind) (Judges : List ℕ → Result A FileFault → Type 0) (name : List ℕ) (answer : Result A Stop) : Type 0 where
   absent : IsAbsent files name → answer ≡ Err (missing kind) → FileGives files kind Judges name answer
   too_large : (bytes : List ℕ) → IsFile files name bytes → file_limit kind < length bytes → answer ≡ of_verdict kind (Err Over) → FileGives files kind Judges name answer
   judged : (bytes : List ℕ) (verdict : Result A FileFault) → IsFile files name bytes → length bytes ≤ file_limit kind → Judges bytes verdict → answer ≡ of_verdict kind verdict → FileGives files kind Judges name answer
 
--- trusted, own: holds if this is the verdict on what stands in place of a file that is not named
+-- trusted, own: holds if this is the verdict on the default of a file that is not named
 pub record StandsFor {A : Type 0} (kind : FileKind) (Unnamed : Result A FileFault → Type 0) (answer : Result A Stop) : Type 0 where
   pub verdict : Result A FileFault
   pub judged : Unnamed verdict
   pub is : answer ≡ of_verdict kind verdict
 
--- trusted, own: holds if this is what the file of a kind gives, or what stands in its place if none is named
+-- trusted, own: holds if this is the result of the file of a kind, or of its default if none is named
 abbrev pub Gives : {A : Type 0} → Option FilesInMemory → FileKind → (List ℕ → Result A FileFault → Type 0) → (Result A FileFault → Type 0) → Option (List ℕ) → Result A Stop → Type 0
 Gives files kind Judges Unnamed None answer = StandsFor kind Unnamed answer
 Gives files kind Judges Unnamed (Some name) answer = FileGives files kind Judges name answer
 
--- trusted, own: holds if this is what the file of a kind gives: `judge` is the verdict on its bytes, `unnamed` that if none is named
+-- trusted, own: holds if this is the result of the file of a kind: `judge` is the verdict on its bytes, `unnamed` that if none
+-- is named
 abbrev pub GivesBy : {A : Type 0} → Option FilesInMemory → FileKind → (List ℕ → Result A FileFault) → Result A FileFault → Option (List ℕ) → Result A Stop → Type 0
 GivesBy files kind judge unnamed name answer = Gives files kind (λ bytes verdict. verdict ≡ judge bytes) (λ verdict. verdict ≡ unnamed) name answer
 
@@ -211,12 +212,12 @@ abbrev pub UnnamedClasses : List AiRow → Bool → Result ClassRows FileFault �
 UnnamedClasses ais true verdict = JudgesClasses (BuiltInClasses ais) verdict
 UnnamedClasses ais false verdict = verdict ≡ Ok (set_of [])
 
--- trusted, own: holds if this is the classes of the named file, or those in its place, with these AIs
+-- trusted, own: holds if this is the classes of the named file, or the default ones, with these AIs
 abbrev pub ClassesGive : Option FilesInMemory → List AiRow → Command → Option (List ℕ) → Result ClassRows Stop → Type 0
 ClassesGive files ais command name answer =
     Gives files kind.Classes (λ bytes. JudgesClasses (ClassesAnswer ais bytes)) (UnnamedClasses ais (is_of_classes command)) name answer
 
--- trusted, own: holds if this is what the files give, one after another, or the reason of the first that is missing or rejected
+-- trusted, own: holds if this is the result of the files, one at a time, or the reason of the first that is missing or rejected
 abbrev pub FilesGive : Option FilesInMemory → Asked → Result Loaded Stop → Type 0
 FilesGive files asked answer =
     let names = asked.files in
@@ -262,8 +263,8 @@ named_up_to kind.Describe files = tables_named files ++ (links_named files ++ de
 named_up_to kind.Classes files = names_in_order files
 named_up_to other files = tables_named files ++ links_named files
 
--- trusted, own: holds if only the first of the named files were opened, in their order, and, if the files are known, none after
--- the one at which the run stops
+-- trusted, own: holds if only the first of the named files were opened, in their order; if the files are known, none was opened
+-- after the one at which the run stops
 pub record OpensUpTo (files : Option FilesInMemory) (asked : Asked) (before now : Option (List (List ℕ))) : Type 0 where
   pub first : OpensFirst (names_in_order asked.files) before now
   pub decided : (known : FilesInMemory) (stop : Stop) → files ≡ Some known → FilesGive files asked (Err stop) → OpensFirst (named_up_to (kind_of stop) asked.files) before now
@@ -272,7 +273,8 @@ pub record OpensUpTo (files : Option FilesInMemory) (asked : Asked) (before now 
 abbrev pub Opens : {A : Type 0} → List (List ℕ) → Option (List (List ℕ)) → Option (List (List ℕ)) → Result A Unloaded → Type 0
 Opens names before now answer = IfOk answer (λ _. AddsNames before names now)
 
--- trusted, own: the place where a text has two derivations: a level of the tables and a pair of its options, or a pair of classes
+-- trusted, own: the place of an ambiguity, at which a text has two derivations: a level of the tables and a pair of its
+-- options, or a pair of classes
 pub data Ambiguity : Type 0 where
   of_tables : LevelName → ℕ → ℕ → Ambiguity
   of_classes : ℕ → ℕ → Ambiguity

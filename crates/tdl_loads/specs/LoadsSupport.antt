@@ -25,7 +25,7 @@ use Rattle.tdl_loads.specs.declared.loads.Unloaded.{Unloaded}
 use Rattle.tdl_loads.specs.declared.loads.Unloaded.TheVariants.{Refused, ReadFault, Memory}
 use Rattle.tdl_loads.specs.Loads.{BytesGive, ClassesGive, FilesInMemory, LinksGive, Opens, OpensFirst, OtherGives, PrefixesGive, StandsFor, Stop, TablesGive, UnnamedClasses, is_of_classes, kind_of, links_verdict, merging, missing, of_verdict, other_verdict, prefixes_verdict, rejected}
 
--- ---- what the files give, part by part: tables and prefixes, links, settings, classes
+-- ---- the results of the files, part by part: tables and prefixes, links, settings, classes
 
 -- the verdict is that on a list of company prefix lengths
 abbrev pub JudgesPrefixes : List ℕ → Result (List PrefixEntry) FileFault → Type 0
@@ -47,7 +47,7 @@ JudgesOther ais voc bytes verdict = verdict ≡ other_verdict (links_verdict fal
 abbrev pub IsNoOther : Result (Option (List Link)) FileFault → Type 0
 IsNoOther verdict = verdict ≡ Ok None
 
--- the verdict on bytes that are taken as they are
+-- the verdict on bytes that are taken unchanged
 abbrev pub AreBytes : List ℕ → Result (Option (List ℕ)) FileFault → Type 0
 AreBytes bytes verdict = verdict ≡ Ok (Some bytes)
 
@@ -59,11 +59,11 @@ AreNone verdict = verdict ≡ Ok None
 abbrev pub AreTabled : TablesWithSource → List PrefixEntry → Result Tabled Stop → Type 0
 AreTabled given list answer = answer ≡ Ok (record { tables = given.tables; source = given.source; prefixes = list })
 
--- what the file of company prefix lengths gives behind these tables
+-- the result of the file of company prefix lengths after these tables
 abbrev pub GivesPrefixes : Option FilesInMemory → FileNames → TablesWithSource → Result Tabled Stop → Type 0
 GivesPrefixes files names given answer = Then (PrefixesGive files names.prefixes) (AreTabled given) answer
 
--- what the files of tables and of company prefix lengths give
+-- the result of the files of tables and of company prefix lengths
 abbrev pub TabledGive : Option FilesInMemory → FileNames → Result Tabled Stop → Type 0
 TabledGive files names answer = Then (TablesGive files names.tables) (GivesPrefixes files names) answer
 
@@ -76,20 +76,20 @@ linked_with links (Err stop) = Err stop
 abbrev pub AreLinked : List AiRow → List ℕ → List Link → Option (List Link) → Option (List Link) → Result Linked Stop → Type 0
 AreLinked ais voc links second third answer = answer ≡ linked_with links (of_verdict kind.Merge (merging ais voc links second third))
 
--- what the file of third links gives behind these links and second ones
+-- the result of the file of third links after these links and second ones
 abbrev pub GivesThird : Option FilesInMemory → FileNames → List AiRow → List ℕ → List Link → Option (List Link) → Result Linked Stop → Type 0
 GivesThird files names ais voc links second answer = Then (OtherGives files kind.Third ais voc names.third) (AreLinked ais voc links second) answer
 
--- what the files of second and of third links give behind these links
+-- the result of the files of second and of third links after these links
 abbrev pub GivesOthers : Option FilesInMemory → FileNames → List AiRow → List ℕ → List Link → Result Linked Stop → Type 0
 GivesOthers files names ais voc links answer = Then (OtherGives files kind.Second ais voc names.second) (GivesThird files names ais voc links) answer
 
--- what the files of links give, by the application identifiers and the values of a request
+-- the result of the files of links, by the application identifiers and the values of a request
 abbrev pub LinkedGive : Option FilesInMemory → FileNames → Values → List AiRow → Result Linked Stop → Type 0
 LinkedGive files names values ais answer =
     Then (LinksGive files values.templates ais values.voc names.links) (GivesOthers files names ais values.voc) answer
 
--- the description in the named file, or none where none is named
+-- the description in the named file, or none if none is named
 abbrev pub DescriptionGives : Option FilesInMemory → Option (List ℕ) → Result (Option (List ℕ)) Stop → Type 0
 DescriptionGives files name answer = BytesGive files kind.Describe name answer
 
@@ -97,37 +97,37 @@ DescriptionGives files name answer = BytesGive files kind.Describe name answer
 abbrev pub AreSettings : Values → Option (List ℕ) → Result Settings Stop → Type 0
 AreSettings values describe answer = answer ≡ Ok (record { voc = values.voc; describe = describe; templates = values.templates })
 
--- how requests are answered, by the values of a request and by what the file of the description gives
+-- the settings of replies, by the values of a request and by the result of the file of the description
 abbrev pub SettingsGive : Option FilesInMemory → FileNames → Values → Result Settings Stop → Type 0
 SettingsGive files names values answer = Then (DescriptionGives files names.describe) (AreSettings values) answer
 
--- what is loaded of these tables and prefixes, these links, these settings and these classes
+-- the load of these tables and prefixes, these links, these settings and these classes
 abbrev pub IsLoadedOf : Tabled → Linked → Settings → ClassRows → Result Loaded Stop → Type 0
 IsLoadedOf tabled linked settings classes answer =
     answer ≡ Ok (record { tables = tabled.tables; source = tabled.source; prefixes = tabled.prefixes; links = linked.links; merged = linked.merged; settings = settings; classes = classes })
 
--- what the file of classes gives behind these tables and prefixes, these links and these settings
+-- the result of the file of classes after these tables and prefixes, these links and these settings
 abbrev pub GivesClasses : Option FilesInMemory → Asked → Tabled → Linked → Settings → Result Loaded Stop → Type 0
 GivesClasses files asked tabled linked settings answer =
     Then (ClassesGive files tabled.tables.ais asked.command asked.files.classes) (IsLoadedOf tabled linked settings) answer
 
--- what the files of the description and of classes give behind these tables and prefixes, and these links
+-- the result of the files of the description and of classes after these tables and prefixes, and these links
 abbrev pub GivesSettings : Option FilesInMemory → Asked → Tabled → Linked → Result Loaded Stop → Type 0
 GivesSettings files asked tabled linked answer = Then (SettingsGive files asked.files asked.values) (GivesClasses files asked tabled linked) answer
 
--- what the files of links, of the description and of classes give behind these tables and prefixes
+-- the result of the files of links, of the description and of classes after these tables and prefixes
 abbrev pub GivesLinks : Option FilesInMemory → Asked → Tabled → Result Loaded Stop → Type 0
 GivesLinks files asked tabled answer =
     Then (LinkedGive files asked.files asked.values tabled.tables.ais) (GivesSettings files asked tabled) answer
 
--- what the files give, part by part
+-- the result of the files, part by part
 abbrev pub PartsGive : Option FilesInMemory → Asked → Result Loaded Stop → Type 0
 PartsGive files asked answer = Then (TabledGive files asked.files) (GivesLinks files asked) answer
 
 -- ---- loads
 
--- trusted, own: holds if the answer of a load is what the files give, a read fault only if the files counted an error or a file is
--- missing, or out of memory
+-- trusted, own: holds if the answer of a load is the result of the files, a read fault, or out of memory. A read fault occurs
+-- only if the files counted an error or a file is missing
 abbrev pub LoadedBy : {A : Type 0} → (Result A Stop → Type 0) → ℕ → ℕ → Result A Unloaded → Type 0
 LoadedBy Give before now (Ok a) = Give (Ok a)
 LoadedBy Give before now (Err (Refused rejection)) = Give (Err (rejected rejection))
@@ -138,7 +138,7 @@ LoadedBy Give before now (Err Memory) = Unit {0}
 abbrev pub IsOfBuiltIn : Result TablesWithSource Unloaded → Type 0
 IsOfBuiltIn answer = (files : Option FilesInMemory) (before now : ℕ) → LoadedBy (TablesGive files None) before now answer
 
--- trusted, own: files at a moment, as far as they are known: their contents, the opened names, and their count of errors
+-- trusted, own: the known facts of files at a moment: their contents, the opened names, and their count of errors
 pub record FilesKnown : Type 0 where
   pub files : Option FilesInMemory
   pub opened : Option (List (List ℕ))
@@ -148,8 +148,9 @@ pub record FilesKnown : Type 0 where
 abbrev pub files_known : Option FilesInMemory → Option (List (List ℕ)) → ℕ → FilesKnown
 files_known files opened errors = record { files = files; opened = opened; errors = errors }
 
--- trusted, own: Holds if a load of the files of these names had this answer between two moments: what the files give. The first of
--- the names were opened, in their order, and all if the load succeeded. If there are no names, the files are as they were.
+-- trusted, own: Holds if a load of the files of these names had this answer between two moments: the result of the files. The
+-- first of the names were opened, in their order, and all if the load succeeded. If there are no names, the files are
+-- unchanged.
 pub record Loads {A : Type 0} (Give : Option FilesInMemory → Result A Stop → Type 0) (names : List (List ℕ)) (AsTheyWere : Type 0) (before now : FilesKnown) (answer : Result A Unloaded) : Type 0 where
   pub loaded : LoadedBy (Give before.files) before.errors now.errors answer
   pub opened : OpensFirst names before.opened now.opened
@@ -187,7 +188,7 @@ rest_up_to kind.Describe files = links_named files ++ description_named files
 rest_up_to kind.Classes files = links_named files ++ (description_named files ++ classes_named files)
 rest_up_to other files = links_named files
 
--- holds if the answer of a load of classes is that of those in place of a file that is not named
+-- holds if the answer of a load of classes is that of the default ones if no file is named
 abbrev pub AreUnnamedClasses : List AiRow → Command → Result ClassRows Unloaded → Type 0
 AreUnnamedClasses ais command answer = (before now : ℕ) → LoadedBy (StandsFor kind.Classes (UnnamedClasses ais (is_of_classes command))) before now answer
 

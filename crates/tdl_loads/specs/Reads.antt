@@ -38,21 +38,21 @@ UnloadedAs source answer (Err ReadFault) = ⊥
 UnloadedAs source answer (Err (Refused rejection)) =
     HasMemory answer × (of_verdict kind.Tables (tables_verdict source answer) ≡ Err (rejected rejection))
 
--- a verdict on a file of a kind, with out of memory in place of any
+-- a verdict on a file of a kind, or instead out of memory
 abbrev pub JudgedAs : {A : Type 0} → FileKind → Result A FileFault → Result A Unloaded → Type 0
 JudgedAs kind verdict (Ok a) = verdict ≡ Ok a
 JudgedAs kind verdict (Err Memory) = Unit {0}
 JudgedAs kind verdict (Err ReadFault) = ⊥
 JudgedAs kind verdict (Err (Refused rejection)) = of_verdict kind verdict ≡ Err (rejected rejection)
 
--- a verdict on a file of a kind by what it is judged, with out of memory in place of any
+-- a verdict on a file of a kind by a relation of verdicts, or instead out of memory
 abbrev pub JudgedBy : {A : Type 0} → FileKind → (Result A FileFault → Type 0) → Result A Unloaded → Type 0
 JudgedBy kind Judges (Ok a) = Judges (Ok a)
 JudgedBy kind Judges (Err Memory) = Unit {0}
 JudgedBy kind Judges (Err ReadFault) = ⊥
 JudgedBy kind Judges (Err (Refused rejection)) = (rejection.kind ≡ kind) × Judges (Err rejection.error)
 
--- why a file of a kind is not loaded that is no linkset as text
+-- the reason for not loading a file of a kind that is not a linkset as text
 abbrev pub unread_text : FileKind → LinkTextFault → Unloaded
 unread_text kind text.Memory = Memory
 unread_text kind error = Refused (record { kind = kind; error = LinkText error })

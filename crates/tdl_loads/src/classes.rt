@@ -13,7 +13,7 @@ use std::alloc::Global;
 use tdl_arguments::Command;
 use tdl_messages::{FileFault, FileKind, Rejection};
 
-/// Whether the command works on class URIs.
+/// Returns whether the command works on class URIs.
 fn is_of_classes(command: Command) -> bool
     ensures { result ≡ is_of_classes command }
 {
@@ -23,7 +23,7 @@ fn is_of_classes(command: Command) -> bool
     }
 }
 
-/// What the answer of a load of classes is for a run.
+/// Turns the answer of a load of classes into that of a run.
 fn classes_of(answer: Result<ClassSet, ClassLoadFault>) -> Result<ClassSet, Unloaded>
     ensures { ClassesUnloadedAs answer result }
 {
@@ -37,7 +37,7 @@ fn classes_of(answer: Result<ClassSet, ClassLoadFault>) -> Result<ClassSet, Unlo
     }
 }
 
-/// The classes of a command that names no file of them: the built-in ones where it works on class URIs, and none where it does not.
+/// Loads the classes of a command that names no file of them: the built-in ones if it works on class URIs, otherwise none.
 fn load_unnamed(alloc: Global, ais: &AiTable, command: Command) -> Result<ClassSet, Unloaded>
     ensures { AreUnnamedClasses ais.now command result }
 {
@@ -47,7 +47,8 @@ fn load_unnamed(alloc: Global, ais: &AiTable, command: Command) -> Result<ClassS
     Ok(ClassSet::none(alloc)?)
 }
 
-/// The classes of the named file; where none is named the built-in ones, if the command works on class URIs, else none.
+/// Loads the classes of the named file. Without a name it loads the built-in ones if the command works on class URIs, otherwise
+/// none.
 pub fn load_classes<F: Files>(
     alloc: Global,
     ais: &AiTable,

@@ -1,9 +1,9 @@
 //! The files that a run names: read, judged and loaded in their order.
 //!
-//! - `load_files` loads the files of a request, or what stands in their place, up to the first that is missing, cannot be read or is
-//!   rejected (`Unloaded`). It opens no later one.
-//! - `Loaded` holds what a run has loaded: the tables with their document (`TablesWithSource`), the company prefix lengths (`Tabled`), the
-//!   links and the document that they are merged to (`Linked`), the settings of replies, and the classes.
+//! - `load_files` loads the files of a request, or their defaults. It stops at the first that is missing, cannot be read or is
+//!   rejected (`Unloaded`), and opens no later one.
+//! - `Loaded` holds the loaded contents of a run: the tables with their document (`TablesWithSource`), the company prefix
+//!   lengths (`Tabled`), the links and their merged document (`Linked`), the settings of replies, and the classes.
 //!
 //! # Example
 //!

@@ -29,13 +29,13 @@ pub struct Judging<'a> {
     pub kind: FileKind,
     /// The application identifiers of their anchors.
     pub ais: &'a AiTable,
-    /// What stands for `gs1:` in their relations.
+    /// The vocabulary that `gs1:` stands for in their relations.
     pub voc: &'a str,
     /// Whether their references are templates.
     pub templates: bool,
 }
 
-/// The links of a store, where none of their references is a template that is not in order.
+/// Returns the links of a store, unless one of their references is an invalid template.
 fn placed(judging: Judging<'_>, store: Store) -> Result<Store, Unloaded>
     ensures { JudgedAs judging.entry.kind (placed judging.entry.templates judging.entry.ais.now store)
         result }
@@ -52,7 +52,7 @@ fn placed(judging: Judging<'_>, store: Store) -> Result<Store, Unloaded>
     }
 }
 
-/// The store of a linkset.
+/// Loads the store of a linkset.
 pub fn load_store(alloc: Global, judging: Judging<'_>, doc: LinkDoc) -> Result<Store, Unloaded>
     requires { is_vocabulary judging.voc.now ≡ true }
     ensures { JudgedAs judging.entry.kind (store_verdict judging.entry.templates judging.entry.ais.now
@@ -68,7 +68,7 @@ pub fn load_store(alloc: Global, judging: Judging<'_>, doc: LinkDoc) -> Result<S
     }
 }
 
-/// The links that bytes are in JSON.
+/// Loads the links of bytes in JSON.
 fn judge_json(alloc: Global, judging: Judging<'_>, bytes: &[u8]) -> Result<Store, Unloaded>
     requires { is_vocabulary judging.voc.now ≡ true }
     ensures { JudgedAs judging.entry.kind (links_verdict judging.entry.templates judging.entry.ais.now
@@ -84,7 +84,7 @@ fn judge_json(alloc: Global, judging: Judging<'_>, bytes: &[u8]) -> Result<Store
     }
 }
 
-/// Why a run has not loaded a file of a kind that is no linkset as text.
+/// Returns the reason that a run has not loaded a file of a kind, since it is not a linkset as text.
 fn unread_text(kind: FileKind, error: LinkTextFault) -> Unloaded
     ensures { result ≡ unread_text kind error }
 {
@@ -99,7 +99,7 @@ fn unread_text(kind: FileKind, error: LinkTextFault) -> Unloaded
     }
 }
 
-/// The links that bytes are as text.
+/// Loads the links of bytes as text.
 fn judge_text(alloc: Global, judging: Judging<'_>, bytes: &[u8]) -> Result<Store, Unloaded>
     requires { is_vocabulary judging.voc.now ≡ true }
     ensures { JudgedBy judging.entry.kind (JudgesText judging.entry.templates judging.entry.ais.now
@@ -111,7 +111,7 @@ fn judge_text(alloc: Global, judging: Judging<'_>, bytes: &[u8]) -> Result<Store
     }
 }
 
-/// The name of a file of links.
+/// Returns the name of a file of links.
 fn name_of(file: Option<LinksFile<'_>>) -> Option<&str>
     ensures { known_name result ≡ option_map name_of_links (known_links file.entry) }
 {
@@ -122,7 +122,7 @@ fn name_of(file: Option<LinksFile<'_>>) -> Option<&str>
     }
 }
 
-/// The links that the bytes of a named file are.
+/// Loads the links of the bytes of a named file.
 fn judge_named(
     alloc: Global,
     judging: Judging<'_>,
@@ -139,7 +139,7 @@ fn judge_named(
     }
 }
 
-/// The links that the bytes of a file are, in JSON where none is named.
+/// Loads the links of the bytes of a file, in JSON if none is named.
 fn judge_file(
     alloc: Global,
     judging: Judging<'_>,
@@ -156,7 +156,7 @@ fn judge_file(
     }
 }
 
-/// The store of no link.
+/// Makes the store of no link.
 fn load_no_link(alloc: Global, ais: &AiTable, voc: &str) -> Result<Store, Unloaded>
     requires { is_vocabulary voc.now ≡ true }
     ensures { JudgedAs OfLinks (Ok []) result }
@@ -170,7 +170,7 @@ fn load_no_link(alloc: Global, ais: &AiTable, voc: &str) -> Result<Store, Unload
     load_store(alloc, judging, no_context(alloc))
 }
 
-/// The document of no context.
+/// Makes the document of no context.
 #[tactic(auto, unfolding(gs_linkset::specs::LinkShapes::is_context))]
 pub fn no_context(alloc: Global) -> LinkDoc
     ensures { result ≡ [] }
@@ -178,7 +178,7 @@ pub fn no_context(alloc: Global) -> LinkDoc
     LinkDoc::of_contexts(List::from_vec(Vec::new(alloc)))
 }
 
-/// The links of the named file, in JSON or as text, or none where none is named. In their relations `gs1:` stands for the
+/// Loads the links of the named file, in JSON or as text, or none if none is named. In their relations `gs1:` stands for the
 /// vocabulary, and their references are templates or are not.
 pub fn load_links<F: Files>(
     alloc: Global,
@@ -208,7 +208,7 @@ pub fn load_links<F: Files>(
     }
 }
 
-/// The links that bytes are in JSON which are merged with others.
+/// Loads the links of bytes in JSON, which are merged with others.
 fn judge_other(
     alloc: Global,
     kind: FileKind,
@@ -232,7 +232,7 @@ fn judge_other(
     }
 }
 
-/// The links of the named file of a kind, in JSON, which are merged with others; none where none is named.
+/// Loads the links of the named file of a kind, in JSON, which are merged with others. Loads none if none is named.
 pub fn load_other<F: Files>(
     alloc: Global,
     kind: FileKind,

@@ -35,7 +35,7 @@ pub struct TablesWithSource {
 pub struct Tabled {
     /// The tables.
     pub tables: TableSet,
-    /// The bytes of the document that the tables are of; none where they are the built-in ones.
+    /// The bytes of the document that the tables are from; empty for the built-in ones.
     pub source: Text,
     /// The company prefix lengths.
     pub prefixes: PrefixList,
@@ -50,11 +50,11 @@ pub struct Linked {
     pub merged: LinkDoc,
 }
 
-/// What a run has loaded.
+/// The loaded contents of a run.
 pub struct Loaded {
     /// The tables.
     pub tables: TableSet,
-    /// The bytes of the document that the tables are of; none where they are the built-in ones.
+    /// The bytes of the document that the tables are from; empty for the built-in ones.
     pub source: Text,
     /// The company prefix lengths.
     pub prefixes: PrefixList,
@@ -68,7 +68,7 @@ pub struct Loaded {
     pub classes: ClassSet,
 }
 
-// by hand, so that a function that drops what was loaded calls this one: a derived drop is written out at each of its exits
+// by hand, so that a function that drops a `Loaded` calls this one: a derived drop is written out at each of its exits
 impl Drop for Loaded {
     fn drop(self) {
         let Loaded {
@@ -153,9 +153,10 @@ fn load_settings<F: Files>(
     })
 }
 
-/// Loads the files in their order: tables, company prefix lengths, links, second and third ones, the description, classes. It stops at
-/// the first that is missing, cannot be read or is rejected, and opens no later one. Without a name there are the built-in tables, no
-/// prefixes, no links, no description, and the built-in classes for a command on class URIs, otherwise none.
+/// Loads the files in their order: tables, company prefix lengths, links, second and third ones, the description, classes. It
+/// stops at the first that is missing, cannot be read or is rejected, and opens no later one. If they are not named, the tables
+/// are the built-in ones, and there are no prefixes, links or description. Without a file of classes, a command on class URIs
+/// has the built-in ones, and any other command none.
 pub fn load_files<F: Files>(
     alloc: Global,
     request: Request<'_>,

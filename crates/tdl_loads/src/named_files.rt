@@ -11,7 +11,7 @@ use gs_port::{FileFault as ReadingFault, Files, read_file};
 use std::alloc::Global;
 use tdl_messages::{FileFault, FileKind, Rejection};
 
-/// The bytes of the named file of a kind: rejected as `Over` exactly where it has more than its kind may have.
+/// Reads the bytes of the named file of a kind. Rejects it as `Over` if and only if it has more bytes than its kind may have.
 fn read_named<F: Files>(
     alloc: Global,
     kind: FileKind,
@@ -34,7 +34,7 @@ fn read_named<F: Files>(
     }
 }
 
-/// The bytes of the named file of a kind, or none where none is named.
+/// Reads the bytes of the named file of a kind, or returns `None` if none is named.
 pub fn read_if_named<F: Files>(
     alloc: Global,
     kind: FileKind,

@@ -8,7 +8,7 @@ use gs_links::{Link, Store};
 use gs_template::places_ok;
 use tdl_messages::FileFault;
 
-/// The first error of the template that the reference of the link of this number is.
+/// Finds the first error of the template that is the reference of the link of this number.
 fn judge_link(ais: &AiTable, i: usize, link: &Link) -> Result<(), FileFault>
     ensures { result ≡ first_or (link_errors ais.now (i, link.now)) tt }
 {
@@ -19,7 +19,7 @@ fn judge_link(ais: &AiTable, i: usize, link: &Link) -> Result<(), FileFault>
     }
 }
 
-/// The first error of the templates that the references of links are, in the order of the links. It takes no memory.
+/// Finds the first error of the templates that are the references of links, in the order of the links. Does not allocate.
 pub fn judge_places(ais: &AiTable, links: &Store) -> Result<(), FileFault>
     ensures { result ≡ first_or (places_errors ais.now links.now) tt }
 {

@@ -11,7 +11,7 @@ use gs_prefix::{PrefixFault, PrefixList};
 use std::alloc::Global;
 use tdl_messages::{FileFault, FileKind, Rejection};
 
-/// What the answer of a load of company prefix lengths is for a run.
+/// Turns the answer of a load of company prefix lengths into that of a run.
 fn list_of(answer: Result<PrefixList, PrefixFault>) -> Result<PrefixList, Unloaded>
     ensures { PrefixesUnloadedAs answer result }
 {
@@ -25,7 +25,7 @@ fn list_of(answer: Result<PrefixList, PrefixFault>) -> Result<PrefixList, Unload
     }
 }
 
-/// The company prefix lengths of the named file, or none where none is named.
+/// Loads the company prefix lengths of the named file, or none if none is named.
 pub fn load_prefixes<F: Files>(
     alloc: Global,
     name: Option<&str>,

@@ -12,7 +12,7 @@ use gs_tables::{LoadFault, TableSet, builtin};
 use std::alloc::Global;
 use tdl_messages::{FileFault, FileKind, Rejection};
 
-/// What the answer of a load of tables of a document is for a run.
+/// Turns the answer of a load of tables from a document into that of a run.
 fn tables_of(
     answer: Result<TableSet, LoadFault>,
     source: Text,
@@ -29,14 +29,14 @@ fn tables_of(
     }
 }
 
-/// The built-in tables, which are of no document.
+/// Loads the built-in tables, which are not from a document.
 fn load_builtin(alloc: Global) -> Result<TablesWithSource, Unloaded>
     ensures { IsOfBuiltIn result }
 {
     tables_of(builtin(alloc), Text::new(alloc))
 }
 
-/// The tables of the named file with its bytes, or the built-in ones where none is named.
+/// Loads the tables of the named file with its bytes, or the built-in ones if none is named.
 pub fn load_tables<F: Files>(
     alloc: Global,
     name: Option<&str>,

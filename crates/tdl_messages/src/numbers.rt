@@ -5,7 +5,7 @@ use gs_chars::Memory;
 use gs_translate::{append_number, append_numbered, append_word};
 use std::alloc::Global;
 
-/// Appends two words, one after the other.
+/// Appends two words in their order.
 pub(crate) fn append_words(out: &mut Vec<u8>, first: &[u8], second: &[u8]) -> Result<(), Memory>
     ensures { OnOk result (out.new.items ≡ out.old.items ++ (first.now ++ second.now)) }
 {

@@ -16,11 +16,11 @@ pub enum FileFault {
     Tables(LoadFault),
     /// The list of company prefix lengths breaks a rule, which is never out of memory.
     Prefixes(PrefixFault),
-    /// The links are not linkset, which is never out of memory.
+    /// The links are not a linkset; the error is never out of memory.
     Linkset(JsonFault),
     /// The linkset breaks a rule of links, which is never out of memory.
     Store(StoreFault),
-    /// The links are not linkset as text, which is never out of memory.
+    /// The links are not a linkset as text; the error is never out of memory.
     LinkText(LinkTextFault),
     /// The reference of the link with this number, from 0, is not a template of its anchor.
     Place(usize, PlaceFault),

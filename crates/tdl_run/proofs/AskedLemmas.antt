@@ -1,4 +1,4 @@
--- What was done of what is asked, by how its files were loaded and what its command did.
+-- The outcome of a request, by how its files were loaded and how its command ran.
 use Rattle.std.proofs.Common.{◌≡◌, ◌≢◌, ◌⊎◌, inl, inr, ℕ, ◌+◌, ◌≤◌, false, List, [], Option, refl, sym, ap, ◌∙◌}
 use Rattle.std.specs.Prelude.{Result, Ok, Err}
 use Rattle.std.specs.Bool.{OnTrue}
@@ -33,7 +33,7 @@ use Rattle.tdl_run.proofs.RanLemmas.{PrintedCase, error, no_memory, printed_case
 use Rattle.tdl_loads.proofs.ClassLoads.{classes_kept}
 use Rattle.tdl_loads.proofs.ReadLemmas.{loaded_of}
 
--- ---- what is asked has an outcome
+-- ---- a request has an outcome
 
 asked_from : (asked : Asked) (world : World) (answer : Result Loaded Stop) → FilesGive world.files asked answer → HasSome (AskedRun asked world)
 asked_from asked world (Ok loaded) gives =
@@ -84,12 +84,12 @@ asked_of_command asked world before now left loaded outcome gives counts r = rec
   no_usage = r.no_usage;
 }
 
--- what was written of what is asked after a read error
+-- the output of a request after a read error
 ended_asked : (Same A : Type 0) (asked : Asked) (files : Option (List (List ℕ × List ℕ))) (before now held holds : Option (List ℕ)) (loaded : Loaded) (output : List ℕ) → FilesGive files asked (Ok loaded) → holds ≡ append_known held output → (Same × (output ≡ [])) ⊎ (A × CommandEnded asked.command asked.values loaded before now output) → (Same × Appends held holds (λ out. out ≡ [])) ⊎ (A × Appends held holds (AskedEnded asked files before now))
 ended_asked Same A asked files before now held holds loaded output gives wrote (inl both) = inl (both.0, (output, wrote, both.1))
 ended_asked Same A asked files before now held holds loaded output gives wrote (inr both) = inr (both.0, (output, wrote, (loaded, gives, both.1)))
 
--- after a read error nothing was written and the input is as it was, or the input counted an error
+-- after a read error nothing was written and the input is unchanged, or the input counted an error
 pub ended_of_command : (Same : Type 0) (asked : Asked) (files : Option (List (List ℕ × List ℕ))) (door : Doorway) (errors errors' : ℕ) (before now : Moment) (held holds : Option (List ℕ)) (ended ended' : Option (List Finished)) (loaded : Loaded) (s : Status) → FilesGive files asked (Ok loaded) → (reads_input asked.command ≡ false → Same) → Leaves held holds ended ended' s (CommandRan asked.command asked.values loaded door errors errors' before now) → OnTrue (is_status s status.ReadFault) ((Same × Appends held holds (λ out. out ≡ [])) ⊎ (Rises before.input_errors now.input_errors × Appends held holds (AskedEnded asked files before.input now.input)))
 ended_of_command Same asked files door errors errors' before now held holds ended ended' loaded s gives same a =
     let w = a.2 in
@@ -125,7 +125,7 @@ asked_of_rejection asked world before now rejection output s gives printed write
     by (error e p) = let w : Rises before.output_errors now.output_errors = rw e at write in rw e (asked_by asked world before now output status.WriteFault tt (begins_rejection asked world rejection output gives p) (cut_rejection asked world rejection output gives p) tt w tt (λ e. cc) (λ e. cc) (λ e. cc) (λ e. cc) files inputs outputs)
     by (no_memory e p) = rw e (asked_by asked world before now output status.Memory tt (begins_rejection asked world rejection output gives p) tt tt tt tt (λ e. cc) (λ e. cc) (λ e. cc) (λ e. cc) files inputs outputs)
 
--- a rejection that is printed is no read error
+-- a rejection that is printed is not a read error
 no_read_error : (fact : Type 0) (line output : List ℕ) (s : Status) → PrintedAs status.Refused line output s → OnTrue (is_status s status.ReadFault) fact
 no_read_error fact line output s printed = by (printed_case status.Refused line output s printed)
   where
@@ -161,7 +161,7 @@ rejection_unanswered line output s p = by (printed_case status.Refused line outp
     by (error e p) = ap is_answered e
     by (no_memory e p) = ap is_answered e
 
--- ---- what is not loaded is reported
+-- ---- a failed load is reported
 
 pub reports_unanswered : (why : Unloaded) (s : Status) (held held' : Option (List ℕ)) → Reports why s held held' → is_answered s ≡ false
 reports_unanswered (unloaded.Refused rejection) s held held' r = rejection_unanswered (rejected_line rejection) r.0 s r.2

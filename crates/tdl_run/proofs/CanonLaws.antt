@@ -48,7 +48,7 @@ canon_same loaded form other text given link wanted keeps a b =
     (accepted_answer loaded.tables form text link ((canon_lines loaded form text (accepted link)).0 a))
     (accepted_answer loaded.tables other given wanted ((canon_lines loaded other given (accepted wanted)).0 b))
 
--- ---- what is kept
+-- ---- the kept elements
 
 -- the meaning of a line that is answered by a canonical link
 record Linked (set : TableRows) (keys_only : Bool) (form : Form) (text link : List ℕ) : Type 0 where

@@ -1,4 +1,4 @@
--- A run whose arguments and files are in order, whose input fits and whose counts stand still is done, or memory ran out.
+-- A run is done, or memory ran out, if its arguments and files are valid, its input fits and no count rises.
 use Rattle.std.proofs.Common.{◌≡◌, ◌⊎◌, inl, inr, ℕ, ◌≤◌, Bool, true, false, if◌then◌else◌, List, length, Option, Some, refl, ap}
 use Rattle.std.specs.Prelude.{Err}
 use Rattle.std.specs.Bool.{OnTrue}
@@ -21,7 +21,7 @@ use Rattle.tdl_run.specs.Runs.{Counts, DefinedRun, InputFits, IsDoneOrMemory, Is
 use Rattle.tdl_run.specs.Works.{Doing, DoingRun, Doorway, Leaves, Outcome, answers, doing_of, input_limit, prints, resolves, serves, site_of}
 use Rattle.tdl_run.proofs.RunLemmas.{defined_of, read_error_of}
 
--- ---- what is defined is answered
+-- ---- defined outcomes are answered
 
 done_or_rejected : (any_rejected : Bool) → is_answered (if any_rejected then status.SomeRefused else status.Done) ≡ true
 done_or_rejected true = refl
@@ -40,7 +40,7 @@ answered_lines Is input output s within a =
     let fits : length a.bytes ≤ input_limit = rw same within.fits in
     rw a.has_status (answered_within a.bytes a.any_rejected fits)
 
--- the outcomes of what is done, whose input fits where its lines are answered
+-- the outcomes of a work, whose input fits if its lines are answered
 answered_doing : {work : Work} (doing : Doing work) (site : SiteData) (input : Option (List ℕ)) (door : Doorway) (outcome : Outcome) → (is_on_lines work ≡ true → IsWithin input_limit input) → DoingRun doing site input door outcome → is_answered outcome.status ≡ true
 answered_doing (answers Is) site input door outcome fits r = answered_lines Is input outcome.output outcome.status (fits refl) r.0
 answered_doing resolves site input door outcome fits r = ap is_answered r.done
@@ -87,7 +87,7 @@ module _ (words : List (List ℕ)) (world : World) (before now : Counts) (held h
   complete_of status.WriteFault defined read write = absurd (none.output write)
   complete_of status.Memory defined read write = inr refl
 
--- what was done of what the arguments ask for
+-- the outcome of the request of the arguments
 pub complete_asked : (words : List (List ℕ)) (asked : Asked) (world : World) (before now : Counts) (left held holds : Option (List ℕ)) (ended ended' : Option (List Finished)) (s : Status) → WordsInOrder words asked → Leaves held holds ended ended' s (AskedRan asked world before now left) → LoadsAll words world.files → InputFits words world.input → NoneRises before now → IsDoneOrMemory s
 complete_asked words asked world before now left held holds ended ended' s order a loads fits none =
     let w = a.2 in

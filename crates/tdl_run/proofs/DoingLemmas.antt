@@ -1,4 +1,4 @@
--- What is done has an outcome, and no other but such as is alike.
+-- A work has an outcome, and all its outcomes are alike.
 use Rattle.std.proofs.Common.{◌≡◌, ◌⊎◌, inl, inr, ℕ, ◌||◌, false, List, [], Option, Some, refl, sym, ◌∙◌, ap}
 use Rattle.std.specs.Bool.{OnTrue}
 use Rattle.tdl_answers.proofs.ClassLineLemmas.{one_class_read, one_class_written, some_class_read, some_class_written}
@@ -29,7 +29,7 @@ use Rattle.tdl_run.proofs.RanLemmas.{lines_some}
 use Rattle.tdl_run.proofs.ServeLemmas.{serves_alike, serves_some}
 use Rattle.tdl_run.proofs.SiteLemmas.{one_resolved, some_resolved}
 
--- ---- what each command does
+-- ---- the work of each command
 
 -- each line has one answer, and one output is written
 abbrev pub IsDefined : {work : Work} → Doing work → Type 0
@@ -81,7 +81,7 @@ leaves_one : (IsOutput : List ℕ → Type 0) → HasOne IsOutput → HasOne (Le
 leaves_one IsOutput unique one other a b =
     same_outcome one other (unique one.output other.output a.is_output b.is_output) (a.none_finished ∙ sym b.none_finished) (a.done ∙ sym b.done)
 
--- the same outcome, or, of what serves connections, outcomes that differ in errors of these
+-- the same outcome, or, for serving connections, outcomes that differ in errors of these
 abbrev pub AlikeBy : {work : Work} → Doing work → SiteData → Doorway → Outcome → Outcome → Type 0
 AlikeBy (answers Is) site door one other = one ≡ other
 AlikeBy resolves site door one other = one ≡ other
@@ -127,7 +127,7 @@ when_both A B status.WriteFault a b = tt
 when_both A B status.InputLong a b = tt
 when_both A B status.Memory a b = tt
 
--- by whose read error the input is as it was and nothing was written, or the input counted an error
+-- after a read error of this work the input is unchanged and nothing was written, or the input counted an error
 pub ended_by : {work : Work} (Same A B : Type 0) (doing : Doing work) (site : SiteData) (before now : Option (List ℕ)) (output : List ℕ) (s : Status) → ((is_on_lines work || is_on_heads work) ≡ false → Same) → OnTrue (is_status s status.ReadFault) (WorkCause work A B) → OnTrue (is_status s status.ReadFault) (DoingEnded doing site before now output) → OnTrue (is_status s status.ReadFault) ((Same × (output ≡ [])) ⊎ (A × DoingEnded doing site before now output))
 ended_by Same A B (answers Is) site before now output s stays cause ended = when_map (is_status s status.ReadFault) (λ both. inr both) (when_both _ _ s cause ended)
 ended_by Same A B resolves site before now output s stays cause ended = when_map (is_status s status.ReadFault) (λ both. inr both) (when_both _ _ s cause ended)

@@ -1,4 +1,4 @@
--- What commands did, by the lines that they answered or the line that they printed.
+-- The effects of commands, by the lines that they answered or the line that they printed.
 use Rattle.std.proofs.Common.{◌≡◌, ◌≢◌, ℕ, ◌+◌, ◌++◌, ◌≤◌, Bool, true, false, List, [], Option, None, Some, append-nil, ap, refl, sym, ◌∙◌, arith}
 use Rattle.std.specs.Prelude.{option_map}
 use Rattle.std.specs.Bool.{OnTrue}
@@ -20,7 +20,7 @@ use Rattle.tdl_run.specs.Works.{Leaves, LinesAnswered, Outcome, input_limit, out
 
 -- ---- counts
 
--- a count that is as it was does not fall
+-- an unchanged count does not fall
 pub same_count : (before now : ℕ) → before ≡ now → before ≤ now
 same_count before now e = omega arith
 
@@ -30,7 +30,7 @@ same_count before now e = omega arith
 pub lines_some : (Is : List ℕ → LineAnswer → Type 0) (input : Option (List ℕ)) → HasAnswers Is → HasSome (LinesAnswered Is input)
 lines_some Is input some = let o = some_outcome Is input_limit input some in (outcome_of o.output o.status, (o.answers, refl))
 
--- of what may be cut short, what is cut short by an error of the output
+-- a fact for each early end, for an early end by an error of the output
 pub when_cut : {A B : Type 0} (s : Status) → (A → B) → OnTrue (is_cut_short s) A → OnTrue (is_status s status.WriteFault) B
 when_cut status.Done f a = tt
 when_cut status.SomeRefused f a = tt
@@ -51,7 +51,7 @@ cut_by Is input output s some b =
     let h = whole_of_part Is input_limit input output some b in
     record { outcome = outcome_of h.output h.status; is = (h.answers, refl); begins = h.begins; same_finished = refl }
 
--- A command that answers the lines of its input, by what is an answer to a text.
+-- A command on the lines of its input, by the relation of texts and their answers.
 pub ran_of_lines : (Is : List ℕ → LineAnswer → Type 0) (before now : Moment) (output : List ℕ) (s : Status) → HasAnswers Is → WritesAnswers Is input_limit before.input now.input output s → OnTrue (is_answered s) (IsAtEnd now.input) → OnTrue (is_status s status.InputLong) (TakesMoreThan input_limit before.input now.input) → TakesAtMost (input_limit + 1) before.input now.input → OnTrue (is_status s status.ReadFault) (Rises before.input_errors now.input_errors) → OnTrue (is_status s status.WriteFault) (Rises before.output_errors now.output_errors) → before.input_errors ≤ now.input_errors → before.output_errors ≤ now.output_errors → s ≢ status.Usage → s ≢ status.Refused → LinesRan Is before now (outcome_of output s)
 ran_of_lines Is before now output s some writes end long few read write inputs outputs usage rejection = record {
   written = when_map (is_written s) (λ a. (a, refl)) writes.all;
@@ -91,8 +91,7 @@ printed_case ending line output status.Memory p = no_memory refl p
 pub takes_nothing : (most : ℕ) (input : Option (List ℕ)) → TakesAtMost most input input
 takes_nothing most input = ([], omega arith, sym (prepend_nothing input))
 
--- the facts of a command that leaves the input, by its status, which is no read error
--- and that finished no connection
+-- the facts of a command that leaves the input unchanged and finished no connection, by its status, which is not a read error
 module _ (Is : Outcome → Type 0) (Ended : List ℕ → Type 0) (Cause : Type 0) (lines : Bool) where
   ran_by : (before now : Moment) (output : List ℕ) (s : Status) → OnTrue (is_written s) (Is (outcome_of output s)) → OnTrue (is_cut_short s) (BeginsOne Is output) → OnTrue (is_status s status.WriteFault) (CutShort Is (outcome_of output s)) → is_status s status.ReadFault ≡ false → OnTrue (is_status s status.WriteFault) (Rises before.output_errors now.output_errors) → OnTrue (is_answered s) (lines ≡ true → IsAtEnd now.input) → OnTrue (is_status s status.InputLong) (TakesMoreThan input_limit before.input now.input) → before.input ≡ now.input → before.input_errors ≡ now.input_errors → before.output_errors ≤ now.output_errors → s ≢ status.Usage → s ≢ status.Refused → Ran Is Ended (λ status finished. finished ≡ []) Cause lines before now (outcome_of output s)
   ran_by before now output s written begun cut errorless write end long same inputs outputs usage rejection = record {
@@ -137,12 +136,12 @@ module _ (Is : Outcome → Type 0) (Ended : List ℕ → Type 0) (Cause : Type 0
   pub ran_of_memory : (before : Moment) → HasSome Is → Ran Is Ended (λ status finished. finished ≡ []) Cause lines before before (outcome_of [] status.Memory)
   ran_of_memory before some = ran_by before before [] status.Memory tt (begins_any some) tt refl tt tt tt refl refl (omega arith) (λ e. cc) (λ e. cc)
 
--- ---- the door
+-- ---- the listener
 
 pub none_more : (ended : Option (List Finished)) → ended ≡ option_map (λ before. before ++ []) ended
 none_more None = refl
 none_more (Some before) = ap Some (sym (append-nil before))
 
--- what was written, where the door is as it was
+-- the output, if the listener is unchanged
 pub leaves_door : (held holds : Option (List ℕ)) (ended : Option (List Finished)) (s : Status) (fact : Outcome → Type 0) → Appends held holds (λ output. fact (outcome_of output s)) → Leaves held holds ended ended s fact
 leaves_door held holds ended s fact a = ([], none_more ended, a)

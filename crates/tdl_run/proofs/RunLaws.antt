@@ -1,4 +1,4 @@
--- A run has one outcome over files and an input that are known, and no other but for the text of an ambiguous level.
+-- A run has one outcome over known files and a known input, or outcomes that differ only in the text of an ambiguous level.
 use Rattle.std.proofs.Common.{◌≡◌, ◌⊎◌, inl, inr, ℕ, List, Some, refl, sym, ◌∙◌, ap}
 use Rattle.std.specs.Prelude.{Ok, Err}
 use Rattle.tdl_lines.specs.declared.status.Status.TheVariants as status
@@ -25,7 +25,7 @@ stops_alike words world stop stop' one other a b (two_texts place text text' e f
     let is' : stop' ≡ ambiguous place text' = cc in
     but_text place text text' (a ∙ ap stopped is) (b ∙ ap stopped is')
 
--- what is loaded and what stops are not alike
+-- a load and a stop are not alike
 not_alike : (loaded : Loaded) (stop : Stop) → AlikeStops (Ok loaded) (Err stop) → ⊥
 not_alike loaded stop (one_stop e) = let f : Ok loaded ≡ Err stop = e in cc
 not_alike loaded stop (two_texts place text text' e f) = let g : Ok loaded ≡ Err (ambiguous place text) = e in cc
@@ -34,7 +34,7 @@ same_loaded : (loaded loaded' : Loaded) → AlikeStops (Ok loaded) (Ok loaded') 
 same_loaded loaded loaded' (one_stop e) = let f : Ok loaded ≡ Ok loaded' = e in cc
 same_loaded loaded loaded' (two_texts place text text' e f) = absurd (let g : Ok loaded ≡ Err (ambiguous place text) = e in cc)
 
--- outcomes of a command over what is loaded
+-- outcomes of a command over the loaded contents
 loaded_alike : (words : List (List ℕ)) (asked : Asked) (world : World) (loaded : Loaded) (one other : Outcome) → WordsInOrder words asked → FilesGive world.files asked (Ok loaded) → (one ≡ other) ⊎ AlikeServed (site_of loaded) asked.values.count world.door one other → AreAlike words world one other
 loaded_alike words asked world loaded one other order gives (inl e) = same e
 loaded_alike words asked world loaded one other order gives (inr a) = but_errors (record { asked = asked; order = order; fact = (loaded, gives, a) })

@@ -1,4 +1,4 @@
--- Each clause of a run, by what was done of what the arguments ask for.
+-- Each clause of a run, by the outcome of the request of the arguments.
 use Rattle.std.proofs.Common.{◌≡◌, ◌⊎◌, inl, inr, ℕ, ◌+◌, Bool, true, false, List, [], ◌∷◌, Option, refl, ◌∙◌, ap, arith}
 use Rattle.std.specs.Bool.{OnTrue}
 use Rattle.std.specs.List.{Contains}
@@ -50,12 +50,12 @@ same_test test words asked order asks =
 pub few_of : (words : List (List ℕ)) (asked : Asked) (input left : Option (List ℕ)) → WordsInOrder words asked → (answers_lines asked.command ≡ true → TakesAtMost (input_limit + 1) input left) → AsksFor answers_lines words → TakesAtMost (input_limit + 1) input left
 few_of words asked input left order few lines = few (same_test answers_lines words asked order lines)
 
--- where not all files are loaded, nothing is touched
+-- if not all files are loaded, nothing is touched
 pub loads_of : (Untouched : Type 0) (words : List (List ℕ)) (asked : Asked) (files : Option (List (List ℕ × List ℕ))) → WordsInOrder words asked → Untouched ⊎ AskedLoads asked files → Untouched ⊎ LoadsSome words files
 loads_of Untouched words asked files order (inl same) = inl same
 loads_of Untouched words asked files order (inr loads) = inr (record { asked = asked; order = order; fact = loads })
 
--- a door is opened at the address that is asked for
+-- a listener is opened at the requested address
 pub listens_of : (words : List (List ℕ)) (asked : Asked) (s : Status) (before now : Option (List (List ℕ))) → WordsInOrder words asked → (uses_door asked.command ≡ true → AskedListens asked s before now) → AsksFor uses_door words → ListensAt words s before now
 listens_of words asked s before now order listens door =
     record { asked = asked; order = order; fact = listens (same_test uses_door words asked order door) }
@@ -76,7 +76,7 @@ cause_of words asked world before now order (inr (inr gives)) = inr (inr (record
 pub read_error_of : (words : List (List ℕ)) (asked : Asked) (world : World) (before now : Counts) (left : Option (List ℕ)) (outcome : Outcome) → WordsInOrder words asked → AskedRan asked world before now left outcome → OnTrue (is_status outcome.status status.ReadFault) ((Rises before.input_errors now.input_errors ⊎ Rises before.door_errors now.door_errors) ⊎ (Rises before.file_errors now.file_errors ⊎ IsMissing words world.files))
 read_error_of words asked world before now left outcome order r = when_map (is_status outcome.status status.ReadFault) (cause_of words asked world before now order) r.read_error
 
--- what was written after a read error
+-- the output after a read error
 ended_words : (Same Counted : Type 0) (words : List (List ℕ)) (asked : Asked) (files : Option (List (List ℕ × List ℕ))) (before now held holds : Option (List ℕ)) → WordsInOrder words asked → WritesAfterError Same Counted held holds (AskedEnded asked files before now) → WritesAfterError Same Counted held holds (EndedRun words files before now)
 ended_words Same Counted words asked files before now held holds order (inl same) = inl same
 ended_words Same Counted words asked files before now held holds order (inr (counted, a)) = inr (counted, (a.0, a.1, record { asked = asked; order = order; fact = a.2 }))

@@ -1,4 +1,4 @@
--- What serving connections did.
+-- The effect of serving connections.
 use Rattle.std.proofs.Common.{◌≡◌, ◌≢◌, ◌⊎◌, inl, inr, ℕ, ◌≤◌, zero, suc, Bool, true, false, List, [], ◌∷◌, ◌++◌, length, take, Option, None, Some, append-nil, refl, sym, ◌∙◌, ap, arith}
 use Rattle.std.specs.Prelude.{IfSome, option_map}
 use Rattle.std.specs.Bool.{OnTrue}
@@ -30,7 +30,7 @@ use Rattle.tdl_run.proofs.SiteLemmas.{no_lines, one_replies_of_site}
 
 -- ---- some connections are served
 
--- the first of the inputs, at most so many
+-- the first of the inputs, at most that many
 done_visits : SiteData → ℕ → List (List ℕ) → List Visit
 done_visits site zero inputs = []
 done_visits site (suc n) [] = []
@@ -94,7 +94,7 @@ serves_some site count door = by door.waiting refl
 
 -- ---- the connections that were served
 
--- the first of those that waited, up to the last or to so many
+-- the first of those that waited, up to the last or to that many
 first_of : (waiting waiting' : Option (List (List ℕ))) (inputs : List (List ℕ)) (count : ℕ) → waiting ≡ option_map (λ rest. inputs ++ rest) waiting' → length inputs ≤ count → (length inputs ≡ count) ⊎ IfSome waiting' (λ rest. rest ≡ []) → IfSome waiting (λ all. inputs ≡ take count all)
 first_of None waiting' inputs count e few over = tt
 first_of (Some all) None inputs count e few over = absurd (let f : Some all ≡ None = e in cc)
@@ -138,7 +138,7 @@ serves_of site count door door' visits visited few over =
     }
 
 module _ (loaded : Loaded) (values : Values) (errors errors' : ℕ) (before now : Moment) (door door' : DoorState) where
-  -- what is known of the door before
+  -- the known facts of the listener before
   abbrev Way : Doorway
   Way = doorway_of door.aside door.reads door.writes
 
@@ -201,11 +201,11 @@ still_wait : (waiting : Option (List (List ℕ))) → waiting ≡ option_map (λ
 still_wait None = refl
 still_wait (Some waiting) = refl
 
--- a door that is as it was
+-- an unchanged listener
 pub none_finish : (aside : Aside) → FinishesFirst aside aside
 none_finish aside = record { inputs = []; entries = []; waited = still_wait aside.waiting; finished = none_more aside.finished; as_many = refl }
 
--- a door behind a command, which is as it was where the command does not use it
+-- a listener after a command, which is unchanged if the command does not use it
 pub door_left : {Door : Type 0} (is_open : Door → Bool) (aside : Door → Aside) (before now : Door) (uses : Bool) (listen : List ℕ) → is_open before ≡ false → (uses ≡ false → now ≡ before) → (uses ≡ true → UsesDoor listen (is_open now) (aside before) (aside now)) → (is_open now ≡ false) × FinishesFirst (aside before) (aside now)
 door_left is_open aside before now true listen none same used = let u = used refl in (u.closed, u.waiting)
 door_left is_open aside before now false listen none same used = rw (same refl) (none, none_finish (aside before))

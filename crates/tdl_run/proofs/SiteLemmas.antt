@@ -1,4 +1,4 @@
--- The replies to a stream, and what resolving it did.
+-- The replies to a stream, and the effect of resolving it.
 use Rattle.std.proofs.Common.{◌≡◌, ℕ, ◌≤◌, true, false, List, [], Option, None, Some, refl, sym, ◌∙◌, ap}
 use Rattle.std.specs.Bool.{OnTrue}
 use Rattle.gs_http.specs.Streams.{heads_of, replies_of}
@@ -50,7 +50,7 @@ one_resolved site input one other a b =
 
 -- ---- the command
 
--- the whole replies, of which what was written is a prefix
+-- the whole replies; the output is a prefix of them
 replies_begin : (site : SiteData) (input : Option (List ℕ)) (output : List ℕ) (s : Status) → Resolved site input output s → BeginsOne (LeavesOutput (Resolves site input)) output
 replies_begin site input output s r =
     let replied = r.replied in

@@ -34,8 +34,8 @@ pub record CutShort (IsOutcome : Outcome → Type 0) (cut : Outcome) : Type 0 wh
   pub begins : IsInitialPart cut.output outcome.output
   pub same_finished : cut.finished ≡ outcome.finished
 
--- Holds if a command left this outcome between two moments, as each command ensures. `IsOutcome` says which outcomes
--- it has, `IsEnded` its output after a read error, `HasFinished` its connections if it may be cut short, `Cause` the cause of a
+-- Holds if a command left this outcome between two moments, as each command ensures. `IsOutcome` says which outcomes it has,
+-- `IsEnded` its output after a read error, and `HasFinished` its connections if it may be cut short. `Cause` is the cause of a
 -- read error, and `lines` whether it answers lines.
 pub record Ran (IsOutcome : Outcome → Type 0) (IsEnded : List ℕ → Type 0) (HasFinished : Status → List Finished → Type 0) (Cause : Type 0) (lines : Bool) (before now : Moment) (outcome : Outcome) : Type 0 where
   pub written : OnTrue (is_written outcome.status) (IsOutcome outcome)

@@ -23,7 +23,7 @@ use Rattle.tdl_run.specs.RanSupport.{AskedFinished, AskedRun}
 use Rattle.tdl_run.specs.Runs.{Counts, World}
 use Rattle.tdl_run.specs.Works.{Outcome, input_limit}
 
--- holds if a read error has a cause: the input, the door itself or the files counted an error, or a file is missing
+-- holds if a read error has a cause: the input, the listener itself or the files counted an error, or a file is missing
 abbrev pub ReadCause : Asked → World → Counts → Counts → Type 0
 ReadCause asked world before now = (Rises before.input_errors now.input_errors ⊎ Rises before.door_errors now.door_errors)
     ⊎ (Rises before.file_errors now.file_errors ⊎ ((kind : FileKind) × FilesGive world.files asked (Err (missing kind))))

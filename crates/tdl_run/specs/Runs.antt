@@ -22,13 +22,14 @@ use Rattle.tdl_loads.specs.Loads.{Ambiguity, FilesGive, FilesInMemory, Loading, 
 use Rattle.tdl_run.specs.CommandRuns.{BeginsOne, CutShort}
 use Rattle.tdl_run.specs.Works.{DoingEnded, DoingFinished, DoingRun, Doorway, Outcome, Serves, doing_of, doorway_of, input_limit, outcome_of, site_of}
 
--- trusted, own: the world of a run, as far as it is known: its files, its input and its door
+-- trusted, own: the known world of a run: its files, its input and its listener, each if it is known
 pub record World : Type 0 where
   pub files : Option FilesInMemory
   pub input : Option (List ℕ)
   pub door : Doorway
 
--- trusted, own: the world with these files, this input, and a door that sets this aside, at these counts of its reads and writes
+-- trusted, own: the world with these files, this input, and a listener that sets this aside, at these counts of its reads and
+-- writes
 abbrev pub world_of : Option FilesInMemory → Option (List ℕ) → Aside → ℕ → ℕ → World
 world_of files input aside reads writes = record { files = files; input = input; door = doorway_of aside reads writes }
 
@@ -37,14 +38,14 @@ abbrev pub known_world : FilesInMemory → List ℕ → List (List ℕ) → ℕ 
 known_world files input waiting reads writes =
     record { files = Some files; input = Some input; door = record { waiting = Some waiting; reads = reads; writes = writes } }
 
--- trusted, own: the counts of errors at a moment: of the files, the input, the output and the door itself
+-- trusted, own: the counts of errors at a moment: of the files, the input, the output and the listener itself
 pub record Counts : Type 0 where
   pub file_errors : ℕ
   pub input_errors : ℕ
   pub output_errors : ℕ
   pub door_errors : ℕ
 
--- trusted, own: the counts of the files, the input, the output, and a door that sets this aside
+-- trusted, own: the counts of the files, the input, the output, and a listener that sets this aside
 abbrev pub counts_of : ℕ → ℕ → ℕ → Aside → Counts
 counts_of files input output aside = record { file_errors = files; input_errors = input; output_errors = output; door_errors = aside.errors }
 
@@ -53,8 +54,8 @@ abbrev pub stopped : Stop → Outcome
 stopped (missing kind) = outcome_of [] status.ReadFault
 stopped (rejected rejection) = outcome_of (rejected_line rejection) status.Refused
 
--- trusted, own: Holds if a run with these words may leave this outcome in this world. It is that of the command over what loads,
--- that of a run that stops at its files, or the usage line if the words are invalid.
+-- trusted, own: Holds if a run with these words may leave this outcome in this world. It is that of the command over the loaded
+-- files, or that of a run that stops at its files. If the words are invalid, it is the usage line.
 abbrev pub DefinedRun : List (List ℕ) → World → Outcome → Type 0
 DefinedRun words world outcome = AskingOr words (λ asked.
     Loading world.files asked (λ loaded. DoingRun (doing_of asked.command asked.values loaded) (site_of loaded) world.input world.door outcome)
@@ -66,15 +67,15 @@ pub data AlikeVisits : List Visit → List Visit → Type 0 where
   no_visits : AlikeVisits [] []
   more_visits : (one other : Visit) (ones others : List Visit) → one.input ≡ other.input → (is_done one.served ≡ true → is_done other.served ≡ true → one.entry.written ≡ other.entry.written) → AlikeVisits ones others → AlikeVisits (one ∷ ones) (other ∷ others)
 
--- trusted, own: Holds if both outcomes are of the same connections, served by this site at this door. The bytes read, the
+-- trusted, own: Holds if both outcomes are of the same connections, served by this site at this listener. The bytes read, the
 -- errors, and the bytes written to a connection with an error may differ.
 pub record AlikeServed (site : SiteData) (count : ℕ) (door : Doorway) (one other : Outcome) : Type 0 where
   pub served : Serves site count door one
   pub served_too : Serves site count door other
   pub alike : AlikeVisits served.visits served_too.visits
 
--- trusted, own: Holds if two outcomes of these words in this world are the same, or differ only in errors of connections and
--- what follows from them, or in the text that shows that one place is ambiguous.
+-- trusted, own: Holds if two outcomes of these words in this world are the same, or differ only in one of two ways. They differ
+-- in errors of connections and their consequences, or in the text that shows that one place is ambiguous.
 pub data AreAlike (words : List (List ℕ)) (world : World) (one other : Outcome) : Type 0 where
   same : one ≡ other → AreAlike words world one other
   but_errors : Asking words (λ asked. Loading world.files asked (λ loaded. AlikeServed (site_of loaded) asked.values.count world.door one other)) → AreAlike words world one other
@@ -87,8 +88,8 @@ HasOneOutcome words =
     → DefinedRun words (known_world files input waiting reads writes) one → DefinedRun words (known_world files input waiting reads writes) other
     → AreAlike words (known_world files input waiting reads writes) one other
 
--- trusted, own: holds if a run that may be cut short has finished these connections: none, or those that the command finished over
--- what loads
+-- trusted, own: holds if a run that may be cut short has finished these connections: none, or those that the command finished
+-- over the loaded files
 abbrev pub FinishedRun : List (List ℕ) → World → Outcome → Type 0
 FinishedRun words world outcome = AskingOr words (λ asked.
     (outcome.finished ≡ [])
@@ -111,12 +112,12 @@ EndedRun words files before now output = Asking words (λ asked. Loading files a
 abbrev pub IsMissing : List (List ℕ) → Option FilesInMemory → Type 0
 IsMissing words files = Asking words (λ asked. (kind : FileKind) × FilesGive files asked (Err (missing kind)))
 
--- trusted, own: holds if a file is rejected that the words name, or a row in its place, and no earlier file stops the run
+-- trusted, own: holds if a file that the words name, or its default row, is rejected, and no earlier file stops the run
 abbrev pub IsRejected : List (List ℕ) → Option FilesInMemory → Type 0
 IsRejected words files = Asking words (λ asked. (rejection : Rejection) × FilesGive files asked (Err (rejected rejection)))
 
--- trusted, own: holds if a read error has a cause between two moments: the input, the door itself or the files counted an error, or
--- a file is missing
+-- trusted, own: holds if a read error has a cause between two moments: the input, the listener itself or the files counted an
+-- error, or a file is missing
 abbrev pub RunCause : List (List ℕ) → Option FilesInMemory → Counts → Counts → Type 0
 RunCause words files before now =
     (Rises before.input_errors now.input_errors ⊎ Rises before.door_errors now.door_errors)
@@ -130,8 +131,8 @@ ReadsToEnd words ending left = AsksFor answers_lines words → OnTrue (is_answer
 abbrev pub TakesFew : List (List ℕ) → Option (List ℕ) → Option (List ℕ) → Type 0
 TakesFew words before now = AsksFor answers_lines words → TakesAtMost (input_limit + 1) before now
 
--- trusted, own: holds if nothing was written after a read error and the input is as it was; or if the input counted an error, and
--- the sink gained an output of which the fact holds
+-- trusted, own: holds if nothing was written after a read error and the input is unchanged; or if the input counted an error,
+-- and the sink gained an output with this property
 abbrev pub WritesAfterError : Type 0 → Type 0 → Option (List ℕ) → Option (List ℕ) → (List ℕ → Type 0) → Type 0
 WritesAfterError AsItWas Counted held held' Ended =
     (AsItWas × Appends held held' (λ output. output ≡ [])) ⊎ (Counted × Appends held held' Ended)
@@ -145,8 +146,8 @@ OpensAll ending words before now = OnTrue (is_answered ending) (Asking words (λ
 abbrev pub OpensNamed : List (List ℕ) → Option FilesInMemory → Option (List (List ℕ)) → Option (List (List ℕ)) → Type 0
 OpensNamed words files before now = AskingOr words (λ asked. OpensUpTo files asked before now) (now ≡ before)
 
--- trusted, own: holds if the door was to be opened once, at the address that the words ask for; or not at all, if the run stops at
--- its files
+-- trusted, own: holds if the listener was to be opened once, at the address that the words ask for; or not at all, if the run
+-- stops at its files
 abbrev pub ListensAt : List (List ℕ) → Status → Option (List (List ℕ)) → Option (List (List ℕ)) → Type 0
 ListensAt words ending before now = Asking words (λ asked. AddsNames before (asked.values.listen ∷ []) now ⊎ ((now ≡ before) × (is_answered ending ≡ false)))
 
@@ -154,15 +155,15 @@ ListensAt words ending before now = Asking words (λ asked. AddsNames before (as
 abbrev pub LoadsSome : List (List ℕ) → Option FilesInMemory → Type 0
 LoadsSome words files = Asking words (λ asked. (loaded : Loaded) × FilesGive files asked (Ok loaded))
 
--- trusted, own: Holds if the input was served as one connection, over what loads. At most 1,000 replies were written, at most
--- 12,288 bytes were taken beyond the answered heads, and with `Done` nothing is left but after a reply that ends the connection.
--- Or the run stops at its files, and the input is as it was.
+-- trusted, own: Holds if the input was served as one connection, over the loaded files. At most 1,000 replies were written, and
+-- at most 12,288 bytes were taken beyond the answered heads. With `Done` nothing is left except after a reply that ends the
+-- connection. Or the run stops at its files, and the input is unchanged.
 abbrev pub ServesInput : Type 0 → List (List ℕ) → Option FilesInMemory → Status → Option (List ℕ) → Option (List ℕ) → Option (List ℕ) → Option (List ℕ) → Type 0
 ServesInput AsItWas words files ending left left' held held' = Asking words (λ asked.
     Loading files asked (λ loaded. StreamServed (site_of loaded) ending left left' None None held held')
     ⊎ (AsItWas × (is_answered ending ≡ false)))
 
--- trusted, own: holds if the words are valid, and the run does not stop at a file, or at a row in the place of one
+-- trusted, own: holds if the words are valid, and the run does not stop at a file or at a default row
 abbrev pub LoadsAll : List (List ℕ) → Option FilesInMemory → Type 0
 LoadsAll words files = Asking words (λ asked. (stop : Stop) → FilesGive files asked (Err stop) → ⊥)
 
@@ -176,7 +177,7 @@ pub record IsWithin (limit : ℕ) (input : Option (List ℕ)) : Type 0 where
 abbrev pub InputFits : List (List ℕ) → Option (List ℕ) → Type 0
 InputFits words input = AsksFor answers_lines words → IsWithin input_limit input
 
--- trusted, own: holds if no count rose between two moments: of the files, the input, the output and the door itself
+-- trusted, own: holds if no count rose between two moments: of the files, the input, the output and the listener itself
 pub record NoneRises (before now : Counts) : Type 0 where
   pub files : Rises before.file_errors now.file_errors → ⊥
   pub input : Rises before.input_errors now.input_errors → ⊥

@@ -1,4 +1,4 @@
--- Each command, over what was loaded.
+-- Each command, over the loaded contents.
 use Rattle.std.specs.Prelude.{◌≡◌, ◌≢◌, ℕ, ◌≤◌, ◌-◌, Bool, false, List, [], ◌∷◌, ◌++◌, length, take, codes, decimal, IfSome, Option, Ok, is_some, option_map}
 use Rattle.tdl_lines.specs.declared.status.Status.{Status}
 use Rattle.tdl_gen.specs.Counts.{Generated}
@@ -40,8 +40,8 @@ pub record Outcome : Type 0 where
 abbrev pub outcome_of : List ℕ → Status → Outcome
 outcome_of output status = record { output = output; finished = []; status = status }
 
--- trusted, own: holds if the sink gained the output of an outcome of which the fact holds, and the door its finished connections;
--- contents that were unknown stay unknown
+-- trusted, own: holds if the sink gained the output of an outcome with this property, and the listener its finished
+-- connections; contents that were unknown stay unknown
 abbrev pub Leaves : Option (List ℕ) → Option (List ℕ) → Option (List Finished) → Option (List Finished) → Status → (Outcome → Type 0) → Type 0
 Leaves held held' ended ended' status fact =
     (finished : List Finished) × (ended' ≡ option_map (λ before. before ++ finished) ended)
@@ -116,17 +116,17 @@ pub record LeavesOutput (IsOutput : List ℕ → Type 0) (outcome : Outcome) : T
   pub none_finished : outcome.finished ≡ []
   pub done : outcome.status ≡ Done
 
--- trusted, own: the site that requests are answered from: the AIs, the links and the settings of what is loaded
+-- trusted, own: the site that requests are answered from: the loaded AIs, links and settings
 abbrev pub site_of : Loaded → SiteData
 site_of loaded = record { table = loaded.tables.ais; links = loaded.links; settings = loaded.settings }
 
--- trusted, own: a door as far as it is known: the inputs of the waiting connections, and its counts of failed reads and writes
+-- trusted, own: the known facts of a listener: the inputs of the waiting connections, and its counts of failed reads and writes
 pub record Doorway : Type 0 where
   pub waiting : Option (List (List ℕ))
   pub reads : ℕ
   pub writes : ℕ
 
--- trusted, own: the door that sets this aside, at these counts
+-- trusted, own: the listener that sets this aside, at these counts
 abbrev pub doorway_of : Aside → ℕ → ℕ → Doorway
 doorway_of aside reads writes = record { waiting = aside.waiting; reads = reads; writes = writes }
 
@@ -134,8 +134,8 @@ doorway_of aside reads writes = record { waiting = aside.waiting; reads = reads;
 abbrev pub served_outcome : List Visit → Outcome
 served_outcome visits = record { output = line_of visits; finished = entries_of visits; status = Done }
 
--- trusted, own: holds if the outcome is that of the first `count` waiting connections, or of all if fewer wait, each served to its
--- end or to an error
+-- trusted, own: holds if the outcome is that of the first `count` waiting connections, or of all if fewer wait; each is served
+-- to its end or to an error
 pub record Serves (site : SiteData) (count : ℕ) (door : Doorway) (outcome : Outcome) : Type 0 where
   pub visits : List Visit
   pub reads : ℕ
@@ -159,15 +159,15 @@ pub record ServesFirst (site : SiteData) (count : ℕ) (door : Doorway) (status 
   pub last : wants_memory (take (length visits - 1) visits) ≡ false
   pub entries : finished ≡ entries_of visits
 
--- trusted, own: the work of a command: to answer each line of the input, the heads of the input, or a number of connections; or to
--- write an output of which the fact holds
+-- trusted, own: the work of a command: to answer each line of the input, the heads of the input, or a number of connections; or
+-- to write an output with this property
 pub data Doing : Work → Type 1 where
   answers : (List ℕ → LineAnswer → Type 0) → Doing on_lines
   resolves : Doing on_heads
   serves : ℕ → Doing on_door
   prints : (List ℕ → Type 0) → Doing on_none
 
--- trusted, own: the work of a command, by its values, over what is loaded
+-- trusted, own: the work of a command, by its values, over the loaded contents
 abbrev pub doing_of : (command : Command) → Values → Loaded → Doing (work_of command)
 doing_of (Canon form) values loaded = answers (IsTranslatedLine (canonizing loaded form))
 doing_of (Translate from to) values loaded = answers (IsTranslatedLine (translating loaded values from to))
@@ -182,7 +182,7 @@ doing_of DumpRead values loaded = answers (IsDumpReadLine loaded.tables)
 doing_of DumpWrite values loaded = answers (IsDumpWriteLine loaded.tables)
 doing_of Merge values loaded = prints (λ output. output ≡ merged_line loaded)
 
--- trusted, own: holds if the work may leave this outcome, with this site, input and door
+-- trusted, own: holds if the work may leave this outcome, with this site, input and listener
 abbrev pub DoingRun : {work : Work} → Doing work → SiteData → Option (List ℕ) → Doorway → Outcome → Type 0
 DoingRun (answers Is) site input door outcome = LinesAnswered Is input outcome
 DoingRun resolves site input door outcome = LeavesOutput (Resolves site input) outcome

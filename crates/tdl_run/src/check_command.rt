@@ -42,7 +42,7 @@ fn counts_line(alloc: Global, loaded: &Loaded) -> Result<Vec<u8>, Memory>
     Ok(line)
 }
 
-/// Writes the line of counts of what is loaded.
+/// Writes the line of counts of the loaded contents.
 pub fn check<K: Sink>(alloc: Global, loaded: &Loaded, output: &mut K) -> Status
     ensures written { PrintsCounts loaded.now result (K.held output.old) (K.held output.new) }
     ensures error { OnTrue (is_status result Status.WriteFault)

@@ -28,8 +28,8 @@ pub fn link_classes<S: Source, K: Sink>(
     answer_input(alloc, &answerer, input, output)
 }
 
-/// Answers each line of the input, a link, with the class URI of the elements that it names, by the loaded prefixes and the company
-/// prefix length of the values.
+/// Answers each line of the input, a link, with the class URI of the elements that it names. It uses the loaded prefixes and
+/// the company prefix length of the values.
 pub fn write_classes<S: Source, K: Sink>(
     alloc: Global,
     values: NamedValues<'_>,

@@ -35,7 +35,7 @@ fn site_of(loaded: &Loaded) -> Site<'_>
     }
 }
 
-/// Runs a command over what was loaded. An input or a door that the command does not use stays as it was.
+/// Runs a command over the loaded contents. An input or a listener that the command does not use is unchanged.
 pub fn run_command<S: Source, K: Sink, D: Door>(
     alloc: Global,
     command: Command,

@@ -18,8 +18,8 @@ pub fn words_ask_for_one_thing()
 {}
 
 /// States that arguments have one outcome (output, finished connections and status) if the files, the input and the waiting
-/// connections are known. Two outcomes may differ in the text that shows ambiguous tables or classes. Those of `serve` may differ in
-/// the errors of connections, and what follows from them.
+/// connections are known. Two outcomes may differ in the text that shows ambiguous tables or classes. Those of `serve` may
+/// differ in the errors of connections and their consequences.
 pub fn words_have_one_outcome()
     ensures at_most_one { (words : List (List ℕ)) → HasOneOutcome words }
     ensures some { (words : List (List ℕ)) (world : World) → HasSome (DefinedRun words world) }
@@ -33,9 +33,9 @@ pub fn words_in_order_are_answered()
         → is_answered outcome.status ≡ true }
 {}
 
-/// States that `canon` answers a line with the canonical link of the elements that it names, or with the first reason why it names
-/// none. By tables that files give, two lines of any forms that are answered with links have equal answers if and only if they
-/// name the same elements.
+/// States that `canon` answers a line with the canonical link of the elements that it names. Otherwise the answer is the first
+/// reason why it names none. By tables that files give, take two lines of any forms that are answered with links. Their answers
+/// are equal if and only if they name the same elements.
 pub fn canon_answers_by_canonical_links()
     ensures canonical { (loaded : Loaded) (form : Form) (text : List ℕ) (line : LineAnswer)
         → IsTranslatedLine (canonizing loaded form) text line ↔ IsCanonLine loaded.tables form text line }
@@ -47,9 +47,9 @@ pub fn canon_answers_by_canonical_links()
         → (link ≡ wanted) ↔ NameOne loaded.tables form text other given }
 {}
 
-/// States that, by tables that files give, two lines of any forms that `translate` answers with canonical links have equal answers
-/// if and only if the elements that it keeps of them are equal. With `--keys-only yes` these are the key, and its serial if that is
-/// a separate element; otherwise all.
+/// States when two lines of any forms that `translate` answers with canonical links have equal answers, by tables that files
+/// give. They do if and only if the elements that it keeps of them are equal. With `--keys-only yes` these are the key, and its
+/// serial if that is a separate element; otherwise all.
 pub fn canonical_answers_by_kept_elements()
     ensures { (files : Option FilesInMemory) (asked : Asked) (loaded : Loaded) (values : Values)
         (form other : Form) (text given link wanted : List ℕ)

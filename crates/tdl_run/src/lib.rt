@@ -1,7 +1,8 @@
-//! The program: whole runs, by their arguments, files, input, output and door.
+//! The program: whole runs, by their arguments, files, input, output and listener.
 //!
-//! - `run` is the call that `main` of tdl makes. It takes arguments, files, an input, an output and a door, and returns a status. Its
-//!   clauses are the README's guarantee. `without_program_name` returns the arguments of a process without the program's name.
+//! - `run` is the call that `main` of tdl makes. It takes arguments, files, an input, an output and a listener, and returns a
+//!   status. Its clauses are the README's guarantee. `without_program_name` returns the arguments of a process without the
+//!   program's name.
 //!
 //! # Example
 //!

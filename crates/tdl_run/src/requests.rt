@@ -51,7 +51,7 @@ fn report<K: Sink>(alloc: Global, unloaded: &Unloaded, output: &mut K) -> Status
 }
 
 /// Loads the files of a request, and runs its command. If a file is rejected, one line says why; if one is missing or cannot be
-/// read, nothing is written. In both cases the input and the door stay as they were.
+/// read, nothing is written. In both cases the input and the listener are unchanged.
 pub fn run_request<F: Files, S: Source, K: Sink, D: Door>(
     alloc: Global,
     request: Request<'_>,

@@ -18,25 +18,26 @@ use tdl_lines::{Status, print_line};
 const USAGE: &[u8] =
     b"usage: tdl canon FORM | translate FROM TO | check | resolve | serve | gen N | migrate | class canon | class uri | dump read | dump write | merge, then --name value pairs\n";
 
-/// Runs the program as the arguments ask, over these files, this input, this output and this door, and returns the status. No
-/// connection of the door is open before.
+/// Runs the program as the arguments ask, over these files, this input, this output and this listener, and returns the status.
+/// No connection of the listener is open before.
 ///
 /// An input whose heads are answered is served as one connection. At most 12,288 bytes are taken beyond the answered heads, and at
 /// most 1,000 replies are written. `Done` leaves nothing unread, except after a reply that ends the connection.
 ///
-/// The files are opened in their order, and none after a missing or rejected one. The door is opened once, at the address that the
-/// arguments name, if its command runs. After the run no connection is open, and the finished ones no longer wait. If a file does not
-/// load, the input and the door stay as they were, even if the line that says so could not be written.
+/// The files are opened in their order, and none after a missing or rejected one. The listener is opened once, at the address
+/// that the arguments name, if its command runs. After the run no connection is open, and the finished ones no longer wait. If
+/// a file does not load, the input and the listener are unchanged, even if the line that says so could not be written.
 ///
 /// - `Usage` is returned only if the arguments are invalid. The usage line was written, and nothing was read or opened.
 /// - `Refused` is returned only if a file, or a built-in row, is rejected. One line says why, and the input was not read.
-/// - `ReadFault` is returned only if the input, the files or the door itself counted an error, or a file is missing.
+/// - `ReadFault` is returned only if the input, the files or the listener itself counted an error, or a file is missing.
 /// - `InputLong` is returned only if more than 4,294,967,296 bytes of lines were taken from the input.
 /// - `WriteFault` is returned only if the output counted an error.
 ///
 /// After `ReadFault`, `WriteFault` and `Memory` the output gained a prefix of the defined output, and the first of the waiting
-/// connections are finished. After `WriteFault` both are those of one defined outcome. If the arguments are valid, all files load, the
-/// lines of the input have at most 4,294,967,296 bytes, and no count rose, then the status is `Done`, `SomeRefused` or `Memory`.
+/// connections are finished. After `WriteFault` both are those of one defined outcome. Suppose that the arguments are valid,
+/// all files load, the lines of the input have at most 4,294,967,296 bytes, and no count rose. Then the status is `Done`,
+/// `SomeRefused` or `Memory`.
 pub fn run<F: Files, S: Source, K: Sink, D: Door>(
     alloc: Global,
     words: &[String],
@@ -67,7 +68,7 @@ pub fn run<F: Files, S: Source, K: Sink, D: Door>(
         → ServesInput (input.new ≡ input.old) (known_words words.now) (F.files files.old) result
         (S.left input.old) (S.left input.new) (K.held output.old) (K.held output.new) }
 
-    // An input or a door that a command does not use stays as it was, and both do if a file does not load.
+    // A command leaves an input or a listener that it does not use unchanged, and both are unchanged if a file does not load.
     ensures unread { (AsksFor reads_input (known_words words.now) → ⊥) → input.new ≡ input.old }
     ensures unread_rejected { OnTrue (is_status result Status.Refused) (input.new ≡ input.old) }
     ensures few { TakesFew (known_words words.now) (S.left input.old) (S.left input.new) }
@@ -81,7 +82,7 @@ pub fn run<F: Files, S: Source, K: Sink, D: Door>(
     ensures all_opened { OpensAll result (known_words words.now) (F.opened files.old) (F.opened files.new) }
     ensures known { F.files files.new ≡ F.files files.old }
 
-    // The door is opened at the address of the arguments, finished connections no longer wait, and none is left open.
+    // The listener is opened at the address of the arguments, finished connections no longer wait, and none is left open.
     ensures listens { AsksFor uses_door (known_words words.now) → ListensAt (known_words words.now) result
         (D.aside door.old).addresses (D.aside door.new).addresses }
     ensures waiting { FinishesFirst (D.aside door.old) (D.aside door.new) }

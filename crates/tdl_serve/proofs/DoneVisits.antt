@@ -1,4 +1,4 @@
--- Each connection can be served: as one of which all replies are written.
+-- Each connection can be served so that all its replies are written.
 use Rattle.std.proofs.Common.{◌≡◌, ◌<◌, ℕ, zero, suc, ◌+◌, ◌-◌, ◌==◌, Bool, true, false, List, [], ◌∷◌, ◌++◌, length, take, Some, refl, sym, ap, ◌∙◌, subst, inl, inr, arith, append-nil, take-append-drop}
 use Rattle.std.specs.Prelude.{Option, None, ⊤}
 use Rattle.std.proofs.lemmas.Bool.{false≢true}
@@ -16,7 +16,7 @@ use Rattle.gs_http.proofs.StreamLaws.{replies_append, some_replies}
 use Rattle.gs_http.specs.Sites.{SiteData}
 use Rattle.tdl_serve.specs.Visits.{IsVisit, ReadsAsAnswered, Visit}
 
--- ---- a stream of which no reply ends the connection
+-- ---- a stream without a reply that ends the connection
 
 abbrev IsFrontOf : List ℕ → Front → Type 0
 IsFrontOf stream ended = stream ≡ []
@@ -58,7 +58,7 @@ module _ (table : List AiRow) (links : List Link) (settings : Settings) where
 
 -- ---- the visit
 
--- all of the input, but where a reply ends the connection
+-- all of the input, unless a reply ends the connection
 pub done_read : Bool → List ℕ → List ℕ
 done_read true input = take 12288 input
 done_read false input = input

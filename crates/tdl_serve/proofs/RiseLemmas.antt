@@ -61,7 +61,7 @@ rise_known : (served : Served) (reads writes : ℕ) → reads ≡ read_errors se
 rise_known served reads writes r w =
     ap (λ n. not (n + writes == 0)) r ∙ ap (λ n. not (read_errors served + n == 0)) w ∙ error_known served
 
--- counts that are below their last value at the end did not stand still
+-- counts that are below their last value at the end did not saturate
 pub rises : (site : SiteData) (known : Bool) (reads writes reads' writes' : ℕ) (visits : List Visit) → AreVisits site known reads writes visits reads' writes' → reads' < last_count → writes' < last_count
     → (reads ≤ reads') × (writes ≤ writes') × RisesTellErrors visits
 rises site known reads writes reads' writes' visits (no_visit _ _) low low' = (omega arith, omega arith, refl)

@@ -1,4 +1,4 @@
--- A whole run at a door.
+-- A whole run at a listener.
 use Rattle.std.proofs.Common.{◌≡◌, ℕ, ◌-◌, false, List, [], length, take, drop, refl, sym, ap, ◌∙◌, inl, inr, arith, take-append-drop}
 use Rattle.std.proofs.lemmas.List.Folds.{list_any-append}
 use Rattle.gs_chars.proofs.TruthsAndLists.{or_first}
@@ -68,7 +68,7 @@ run_over site count a m b tally output status first s printed =
       prints = prints_line status count b s.visits output s.are.0 same;
     }
 
--- a line that is printed with `Done` is no error of a read
+-- a line that is printed with `Done` is not an error of a read
 pub printed_errorless : (line output : List ℕ) (status : Status) → PrintedAs Done line output status → is_status status ReadFault ≡ false
 printed_errorless line output Done p = refl
 printed_errorless line output SomeRefused p = refl

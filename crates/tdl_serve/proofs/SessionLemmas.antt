@@ -1,4 +1,4 @@
--- The turns at a door.
+-- The turns at a listener.
 use Rattle.std.proofs.Common.{append-nil, ◌≡◌, ◌<◌, ℕ, ◌+◌, ◌≤◌, Bool, true, false, List, [], ◌∷◌, ◌++◌, length, refl, sym, ap, ◌∙◌, inr, arith}
 use Rattle.tdl_serve.specs.declared.sessions.Session.TheVariants as session
 use Rattle.tdl_serve.specs.Doors.{NoneWaits}
@@ -7,7 +7,7 @@ use Rattle.tdl_serve.specs.Turns.{OneVisit, SessionDid, error_number}
 use Rattle.tdl_serve.specs.Visits.{DoorState, Visit, Visited, errors_of, wants_memory}
 use Rattle.tdl_serve.proofs.VisitLemmas.{but_last, one_more, one_more_error, one_more_served, visited_none, visited_twice}
 
--- so many connections were served, of which so many ended by an error, and memory ran out at none
+-- the numbers of connections that were served and that ended by an error, and that memory ran out at none
 pub record SoFar (site : SiteData) (before now : DoorState) (finished errors : ℕ) : Type 0 where
   pub visits : List Visit
   pub visited : Visited site before now visits
@@ -34,7 +34,7 @@ goes_on site a b c finished errors errored x y = record {
   within = let few = at_most_one errored in let less = x.within in omega arith;
 }
 
--- no connection came any more
+-- no more connections arrived
 pub none_came : (site : SiteData) (a b c : DoorState) (finished errors count : ℕ) → SoFar site a b finished errors → Visited site b c [] × NoneWaits c → finished ≤ count → c.aside.opened ≡ true
     → SessionDid (session.Over (record { finished = finished; errors = errors })) site count a c
 none_came site a b c finished errors count x y low opened = record {

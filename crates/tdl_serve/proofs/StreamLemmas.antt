@@ -1,4 +1,4 @@
--- What is written for a stream.
+-- The output for a stream.
 use Rattle.std.proofs.Common.{◌≡◌, ℕ, List, [], ◌++◌, append-nil, inl, inr, Option, Some, None, take, length, refl, sym, ap, ◌∙◌, subst}
 use Rattle.std.specs.Prelude.{◌⊎◌, IfSome}
 use Rattle.std.specs.Bool.{OnTrue}
@@ -23,7 +23,7 @@ use Rattle.tdl_serve.specs.Visits.{ReadsAsAnswered, is_done}
 pub front_is_part : (front rest : List ℕ) → IsInitialPart front (front ++ rest)
 front_is_part front rest = (length front, sym (take-append_seam front rest))
 
--- what was read and what is left are what was left before
+-- the read bytes and the rest are the rest before
 pub known_whole : (left left' : Option (List ℕ)) (read rest : List ℕ) → left ≡ prepend_known read left' → IfSome left' (λ bytes. bytes ≡ rest) → IsKnown left (read ++ rest)
 known_whole left None read rest moved is = subst (λ known. IsKnown known (read ++ rest)) (sym moved) tt
 known_whole left (Some bytes) read rest moved is = subst (λ known. IsKnown known (read ++ rest)) (sym moved) (ap (λ more. read ++ more) (sym is))
@@ -34,7 +34,7 @@ when_done served.ReadFault A B both = tt
 when_done served.WriteFault A B both = tt
 when_done served.Memory A B both = tt
 
--- a prefix of the replies to the whole stream was written, and all of these where serving was done
+-- a prefix of the replies to the whole stream was written, and all of these if serving was done
 pub replied : (site : SiteData) (served : Served) (left left' taken taken' held held' : Option (List ℕ))
     → (is : IsServed 1000 site.table site.links site.settings served left left' taken taken' held held')
     → Replied site (is.read ++ is.rest) (is_done served) is.written
@@ -54,7 +54,7 @@ unread served.ReadFault read rest written closing both = tt
 unread served.WriteFault read rest written closing both = tt
 unread served.Memory read rest written closing both = tt
 
--- of so many heads the replies were written, and little was read beyond these
+-- the replies of that many heads were written, and little was read beyond these
 pub as_answered : (site : SiteData) (served : Served) (left left' taken taken' held held' : Option (List ℕ))
     → (is : IsServed 1000 site.table site.links site.settings served left left' taken taken' held held')
     → ReadsAsAnswered site (is.read ++ is.rest) served is.read is.written
@@ -79,7 +79,7 @@ done_when served.ReadFault = tt
 done_when served.WriteFault = tt
 done_when served.Memory = tt
 
--- what was written for a stream that was served
+-- the output for a stream that was served
 pub resolved : (site : SiteData) (status : Status) (left left' taken taken' held held' : Option (List ℕ)) → StreamServed site status left left' taken taken' held held'
     → Appends held held' (λ output. Resolved site left output status)
 resolved site status left left' taken taken' held held' s =

@@ -1,4 +1,4 @@
--- One turn at a door.
+-- One turn at a listener.
 use Rattle.std.proofs.Common.{◌≡◌, ◌≢◌, ℕ, ◌-◌, false, List, [], ◌∷◌, ◌++◌, Option, Some, None, refl, sym, ap, ◌∙◌, subst}
 use Rattle.std.specs.Prelude.{is_some, option_map}
 use Rattle.gs_http.specs.declared.outcomes.Served.{Served}
@@ -80,6 +80,6 @@ never_fails served.ReadFault = refl
 never_fails served.WriteFault = refl
 never_fails served.Memory = refl
 
--- a connection that was served counts no error of the door's own
+-- the listener itself counts no error for a connection that was served
 pub counts_of_turn : (turn : Turn) (served : Served) → turn ≡ turn_of served → (before now : ℕ) → now ≡ before → now ≡ count_if (is_failure turn) before
 counts_of_turn turn served is before now e = rw (is, never_fails served) e

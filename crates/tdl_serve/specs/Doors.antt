@@ -1,4 +1,4 @@
--- A run at a door.
+-- A run at a listener.
 use Rattle.std.specs.Prelude.{◌≡◌, ◌⊎◌, ℕ, ◌≤◌, ◌-◌, true, false, List, [], ◌∷◌, ◌++◌, IfSome, codes, decimal, length, take}
 use Rattle.tdl_lines.specs.declared.status.Status.{Status}
 use Rattle.tdl_lines.specs.declared.status.Status.TheVariants.{Done, ReadFault, WriteFault, Memory}
@@ -22,14 +22,15 @@ line_of visits = served_line (length visits) (errors_of visits)
 abbrev pub NoneWaits : DoorState → Type 0
 NoneWaits now = IfSome now.aside.waiting (λ waiting. waiting ≡ [])
 
--- trusted, own: holds if the door was opened, and `count` connections were served, or all if no more wait; memory did not run out
+-- trusted, own: holds if the listener was opened, and `count` connections were served, or all if no more wait; memory did not
+-- run out
 pub record IsOver (count : ℕ) (now : DoorState) (visits : List Visit) : Type 0 where
   pub reached : (length visits ≡ count) ⊎ NoneWaits now
   pub served : wants_memory visits ≡ false
   pub opened : now.aside.opened ≡ true
 
--- trusted, own: Holds if `output` is what the status says of the connections: the line with `Done`, a prefix of it with
--- `WriteFault`, nothing with `ReadFault`. With `Memory` it is a prefix of the line if all were served, or nothing.
+-- trusted, own: Holds if `output` is the output for the connections that belongs to the status: the line with `Done`, a prefix
+-- of it with `WriteFault`, nothing with `ReadFault`. With `Memory` it is a prefix of the line if all were served, or nothing.
 abbrev pub ServePrints : Status → ℕ → DoorState → List Visit → List ℕ → Type 0
 ServePrints Done count now visits output = IsOver count now visits × (output ≡ line_of visits)
 ServePrints ReadFault count now visits output = (wants_memory visits ≡ false) × (output ≡ [])
@@ -37,16 +38,16 @@ ServePrints WriteFault count now visits output = IsOver count now visits × IsIn
 ServePrints Memory count now visits output = (IsOver count now visits × IsInitialPart output (line_of visits)) ⊎ (output ≡ [])
 ServePrints _ count now visits output = ⊥
 
--- trusted, own: holds if the door counted one error of its own with `ReadFault`, and otherwise none
+-- trusted, own: holds if the listener itself counted one error with `ReadFault`, and otherwise none
 abbrev pub CountsErrors : Status → Aside → Aside → Type 0
 CountsErrors status before now = now.errors ≡ count_if (is_status status ReadFault) before.errors
 
--- trusted, own: holds if the door was to be opened once, at this address
+-- trusted, own: holds if the listener was to be opened once, at this address
 abbrev pub OpensAt : List ℕ → Aside → Aside → Type 0
 OpensAt address before now = AddsNames before.addresses (address ∷ []) now.addresses
 
--- trusted, own: holds if at most `count` of the waiting connections were served between two moments, the last of them where memory
--- ran out, and `output` is what the status says of them
+-- trusted, own: holds if at most `count` of the waiting connections were served between two moments, and `output` is the one
+-- that belongs to the status; memory ran out at most at the last of them
 pub record ServeRan (site : SiteData) (count : ℕ) (before now : DoorState) (output : List ℕ) (status : Status) : Type 0 where
   pub visits : List Visit
   pub visited : Visited site before now visits

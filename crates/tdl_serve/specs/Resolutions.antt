@@ -12,7 +12,7 @@ use Rattle.gs_port.specs.Counts.{counted}
 use Rattle.gs_http.specs.Sites.{SiteData}
 use Rattle.tdl_serve.specs.Sites.{AreSiteReplies, Replied}
 
--- trusted, own: holds if `output` is the replies of the site to the input, as far as it is known
+-- trusted, own: holds if `output` is the replies of the site to the input, or to some input if it is unknown
 pub record Resolves (site : SiteData) (input : Option (List ℕ)) (output : List ℕ) : Type 0 where
   pub stream : List ℕ
   pub is_stream : IsKnown input stream

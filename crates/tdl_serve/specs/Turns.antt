@@ -1,4 +1,4 @@
--- What is done at a door, turn by turn.
+-- The work at a listener, turn by turn.
 use Rattle.std.specs.Prelude.{◌≡◌, ℕ, ◌≤◌, ◌-◌, Bool, true, false, List, [], ◌∷◌, Option, length, take}
 use Rattle.gs_http.specs.declared.outcomes.Served.{Served}
 use Rattle.gs_http.specs.declared.outcomes.Served.TheVariants as served
@@ -27,7 +27,7 @@ is_failure Closed = false
 is_failure Failed = true
 is_failure Memory = false
 
--- the open connection, of which this was left, read and written, was served and finished
+-- the open connection was served and finished; this was left, read and written of it
 pub record OpenServed (site : SiteData) (turn : Turn) (left taken held : Option (List ℕ)) (before now : DoorState) : Type 0 where
   pub served : Served
   pub left' : Option (List ℕ)
@@ -46,26 +46,26 @@ pub record OneVisit (site : SiteData) (before now : DoorState) (errored want : B
   pub is_errored : is_error visit.served ≡ errored
   pub is_cut : is_want visit.served ≡ want
 
--- what a turn did
+-- the effect of a turn
 abbrev pub TurnDid : Turn → SiteData → DoorState → DoorState → Type 0
 TurnDid (Finished errored) site before now = OneVisit site before now errored false
 TurnDid Closed site before now = Visited site before now [] × NoneWaits now
 TurnDid Failed site before now = Visited site before now []
 TurnDid Memory site before now = OneVisit site before now false true
 
--- one more where there was an error
+-- one more if there was an error
 abbrev pub error_number : Bool → ℕ
 error_number true = 1
 error_number false = 0
 
--- at most so many of the waiting connections were served, and a fact of them
+-- at most that many of the waiting connections were served, and a fact of them
 pub record SomeVisits (site : SiteData) (count : ℕ) (before now : DoorState) (fact : List Visit → Type 0) : Type 0 where
   pub visits : List Visit
   pub visited : Visited site before now visits
   pub few : length visits ≤ count
   pub are : fact visits
 
--- what the turns did, by how they ended
+-- the effect of the turns, by how they ended
 abbrev pub SessionDid : Session → SiteData → ℕ → DoorState → DoorState → Type 0
 SessionDid (session.Over tally) site count before now =
     SomeVisits site count before now (λ visits. IsOver count now visits × (tally.finished ≡ length visits) × (tally.errors ≡ errors_of visits))
@@ -79,7 +79,7 @@ is_failed (session.Over tally) = false
 is_failed session.Failed = true
 is_failed session.Memory = false
 
--- what turns at a door leave aside: one more error of the door's own where the last of them failed, and the same addresses
+-- the effect of turns on the listener itself: one more error if the last of them failed, and the same addresses
 pub record LeavesDoor (failed : Bool) (before now : Aside) : Type 0 where
   pub own_count : now.errors ≡ count_if failed before.errors
   pub own_counts : before.errors ≤ now.errors

@@ -1,4 +1,4 @@
--- The connections that a site served, one after the other.
+-- The connections that a site served, one at a time.
 use Rattle.std.specs.Prelude.{◌≡◌, ◌⊎◌, ◌≤◌, ℕ, ◌+◌, ◌-◌, ◌==◌, not, Bool, true, false, List, [], ◌∷◌, ◌++◌, Option, Some, None, is_some, option_map, if◌then◌else◌, length, map, take}
 use Rattle.std.specs.List.{filter, list_any}
 use Rattle.gs_http.specs.declared.outcomes.Served.{Served}
@@ -33,8 +33,8 @@ is_want ReadFault = false
 is_want WriteFault = false
 is_want Memory = true
 
--- trusted, own: a connection that was served and finished: its whole input, how serving it ended, and what is known of it
--- at the door
+-- trusted, own: a connection that was served and finished: its whole input, how serving it ended, and the listener's record of
+-- it
 pub record Visit : Type 0 where
   pub input : List ℕ
   pub served : Served
@@ -44,7 +44,7 @@ pub record Visit : Type 0 where
 abbrev pub inputs_of : List Visit → List (List ℕ)
 inputs_of visits = map (λ (visit : Visit). visit.input) visits
 
--- trusted, own: what is known of connections at the door
+-- trusted, own: the listener's records of connections
 abbrev pub entries_of : List Visit → List Finished
 entries_of visits = map (λ (visit : Visit). visit.entry) visits
 
@@ -56,13 +56,13 @@ errors_of visits = length (filter (λ (visit : Visit). is_error visit.served) vi
 abbrev pub wants_memory : List Visit → Bool
 wants_memory visits = list_any (λ (visit : Visit). is_want visit.served) visits
 
--- trusted, own: bytes, where a door has its connections known
+-- trusted, own: bytes, if the listener's connections are known
 abbrev pub known_if : Bool → List ℕ → Option (List ℕ)
 known_if known bytes = if known then Some bytes else None
 
--- trusted, the number of bytes is own: What was read of a connection, by what was written to it: of so many heads the
--- replies were written, and at most 12,288 bytes were read beyond these heads; where serving was done nothing is unread,
--- but behind a reply that ends the connection.
+-- trusted, the number of bytes is own: The bytes read of a connection, by the bytes written to it. The replies of a number of
+-- heads were written, and at most 12,288 bytes were read beyond these heads. If serving was done nothing is unread, except
+-- after a reply that ends the connection.
 pub record ReadsAsAnswered (site : SiteData) (input : List ℕ) (served : Served) (read written : List ℕ) : Type 0 where
   pub replies : List Reply
   pub answered : ℕ
@@ -71,9 +71,8 @@ pub record ReadsAsAnswered (site : SiteData) (input : List ℕ) (served : Served
   pub few : length read ≤ length (bytes_of (take answered (heads_of 1000 input))) + 12288
   pub unread : OnDone served ((read ≡ input) ⊎ (has_closing replies ≡ true))
 
--- trusted, own: Serving a connection, from these counts of reads and of writes: a prefix of its input was read, and a
--- prefix of the replies to its whole input was written, all of them where serving was done; a count rose where serving
--- ended by an error.
+-- trusted, own: Serving a connection, from these counts of reads and of writes: a prefix of its input was read. A prefix of the
+-- replies to its whole input was written, and all of them if serving was done. A count rose if serving ended by an error.
 pub record IsVisit (site : SiteData) (known : Bool) (reads writes : ℕ) (visit : Visit) : Type 0 where
   pub read : List ℕ
   pub written : List ℕ
@@ -85,26 +84,26 @@ pub record IsVisit (site : SiteData) (known : Bool) (reads writes : ℕ) (visit 
   pub read_count : visit.entry.reads ≡ reads_when visit.served reads - reads
   pub write_count : visit.entry.writes ≡ writes_when visit.served writes - writes
 
--- trusted, own: Connections were served one after the other, between these counts of reads and of writes: each from the
--- counts at which the one before it ended.
+-- trusted, own: Connections were served one at a time, between these counts of reads and of writes: each from the counts at
+-- which the one before it ended.
 pub data AreVisits (site : SiteData) (known : Bool) : ℕ → ℕ → List Visit → ℕ → ℕ → Type 0 where
   no_visit : (reads writes : ℕ) → AreVisits site known reads writes [] reads writes
   one_visit : (reads writes : ℕ) (visit : Visit) (visits : List Visit) (reads' writes' : ℕ) → IsVisit site known reads writes visit
       → AreVisits site known (reads_when visit.served reads) (writes_when visit.served writes) visits reads' writes' → AreVisits site known reads writes (visit ∷ visits) reads' writes'
 
--- trusted, own: what is known of a door: what reads and writes leave as it was, and the counts of the reads and of the
+-- trusted, own: the known state of a listener: the state that reads and writes preserve, and the counts of the reads and of the
 -- writes that failed
 pub record DoorState : Type 0 where
   pub aside : Aside
   pub reads : ℕ
   pub writes : ℕ
 
--- trusted, own: what is known of a door that sets this aside, at these counts
+-- trusted, own: the known state of a listener that sets this aside, at these counts
 abbrev pub state_of : Aside → ℕ → ℕ → DoorState
 state_of aside reads writes = record { aside = aside; reads = reads; writes = writes }
 
--- trusted, own: Between two moments the first of the waiting connections were served, in their order, and stand behind
--- those that were finished before.
+-- trusted, own: Between two moments the first of the waiting connections were served, in their order, and follow those that
+-- were finished before.
 pub record Visited (site : SiteData) (before now : DoorState) (visits : List Visit) : Type 0 where
   pub waited : before.aside.waiting ≡ option_map (λ rest. inputs_of visits ++ rest) now.aside.waiting
   pub finished : now.aside.finished ≡ option_map (λ earlier. earlier ++ entries_of visits) before.aside.finished

@@ -3,8 +3,8 @@ ghost use Rattle.gs_port.specs.Counts.{last_count};
 ghost use Rattle.gs_http.specs.Sites.{SiteData};
 ghost use Rattle.tdl_serve.specs.Visits.{AreVisits, RisesTellErrors, Visit};
 
-/// States that the entries of a door show which connections ended by an error, namely those whose counts rose, if no count of the
-/// door reached its last value.
+/// States that the entries of a listener show which connections ended by an error, if no count of the listener reached its last
+/// value. They are those whose counts rose.
 pub fn rises_tell_errors()
     ensures { (site : SiteData) (known : Bool) (reads writes reads' writes' : ℕ) (visits : List Visit)
         → AreVisits site known reads writes visits reads' writes' → reads' < last_count → writes' < last_count

@@ -1,8 +1,8 @@
-//! A resolver for one stream, and for the connections of a door, which it serves one at a time.
+//! A resolver for one stream, and for the connections of a listener, which it serves one at a time.
 //!
 //! - `resolve` answers the heads of an input as those of one connection.
-//! - `serve` opens a door, serves at most a number of connections, and prints their number and the number of those that ended by an
-//!   error.
+//! - `serve` opens a listener and serves at most a number of connections. It prints their number and the number of those that
+//!   ended by an error.
 //!
 //! # Example
 //!

@@ -15,12 +15,12 @@ use gs_port::{Door, OpenAnswer, Sink};
 use std::alloc::Global;
 use tdl_lines::Status;
 
-/// The outcome of the turns at a door.
+/// The outcome of the turns at a listener.
 #[derive(Clone, Copy)]
 enum Session {
     /// The requested number of connections is finished, or no more will arrive.
     Over(Tally),
-    /// No connection could be accepted, and the door counted an error.
+    /// No connection could be accepted, and the listener counted an error.
     Failed,
     /// Memory ran out.
     Memory,
@@ -84,13 +84,13 @@ fn serve_all<D: Door>(alloc: Global, site: &Site<'_>, count: u32, door: &mut D) 
     serve_turns(alloc, &resolver, room.as_mut_slice(), count, door)
 }
 
-/// Opens the door once, at the address, and serves the connections that arrive, one at a time, until `count` are finished or no more
-/// will arrive. An error on a connection ends only that connection. Then `serve` writes the line `served N faults M`, with the numbers
-/// of finished connections and of those that ended by an error, and returns `Done`.
+/// Opens the listener once, at the address, and serves the connections that arrive, one at a time. It ends after `count`
+/// connections, or if no more will arrive. An error on a connection ends only that connection. Then `serve` writes the line
+/// `served N faults M` and returns `Done`. The numbers are those of finished connections and of those that ended by an error.
 ///
-/// `ReadFault` is returned only if the door could not be opened, or a connection not be accepted, and the door's own count rose.
-/// Nothing is written then. `WriteFault` is returned only if the output's count rose. No connection stays open, even with `Memory`. No
-/// other status is returned.
+/// `ReadFault` is returned only if the listener could not be opened, or a connection not be accepted, and the listener's own
+/// count rose. Nothing is written then. `WriteFault` is returned only if the output's count rose. No connection stays open,
+/// even with `Memory`. No other status is returned.
 pub fn serve<D: Door, K: Sink>(
     alloc: Global,
     site: &Site<'_>,

@@ -40,9 +40,10 @@ fn answer_stream<C: Conn>(alloc: Global, site: &Site<'_>, conn: &mut C) -> Statu
     status_of(served)
 }
 
-/// Answers the heads of the input in their order, up to its end or to the first reply that ends the connection, as `serve_one`
-/// does. With `Done`, exactly all replies were written. `ReadFault` is returned only if the input's count rose, and `WriteFault` only if
-/// the output's did. After these and after `Memory`, a prefix of the replies was written. No other status is returned.
+/// Answers the heads of the input in their order, up to its end or to the first reply that ends the connection. `serve_one`
+/// does the same. With `Done`, exactly all replies were written. `ReadFault` is returned only if the input's count rose, and
+/// `WriteFault` only if the output's did. After these and after `Memory`, a prefix of the replies was written. No other status
+/// is returned.
 pub fn resolve<S: Source, K: Sink>(
     alloc: Global,
     site: &Site<'_>,

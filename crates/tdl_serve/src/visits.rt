@@ -7,12 +7,12 @@ use gs_http::{Resolver, Served, serve_with};
 use gs_port::{AcceptAnswer, Door};
 use std::alloc::Global;
 
-/// What a turn at a door did.
+/// The outcome of a turn at a listener.
 #[derive(Clone, Copy)]
 pub enum Turn {
     /// A connection was served and finished, and whether serving it ended by an error.
     Finished { errored: bool },
-    /// No connection comes any more.
+    /// No more connections will arrive.
     Closed,
     /// No connection could be accepted, for an error that was counted.
     Failed,
@@ -20,7 +20,7 @@ pub enum Turn {
     Memory,
 }
 
-/// The turn of a connection that was served so.
+/// Returns the turn of a connection with this outcome of serving.
 fn turn_of(served: Served) -> Turn
     ensures { result ≡ turn_of served }
 {

@@ -1,5 +1,5 @@
-//! Callers of the libraries, as a program of one's own would have them: a tag is read, a label gets its link, tables of one's own
-//! are loaded, and a request is replied to. It prints what each gives.
+//! Callers of the libraries, like those in a user's program: a tag is read, a label gets its link, a user's tables are loaded,
+//! and a request is replied to. It prints the result of each.
 #![tactic(auto)]
 
 mod labels;
@@ -20,7 +20,7 @@ const BITS: &[u8] = b"3074257BF7194E4000001A85";
 /// A label.
 const LABEL: &[u8] = b"(00)106141412345678908(37)24";
 
-/// Tables of one's own: a key with a check digit, and what may qualify it.
+/// A user's tables: a key with a check digit, and its one qualifier.
 const TABLES: &[u8] =
     b"{\"version\":1,\"ais\":[{\"code\":\"92\",\"parts\":[\"n8c\"],\"role\":\"key\",\"qualifiers\":[\"93\"]},{\"code\":\"93\",\"parts\":[\"x..4\"],\"role\":\"qualifier\"}],\"kinds\":[],\"binary\":[],\"tag\":[],\"pure\":[]}";
 
@@ -40,7 +40,7 @@ fn own_link(alloc: Global) -> Option<Text> {
     link_of_label(alloc, tables.ais(), OWN_LABEL).ok()
 }
 
-/// Returns a text as characters, where there is one.
+/// Returns a text as characters, if there is one.
 fn shown(text: &Option<Text>) -> &str {
     match text {
         Some(text) => str::from_utf8(text.as_bytes()).unwrap_or("no text"),

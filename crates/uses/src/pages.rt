@@ -39,7 +39,7 @@ impl From<Memory> for PageError {
     }
 }
 
-/// What stands for `gs1:` in the relations of a linkset: GS1's web vocabulary.
+/// The vocabulary that `gs1:` stands for in the relations of a linkset: GS1's web vocabulary.
 const VOCABULARY: &str = "https://ref.gs1.org/voc/";
 
 /// Returns the reply of a resolver that has these links, and no description, to the head of a request.

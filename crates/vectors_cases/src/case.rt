@@ -64,7 +64,7 @@ fn longer(number: u32, digit: u8) -> u32 {
         .wrapping_add(u32::from(digit_value(digit)))
 }
 
-/// Appends that many of one byte.
+/// Appends one byte `count` times.
 fn push_run(bytes: &mut Vec<u8>, byte: u8, count: u32) -> Result<(), Memory> {
     for _ in 0..count {
         bytes.push(byte)?;
@@ -72,7 +72,7 @@ fn push_run(bytes: &mut Vec<u8>, byte: u8, count: u32) -> Result<(), Memory> {
     Ok(())
 }
 
-/// Returns the state after a byte of a word, and the byte that is there, with its count; 0 within an escape.
+/// Returns the state after a byte of a word, and the byte that it ends, with its count; 0 within an escape.
 fn next_of(escape: Escape, c: u8) -> (Escape, u8, u32) {
     match (escape, c) {
         (Escape::Outside, b'\\') => (Escape::Begun, c, 0),

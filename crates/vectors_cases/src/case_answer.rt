@@ -63,7 +63,7 @@ fn answers<C: Calls>(alloc: Global, calls: &C, input: &[u8]) -> Result<Vec<u8>, 
     Ok(output)
 }
 
-/// Returns the whole of the standard input.
+/// Returns all of the standard input.
 fn input_of(rt: &HostRuntime) -> io::Result<Vec<u8>> {
     let mut input = Vec::new(rt.alloc());
     rt.stdin().read_to_end(&mut input)?;

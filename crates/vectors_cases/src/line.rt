@@ -5,11 +5,11 @@ use gs_json::JsonFault;
 use std::alloc::Global;
 use std::fmt::Debug;
 
-/// What came of a call: its answer is written, or there is none.
+/// The outcome of a call: its answer is written, or there is none.
 pub type Done = Result<(), Rejection>;
 
-/// The answer to a case, written word by word with one space between. What rejects it is noted here, so that a function that
-/// writes has no exit for it: each exit of a function is a part of its proof.
+/// The answer to a case, written word by word with one space between. A rejection is noted here, so that a function that writes
+/// has no exit for it: each exit of a function is a part of its proof.
 #[derive(Drop)]
 pub struct Line {
     alloc: Global,
@@ -27,7 +27,7 @@ impl Line {
         }
     }
 
-    /// Notes what came of a step. The first rejection stays.
+    /// Notes the outcome of a step. The first rejection stays.
     pub fn note(&mut self, done: Done) {
         self.done = self.done.and(done);
     }

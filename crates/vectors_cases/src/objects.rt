@@ -43,13 +43,13 @@ pub fn source_of(alloc: Global, words: &[Text]) -> Result<MemSource, Rejection> 
     Ok(MemSource::new(alloc, copied(alloc, bytes.as_bytes())?, cut, fails))
 }
 
-/// Returns the empty sink of a most number of bytes and of the calls that fail.
+/// Returns the empty sink, by the most bytes of a write and the calls that fail.
 pub fn sink_of(alloc: Global, args: &[Text]) -> Result<MemSink, Rejection> {
     let cut = cut_of(args, 0)?;
     Ok(MemSink::new(alloc, cut, fails_at(alloc, args, 1)?))
 }
 
-/// Returns the numbers of the calls that fail, as an argument gives them.
+/// Returns the numbers of the calls that fail, in the order of an argument.
 fn fails_at(alloc: Global, args: &[Text], i: usize) -> Result<Vec<u64>, Rejection> {
     numbers_of(alloc, arg(args, i)?)
 }
@@ -93,7 +93,8 @@ fn inputs_of(alloc: Global, words: &[Text]) -> Result<Vec<Vec<u8>>, Rejection> {
     Ok(inputs)
 }
 
-/// Returns the door with the most bytes of a read or a write, the calls that fail, and the inputs of the waiting connections.
+/// Returns the listener with the most bytes of a read or a write, the calls that fail, and the inputs of the waiting
+/// connections.
 pub fn door_of(alloc: Global, words: &[Text]) -> Result<MemDoor, Rejection>
     ensures closed { IfOk result (λ door. is_some door.current ≡ false) }
 {

@@ -55,7 +55,7 @@ fn add_written(line: &mut Line, written: Result<Text, DumpWriteFault>) {
     }
 }
 
-/// Writes what a dump says.
+/// Writes the contents of a dump.
 fn add_dump(line: &mut Line, set: &TableSet, dump: &Dump) -> Done {
     let Some(kind) = set.kinds().get(dump.epc.kind) else {
         return Err(Rejection::NoCase);
@@ -72,7 +72,7 @@ fn add_dump(line: &mut Line, set: &TableSet, dump: &Dump) -> Done {
     Ok(())
 }
 
-/// Writes what a text says, or its line.
+/// Writes the contents of a text, or its line.
 fn of_text(alloc: Global, line: &mut Line, set: &TableSet, call: Call, text: &[u8]) -> Done {
     match read_dump(alloc, set, text) {
         Ok(dump) => match call {
@@ -84,7 +84,7 @@ fn of_text(alloc: Global, line: &mut Line, set: &TableSet, call: Call, text: &[u
     Ok(())
 }
 
-/// Writes what a line says, or the text of its dump.
+/// Writes the contents of a line, or the text of its dump.
 fn of_line(alloc: Global, line: &mut Line, set: &TableSet, call: Call, text: &[u8]) -> Done {
     match read_shown(alloc, set, text) {
         Ok(dump) => match call {

@@ -7,7 +7,7 @@ use gs_merge::MergeFault;
 use std::alloc::Global;
 use vectors_cases::{Line, Rejection};
 
-/// What `gs1:` stands for.
+/// The vocabulary that `gs1:` stands for.
 const VOC: &[u8] = b"https://ref.gs1.org/voc/";
 
 /// Returns the linkset of a text.

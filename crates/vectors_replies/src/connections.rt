@@ -15,7 +15,7 @@ use gs_port::{MemSink, MemSource, Pair};
 use std::alloc::Global;
 use vectors_cases::{Answer, Done, Line, Rejection, bytes_at, number, section, sink_of, source_of};
 
-/// Serves the input. A function of its own, since its contract is large.
+/// Serves the input. A separate function, since its contract is large.
 fn served(
     alloc: Global,
     table: &AiTable,
@@ -109,7 +109,7 @@ pub fn over_cuts(
     add_alike(alloc, line, table, site, bytes, whole.as_str())
 }
 
-/// That many copies of a head.
+/// Makes `count` copies of a head.
 fn repeated(alloc: Global, count: u64, head: &[u8]) -> Result<Vec<u8>, Rejection> {
     let mut bytes = Vec::new(alloc);
     for _ in 0..count {

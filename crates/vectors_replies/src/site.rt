@@ -1,5 +1,5 @@
-//! What requests are answered from. STORE is the name of a linkset that is in this file, or the text of one. `gs1:` stands for
-//! https://ref.gs1.org/voc/.
+//! The data that requests are answered from. STORE is the name of a linkset that is in this file, or the text of one. `gs1:`
+//! stands for https://ref.gs1.org/voc/.
 
 use gs_ai::AiTable;
 use gs_chars::Text;
@@ -9,7 +9,7 @@ use gs_linkset::LinkDoc;
 use std::alloc::Global;
 use vectors_cases::{Rejection, named};
 
-/// What `gs1:` stands for.
+/// The vocabulary that `gs1:` stands for.
 const VOC: &[u8] = b"https://ref.gs1.org/voc/";
 
 /// A trade item with a default link and product information, and a lot of it that has its own link.

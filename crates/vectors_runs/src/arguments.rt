@@ -1,7 +1,7 @@
 //! Calls of tdl_arguments.
 //!
-//! - `read_arguments ARG..`: the filter value, the number of digits of a company prefix, the name of an encoding, whether only
-//!   keys are kept, and the stem that the arguments ask for, or `Usage`.
+//! - `read_arguments ARG..`: the values of the arguments, or `Usage`: the filter value, the number of digits of a company
+//!   prefix, the name of an encoding, whether only keys are kept, and the stem.
 
 use crate::runs::strings_of;
 use gs_chars::Text;

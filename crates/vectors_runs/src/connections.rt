@@ -1,9 +1,10 @@
-//! Calls of gs_port and gs_port_memory over connections in memory. A turn reads at most 4 bytes, and writes what was read; its answer is what the
-//! read moved, or that it failed, and then how many bytes the write took, or that it failed.
+//! Calls of gs_port and gs_port_memory over connections in memory. A turn reads at most 4 bytes, and writes the bytes read. Its
+//! answer is the bytes that the read moved, or that it failed, and then how many bytes the write took, or that it failed.
 //!
-//! - `pair CUT FAILS BYTES / CUT FAILS`: what three turns over a source and a sink answer, then the bytes that the sink holds.
-//! - `door CUT FAILS INPUT..`: what an open answers and, where it is opened, what each of three accepts answers, or the three
-//!   turns of the connection, which is then finished; then the number of finished connections, and the bytes written to each.
+//! - `pair CUT FAILS BYTES / CUT FAILS`: the answers of three turns over a source and a sink, then the bytes that the sink
+//!   holds.
+//! - `door CUT FAILS INPUT..`: the answer of an open and, if it is opened, of each of three accepts, or the three turns of the
+//!   connection. The connection is then finished. Last the number of finished connections, and the bytes written to each.
 
 ghost use Rattle.std.specs.Prelude.{◌≡◌, false, true, is_some};
 
@@ -14,7 +15,7 @@ use gs_port_memory::MemDoor;
 use std::alloc::Global;
 use vectors_cases::{Done, Line, door_of, section, sink_of, source_of};
 
-/// Writes what a turn answers.
+/// Writes the answer of a turn.
 fn add_turn<C: Conn>(line: &mut Line, conn: &mut C)
     requires { C.is_open conn.old ≡ true }
     ensures open { C.is_open conn.new ≡ true }
@@ -30,7 +31,7 @@ fn add_turn<C: Conn>(line: &mut Line, conn: &mut C)
     }
 }
 
-/// Writes what three turns answer.
+/// Writes the answers of three turns.
 fn add_turns<C: Conn>(line: &mut Line, conn: &mut C)
     requires { C.is_open conn.old ≡ true }
     ensures open { C.is_open conn.new ≡ true }
@@ -41,7 +42,7 @@ fn add_turns<C: Conn>(line: &mut Line, conn: &mut C)
     add_turn(line, conn);
 }
 
-/// Writes what three turns over a source and a sink answer.
+/// Writes the answers of three turns over a source and a sink.
 fn add_paired(line: &mut Line, source: &mut MemSource, sink: &mut MemSink) {
     add_turns(line, &mut Pair::new(source, sink));
 }
@@ -57,7 +58,7 @@ pub fn pair(alloc: Global, line: &mut Line, args: &[Text]) -> Done {
     Ok(())
 }
 
-/// Writes what an accept answers, or the turns of the connection, which is finished then.
+/// Writes the answer of an accept, or the turns of the connection, which is finished then.
 fn add_visit(line: &mut Line, door: &mut MemDoor)
     requires none_open { is_some door.old.current ≡ false }
     requires listening { door.old.opened ≡ true }
@@ -82,7 +83,7 @@ pub fn add_finished(line: &mut Line, door: &MemDoor) {
     }
 }
 
-/// Writes what three visits at an open door answer, and what became of it.
+/// Writes the answers of three visits at an open listener, and its state after them.
 fn add_visits(line: &mut Line, door: &mut MemDoor)
     requires none_open { is_some door.old.current ≡ false }
     requires listening { door.old.opened ≡ true }

@@ -1,7 +1,7 @@
 //! Calls of gs_port_memory and gs_port over files in memory. FAILS are the numbers of the calls that fail, with commas between, or `-`.
 //!
-//! - `open FAILS NAME BYTES .. / NAME..`: what an open of each name answers, and what a read of 4 bytes moves then.
-//! - `read_file FAILS NAME BYTES .. / NAME MAX ..`: what reading each file whole answers.
+//! - `open FAILS NAME BYTES .. / NAME..`: the answer of an open of each name, and the bytes that a read of 4 bytes moves then.
+//! - `read_file FAILS NAME BYTES .. / NAME MAX ..`: the answer of reading each file whole.
 
 use crate::outside::add_moved;
 use gs_chars::Text;
@@ -10,7 +10,7 @@ use gs_port_memory::MemFiles;
 use std::alloc::Global;
 use vectors_cases::{Done, Line, Rejection, bytes_at, files_of, number, section, text_of};
 
-/// Writes what an open answers, and what a read moves then.
+/// Writes the answer of an open, and the bytes that a read moves then.
 fn add_opened(line: &mut Line, files: &mut MemFiles, name: &str) {
     match files.open(name) {
         OpenAnswer::Opened => {
@@ -41,7 +41,7 @@ fn add_file(line: &mut Line, word: &str, text: Text) {
     line.text(text);
 }
 
-/// Writes what became of a file, and the bytes that were read of it.
+/// Writes the outcome for a file, and the bytes that were read of it.
 fn add_read(line: &mut Line, read: Result<Text, FileFault>) {
     match read {
         Ok(text) => add_file(line, "Ok", text),
@@ -51,7 +51,7 @@ fn add_read(line: &mut Line, read: Result<Text, FileFault>) {
     }
 }
 
-/// Writes what reading a file, whose name and most bytes are known, answers.
+/// Writes the answer of reading a file, whose name and most bytes are known.
 fn add_one(alloc: Global, line: &mut Line, files: &mut MemFiles, known: &[Text]) -> Done {
     let name = text_of(bytes_at(known, 0))?;
     let max = number(known, 1)?;

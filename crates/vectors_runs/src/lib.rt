@@ -1,6 +1,6 @@
-//! Calls over objects in memory, as cases of vectors name them: what is read and written, lines and their answers, and runs of
-//! the whole program: words, files and input, how they are cut and which calls fail. The head of vectors_cases says how a case
-//! and an answer are written.
+//! Calls over objects in memory, as cases of vectors name them: reads and writes, lines and their answers, and runs of the
+//! whole program. A run has words, files and input, how they are cut and which calls fail. The head of vectors_cases says how a
+//! case and an answer are written.
 #![tactic(auto)]
 
 mod arguments;
@@ -64,7 +64,8 @@ fn write(
     }
 }
 
-/// Returns the answer to a call over objects in memory, of the line loop, or to a whole run, by the table set if it needs one.
+/// Returns the answer to a call over objects in memory, of the line loop, or of a whole run. It uses the table set if the call
+/// needs one.
 pub fn answer(alloc: Global, set: &TableSet, library: &str, call: &str, args: &[Text]) -> Answer {
     let mut line = Line::new(alloc);
     let done = write(

@@ -1,4 +1,4 @@
-//! Calls of tdl_lines over objects in memory, with each text that is not long as its own answer.
+//! Calls of tdl_lines over objects in memory; the answer to a text that is not long is the text itself.
 //!
 //! - `answer_lines LIMIT / CUT FAILS BYTES / CUT FAILS`: the status, the output, and the rest of the input.
 //! - `print_line LINE / CUT FAILS`: the status, and the output.
@@ -12,7 +12,7 @@ use std::alloc::Global;
 use tdl_lines::{Answerer, Status, answer_lines, print_line};
 use vectors_cases::{Done, Line, Rejection, bytes_at, named, number, section, sink_of, source_of};
 
-/// Accepts each text of at most 2,048 bytes, and answers it by itself; of any other it says that it is long.
+/// Accepts each text of at most 2,048 bytes, and returns it as its answer; of any other it says that it is long.
 struct Echo;
 
 impl Answerer for Echo {

@@ -1,7 +1,7 @@
 //! Calls of gs_port over objects in memory. FAILS are the numbers of the calls that fail, with commas between, or `-`.
 //!
-//! - `read BYTES CUT FAILS SIZE`: what reads of SIZE bytes, at most 16, move or answer, up to the end.
-//! - `write CUT FAILS PIECE..`: what a write of each piece answers, then the bytes that the sink holds.
+//! - `read BYTES CUT FAILS SIZE`: the bytes or answers of reads of SIZE bytes, at most 16, up to the end.
+//! - `write CUT FAILS PIECE..`: the answer of a write of each piece, then the bytes that the sink holds.
 //! - `write_whole CUT FAILS PIECE..`: the same for each piece written whole.
 //!
 //! The call over files, `read_file`, is in files.rt, and `pair` in connections.rt.
@@ -44,7 +44,7 @@ pub fn answer(alloc: Global, line: &mut Line, call: &[u8], args: &[Text]) -> Don
     }
 }
 
-/// Writes what a read answers: the bytes that it moved to the start of the block, or that it failed.
+/// Writes the answer of a read: the bytes that it moved to the start of the block, or that it failed.
 pub fn add_moved(line: &mut Line, moved: ReadAnswer, block: &[u8]) {
     match moved {
         ReadAnswer::Got(n) => line.bytes(&block[..n.min(block.len())]),
@@ -52,7 +52,7 @@ pub fn add_moved(line: &mut Line, moved: ReadAnswer, block: &[u8]) {
     }
 }
 
-/// Writes what reads of that many bytes move or answer, up to the end.
+/// Writes the bytes or answers of reads of that many bytes, up to the end.
 fn add_reads(line: &mut Line, source: &mut MemSource, size: usize)
     requires { 0 < size }
 {
@@ -76,7 +76,7 @@ fn read(alloc: Global, line: &mut Line, args: &[Text]) -> Done {
     Ok(())
 }
 
-/// Writes what a write answers: the number of bytes that it took, or that it failed.
+/// Writes the answer of a write: the number of bytes that it took, or that it failed.
 pub fn add_taken(line: &mut Line, taken: WriteAnswer) {
     match taken {
         WriteAnswer::Took(n) => line.debug(n),
@@ -94,7 +94,7 @@ fn write(alloc: Global, line: &mut Line, args: &[Text]) -> Done {
     Ok(())
 }
 
-/// Writes what a piece that is written whole answers.
+/// Writes the answer of writing a whole piece.
 fn add_whole(line: &mut Line, sink: &mut MemSink, piece: &[u8]) {
     line.debug(write_whole(sink, piece));
 }

@@ -45,14 +45,14 @@ impl RunObjects {
     }
 }
 
-/// Returns a door with no waiting connection.
+/// Returns a listener with no waiting connection.
 pub fn no_door(alloc: Global) -> Result<MemDoor, Rejection>
     ensures { IfOk result (λ door. is_some door.current ≡ false) }
 {
     Ok(MemDoor::new(alloc, Vec::new(alloc), 1, Vec::new(alloc))?)
 }
 
-/// Returns the door of a run, with no waiting connection if none is known.
+/// Returns the listener of a run, with no waiting connection if none is known.
 fn door_behind(alloc: Global, args: &[Text]) -> Result<MemDoor, Rejection>
     ensures { IfOk result (λ door. is_some door.current ≡ false) }
 {
@@ -74,7 +74,7 @@ fn output_at(alloc: Global, args: &[Text]) -> Result<MemSink, Rejection> {
     sink_of(alloc, section(args, 3)?)
 }
 
-/// Returns the objects of a run over this input and at this door.
+/// Returns the objects of a run over this input and at this listener.
 pub fn objects_over(
     alloc: Global,
     args: &[Text],

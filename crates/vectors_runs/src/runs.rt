@@ -1,11 +1,12 @@
 //! Calls of tdl_run over objects in memory. Those of `answer_lines` are in translated_lines.rt.
 //!
-//! - `run WORD.. / FAILS NAME BYTES .. / CUT FAILS BYTES / CUT FAILS`: a whole run with these words, over these files, this input
-//!   and an empty output, of which a read and a write move at most CUT bytes, and whose calls of the numbers FAILS fail: the
-//!   status, the output, and the rest of the input. After `/ CUT FAILS INPUT..`, a door with the inputs of the connections that
-//!   wait at it, stand too the number of finished connections, and the bytes written to each.
-//! - `opened WORD.. / ..`: of such a run the status, the names of the files that were opened, and the addresses at which the door
-//!   was to be opened.
+//! - `run WORD.. / FAILS NAME BYTES .. / CUT FAILS BYTES / CUT FAILS`: a whole run with these words, over these files, this
+//!   input and an empty output. A read and a write move at most CUT bytes, and the calls of the numbers FAILS fail. The answer
+//!   is the status, the output, and the rest of the input. `/ CUT FAILS INPUT..` after these adds a listener with the inputs of
+//!   the connections that wait at it. The answer then also has the number of finished connections, and the bytes written to
+//!   each.
+//! - `opened WORD.. / ..`: of such a run the status, the names of the files that were opened, and the addresses at which the
+//!   listener was to be opened.
 //! - `repeated WORD.. / FAILS NAME BYTES .. / CUT LINE COUNT / CUT FAILS`: the same over COUNT copies of a line, each with a
 //!   line feed: the status, how many bytes the output holds, how many of its lines are equal to the first, and that line.
 
@@ -104,7 +105,7 @@ pub fn add_outcome(
     Ok(())
 }
 
-/// Writes the result of a run: its outcome and, if a door is known, its finished connections.
+/// Writes the result of a run: its outcome and, if a listener is known, its finished connections.
 fn add_known(
     alloc: Global,
     line: &mut Line,
@@ -149,7 +150,7 @@ fn push_line(bytes: &mut Vec<u8>, line: &[u8]) -> Result<(), Rejection> {
     Ok(bytes.push(b'\n')?)
 }
 
-/// That many copies of a line, each with a line feed.
+/// Makes `count` copies of a line, each with a line feed.
 fn copies(alloc: Global, line: &[u8], count: u64) -> Result<Vec<u8>, Rejection> {
     let mut bytes = Vec::new(alloc);
     for _ in 0..count {

@@ -2,8 +2,8 @@
 //! references are templates; the pairs are those of an identity.
 //!
 //! - `reference_for TEMPLATES HREF CODE VALUE ..`: the reference for the identity, or the rejection of the pairs.
-//! - `render FORM TEMPLATES DOC CODE VALUE ..`: the form, `Json` or `Text`, in which the linkset that DOC is in JSON is sent for
-//!   the identity if FORM is requested, and its text; or the error.
+//! - `render FORM TEMPLATES DOC CODE VALUE ..`: the form, `Json` or `Text`, and the text that are sent for the identity if FORM
+//!   is requested; or the error. DOC is the linkset in JSON.
 
 use crate::identities::made;
 use gs_ai::AiTable;

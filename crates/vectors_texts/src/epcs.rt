@@ -2,8 +2,8 @@
 //!
 //! - `read_hex TEXT`, `read_tag TEXT`, `read_pure TEXT`: the kind, encoding, filter value, prefix length, prefix, rest, piece and
 //!   total if the kind has them, and serial, or the error.
-//! - `identity_of FORM TEXT`, with FORM `hex`, `tag` or `pure`: the canonical link of the identity of what is read, or the
-//!   error.
+//! - `identity_of FORM TEXT`, with FORM `hex`, `tag` or `pure`: the canonical link of the identity of the EPC that is read, or
+//!   the error.
 //! - `by DOC FORM TEXT`: the same by the tables of a document.
 //!
 //! The calls that write and that take apart are in epc_writing.
@@ -73,7 +73,7 @@ fn add_read(line: &mut Line, set: &TableSet, read: Result<Epc, EpcFault>) -> Don
     Ok(())
 }
 
-/// Writes what an EPC says.
+/// Writes the fields of an EPC.
 pub fn add_epc(line: &mut Line, set: &TableSet, epc: &Epc) -> Done {
     let Some(kind) = set.kinds().get(epc.kind) else {
         return Err(Rejection::NoCase);
@@ -105,7 +105,7 @@ fn read(alloc: Global, set: &TableSet, form: &[u8], text: &[u8]) -> Result<Epc, 
     read_pure(alloc, set, text)
 }
 
-/// Writes the canonical link of the identity of what a text of a form says.
+/// Writes the canonical link of the identity of a text of a form.
 fn add_link(alloc: Global, line: &mut Line, set: &TableSet, args: &[Text]) -> Done {
     match read(alloc, set, bytes_at(args, 0), bytes_at(args, 1)) {
         Ok(epc) => {

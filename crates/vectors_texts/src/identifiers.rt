@@ -1,6 +1,6 @@
 //! Calls of gs_ai, by the built-in table of application identifiers unless rows are given.
 //!
-//! - `part TEXT`, `role TEXT`: what is written so, `Other` where it is none.
+//! - `part TEXT`, `role TEXT`: the part or role that is written so, otherwise `Other`.
 //! - `value_ok CODE VALUE`, `row_value_ok CODE VALUE`, the latter by the row of the code: `Ok`, or the error.
 //! - `find CODE`, `begins TEXT`: the index of the row, or `None`. `is_key CODE`.
 //! - `predefined CODE`: the length of code and value together by the row of the code, or `None`.

@@ -131,7 +131,7 @@ fn checked(alloc: Global, table: &AiTable, words: &[Text]) -> Result<Pair, Rejec
     pair_of(alloc, code.as_bytes(), value.as_bytes())
 }
 
-/// Pairs that are valid.
+/// Makes the pairs, which are valid.
 pub fn pairs_of(alloc: Global, table: &AiTable, words: &[Text]) -> Result<Vec<Pair>, Rejection>
     ensures { IfOk result (λ pairs. All (IsInOrder table.now) pairs.items) }
 {

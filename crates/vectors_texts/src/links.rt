@@ -22,7 +22,7 @@ use gs_linkset::LinkDoc;
 use std::alloc::{AllocError, Global};
 use vectors_cases::{Done, Line, Rejection, behind, bytes_at, named};
 
-/// What `gs1:` stands for.
+/// The vocabulary that `gs1:` stands for.
 pub const VOC: &[u8] = b"https://ref.gs1.org/voc/";
 
 #[derive(Clone, Copy)]
@@ -172,14 +172,14 @@ fn of_identity(
     }
 }
 
-/// That many numbers.
+/// Makes room for `count` numbers.
 pub fn room(alloc: Global, count: usize) -> Result<Vec<u32>, AllocError>
     ensures { IfOk result (λ numbers. vec_len numbers ≡ count) }
 {
     vec![in alloc; 0u32; count]
 }
 
-/// Which links a word wants.
+/// Returns the links that a word wants.
 fn want_of(word: &[u8]) -> Want<'_> {
     if word == b"*".as_slice() {
         Want::All

@@ -69,7 +69,7 @@ fn other_range(alloc: Global, k: u64) -> Result<Text, Rejection> {
     Ok(Text::from_bytes(alloc, range.as_bytes())?)
 }
 
-/// That many ranges that no link is in, and one more.
+/// Makes `times` ranges that no link is in, and one more.
 fn ranges(alloc: Global, times: u64, last: &[u8]) -> Result<Vec<Text>, Rejection> {
     let mut ranges = Vec::new(alloc);
     for k in 0..times {

@@ -1,7 +1,8 @@
 //! A call of gs_links over many links; link K has the anchor `/01/09506000134352/21/K` and the relation `r`.
 //!
-//! - `choose_each COUNT TIMES`: COUNT, where `choose` chooses only the link K and the depth 1 for the anchor of each K below
-//!   COUNT and `r`, TIMES times; otherwise the first K for which it does not; or the rejection of that many links.
+//! - `choose_each COUNT TIMES`: asks `choose`, TIMES times, for the anchor of each K below COUNT and `r`. The answer is COUNT
+//!   if it chooses only the link K and the depth 1 for each; otherwise the first K for which it does not; or the rejection of
+//!   that many links.
 
 ghost use Rattle.std.specs.Prelude.{◌≤◌, All, IfOk, length};
 ghost use Rattle.gs_ident.specs.Identities.{IsInOrder};

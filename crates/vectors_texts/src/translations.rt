@@ -1,8 +1,8 @@
 //! Calls of gs_translate, by the built-in tables. A FORM is `Hex`, `Tag`, `Pure`, `Raw`, `Bracketed` or `Link`; a TARGET is one
 //! of these or `Canon`.
 //!
-//! - `read FORM TEXT`: the canonical link of the identity, the prefix length, the filter value and the encoding of what the text
-//!   means, or the reason.
+//! - `read FORM TEXT`: the canonical link of the identity, the prefix length, the filter value and the encoding of the text's
+//!   meaning, or the reason.
 //! - `translate FORM TARGET FILTER GCP ENCODING KEYS STEM DOC TEXT`: the translation, or the reason. FILTER and GCP are numbers,
 //!   or `-` for none; KEYS is `yes` or `no`; DOC is the document of a list of company prefix lengths, empty for the list of no
 //!   entry.
@@ -73,7 +73,7 @@ pub fn answer(alloc: Global, line: &mut Line, set: &TableSet, call: &[u8], args:
     }
 }
 
-/// Writes what a text means, or the reason.
+/// Writes the meaning of a text, or the reason.
 fn meant(alloc: Global, line: &mut Line, set: &TableSet, form: Form, text: &[u8]) -> Done {
     match read(alloc, set, form, text) {
         Ok(meaning) => {

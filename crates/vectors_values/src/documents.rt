@@ -1,6 +1,5 @@
-//! Calls of gs_json. The part of a document DOC that is asked is found by STEPs from the whole: `.NAME` is the member of this
-//! name, `?NAME` the same if it may be missing, `~NAME` if the value may also be another than an object, and `#I` the item of
-//! this number.
+//! Calls of gs_json. STEPs from the whole find the part of a document DOC: `.NAME` is the member of this name, `?NAME` the same
+//! if it may be missing, and `#I` the item of this number. `~NAME` is `?NAME` if the value may also be another than an object.
 //!
 //! - `parse DOC`: `Ok`, or the error.
 //! - `text DOC STEP..`, `number`, `truth`, `count`, `names`: the value of the part, or the error; `None` if a step finds none.
@@ -71,7 +70,7 @@ fn answer_over(alloc: Global, line: &mut Line, doc: &Doc, call: &[u8], others: &
     }
 }
 
-/// Writes what the part to which the steps lead answers.
+/// Writes the answer for the part at the end of the steps.
 fn asked_behind(alloc: Global, line: &mut Line, doc: &Doc, asked: Asked, steps: &[Text]) -> Done {
     match followed(alloc, doc, steps) {
         Ok(Walked::At(node)) => add_asked(alloc, line, asked, &node),
@@ -90,7 +89,7 @@ enum Walked<'a> {
     Refused(JsonFault),
 }
 
-/// If a step leads, which finds a part or rejects.
+/// Returns the end of a step that finds a part or rejects.
 fn walk_to<'a>(found: Result<Node<'a>, JsonFault>) -> Walked<'a> {
     match found {
         Ok(part) => Walked::At(part),
@@ -98,7 +97,7 @@ fn walk_to<'a>(found: Result<Node<'a>, JsonFault>) -> Walked<'a> {
     }
 }
 
-/// If a step leads, which may find nothing.
+/// Returns the end of a step that may find nothing.
 fn walk_maybe<'a>(found: Result<Option<Node<'a>>, JsonFault>) -> Walked<'a> {
     match found {
         Ok(Some(part)) => Walked::At(part),
@@ -107,7 +106,7 @@ fn walk_maybe<'a>(found: Result<Option<Node<'a>>, JsonFault>) -> Walked<'a> {
     }
 }
 
-/// If a step leads, which may find nothing and never rejects.
+/// Returns the end of a step that may find nothing and never rejects.
 fn walk_found(found: Result<Option<Node<'_>>, Memory>) -> Result<Walked<'_>, Rejection> {
     match found? {
         Some(part) => Ok(Walked::At(part)),

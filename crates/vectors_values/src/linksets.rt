@@ -1,5 +1,5 @@
-//! Calls of gs_linkset. A linkset is answered as `Context ANCHOR` for each context, after it `Relation NAME` for each of its
-//! relations, after that `Target HREF` for each target, and after that the attributes: `One NAME TEXT`, `Many NAME` and the
+//! Calls of gs_linkset. The answer for a linkset has `Context ANCHOR` for each context, after it `Relation NAME` for each of
+//! its relations. `Target HREF` follows for each target, and after that the attributes: `One NAME TEXT`, `Many NAME` and the
 //! texts, or `Tagged NAME` and each text with its language.
 //!
 //! - `read DOC`: the linkset, or the error.
@@ -114,7 +114,7 @@ fn target_of(alloc: Global, reference: &Text) -> Result<Target, Rejection> {
     })
 }
 
-/// Targets without attributes.
+/// Makes targets without attributes.
 fn targets_of(alloc: Global, references: &[Text]) -> Result<List<Target>, Rejection> {
     let mut targets = Vec::new(alloc);
     for reference in references {
@@ -135,7 +135,7 @@ fn relation_of(alloc: Global, words: &[Text]) -> Result<Relation, Rejection> {
     })
 }
 
-/// Relations, each a name and its references, with `/` between them.
+/// Makes relations, each of a name and its references, with `/` between them.
 fn relations_of(alloc: Global, words: &[Text]) -> Result<List<Relation>, Rejection> {
     let mut relations = Vec::new(alloc);
     for part in words.split(|word| word.as_bytes() == b"/".as_slice()) {

@@ -3,8 +3,8 @@
 //! - `read TEXT`: the linkset in JSON, or the error.
 //! - `write DOC`: the text of the linkset that DOC is in JSON, or the error.
 //! - `again DOC`: the linkset in JSON that is read from the text of DOC, or the error.
-//! - `cuts TEXT`: of the prefixes of TEXT, including the whole, the number of linksets, of texts outside the grammar, of texts
-//!   with a link without an anchor, and of texts with a link without a relation type.
+//! - `cuts TEXT`: four numbers of the prefixes of TEXT, including the whole. The first two are those of the linksets and of the
+//!   texts outside the grammar. The others are those of the texts with a link without an anchor, and without a relation type.
 
 use gs_chars::Text;
 use gs_linkset::LinkDoc;

@@ -1,5 +1,5 @@
 use Rattle.adapter_tests.proofs.tests.+writes_taken.Given as goal
 
--- so many calls are left
+-- the number of calls that are left
 abbrev pub decreases-writes_taken : goal.decreases-writes_taken
 decreases-writes_taken g l = l.most

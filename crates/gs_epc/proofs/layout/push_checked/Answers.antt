@@ -13,7 +13,7 @@ slice_is value digits whole old seen slice w o e s =
     let count : length (value ++ digits) - length value ≡ length digits = omega (arith, length-append value digits) in
     rw (e, o, w, drop-append_seam value digits, count, take_all (length digits) digits (omega arith)) at s
 
--- the digits of a key are what a check digit is made of
+-- the digits of a key are those that a check digit is made of
 record Checks (digits : List ℕ) : Type 0 where
   pub least : 0 < length digits
   pub most : length digits ≤ 18

@@ -4,7 +4,7 @@ use Rattle.gs_http.specs.declared.sign.Sign.TheVariants.{Sized, Closes}
 use Rattle.gs_http.specs.Fields.{has_close, is_word, shows}
 use Rattle.gs_http.proofs.fields.shows.Goals as goal
 
--- a field of this name says how long a body is, except for none
+-- a field of this name gives the length of the message body, unless it is 0
 sized_shows : (sign : Sign) (name value : List ℕ) → sign ≡ Sized → is_word (codes "content-length") name ≡ true → not (bytes_eq value (codes "0")) ≡ shows sign (name, value)
 sized_shows sign name value is named = rw (is, named) refl
 

@@ -10,7 +10,7 @@ use Rattle.gs_http.specs.LentValues.{asked_by, wished}
 use Rattle.gs_http.specs.Wishes.{wish_named}
 use Rattle.gs_http.proofs.wishes.by_link_type.Goals as goal
 
--- what decoded bytes ask for
+-- the wish of decoded bytes
 decoded_name : (voc value decoded : List ℕ) (accepted : Option LinksetForm) (r : Result Wish Memory) → IfOk r (λ wish. wished wish ≡ wish_named voc accepted decoded)
     → decoded ≡ percent_decode value → IfOk r (λ wish. wished wish ≡ wish_named voc accepted (percent_decode value))
 decoded_name voc value decoded accepted r h e = rw (← e) h

@@ -5,7 +5,7 @@ use Rattle.gs_http.specs.Heads.{Asked}
 use Rattle.gs_http.specs.Wishes.{link_type, wish_named, wish_of}
 use Rattle.gs_http.proofs.wishes.wish_of.Goals as goal
 
--- a request with a link type asks for what that names
+-- a request with a link type asks for the links that it names
 by_type : (voc : List ℕ) (asked : Asked) (value : List ℕ) → Some value ≡ link_type asked.target → wish_of voc asked ≡ wish_named voc (accepted_form asked.fields) (percent_decode value)
 unfolding wish_of
 by_type voc asked value e = rw (← e) refl

@@ -4,7 +4,7 @@ use Rattle.tdl_lines.proofs.OutputLemmas.{front_all}
 use Rattle.tdl_lines.proofs.WriteLemmas.{appends_begins, appends_more, appends_part, appends_start}
 use Rattle.tdl_lines.proofs.line_loop.write_answers.Goals as goal
 
--- nothing is left where the length is none
+-- nothing is left if the length is 0
 none_left : (rest : List ℕ) → (length rest == 0) ≡ true → rest ≡ []
 none_left [] empty = refl
 none_left (c ∷ rest) empty = absurd (grind (arith, nat_tests))

@@ -3,7 +3,7 @@ use Rattle.tdl_lines.specs.Outputs.{Appends}
 use Rattle.tdl_lines.specs.OutputsSupport.{AnswersFront}
 use Rattle.tdl_lines.proofs.line_loop.write_answers.Given as goal
 
--- what was written so far are the answers to the lines before the rest
+-- the output so far is the answers to the lines before the rest
 abbrev pub invariant-loop-rest : goal.invariant-loop-rest
 invariant-loop-rest g l = record {
   written : Appends (g.K.Sink.held l.initial.output) (g.K.Sink.held l.output) (λ out. AnswersFront (g.A.Answerer.is_answer l.answerer) l.bytes l.rest [] out l.rejected);

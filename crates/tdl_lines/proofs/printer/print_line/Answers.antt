@@ -17,7 +17,7 @@ printed_whole WriteFault line ends written = absurd (ends refl)
 printed_whole InputLong line ends written = (refl, refl)
 printed_whole Memory line ends written = absurd (written refl)
 
--- a status that is no error of the output
+-- a status that is not an error of the output
 no_write_error : (fact : Type 0) (status : Status) → status ≢ WriteFault → OnTrue (is_status status WriteFault) fact
 no_write_error fact Done ends = tt
 no_write_error fact SomeRefused ends = tt

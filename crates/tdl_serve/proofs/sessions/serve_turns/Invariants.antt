@@ -2,7 +2,7 @@ use Rattle.std.proofs.Common.{◌≡◌, ◌≤◌, true, false}
 use Rattle.tdl_serve.proofs.SessionLemmas.{SoFar}
 use Rattle.tdl_serve.proofs.sessions.serve_turns.Given as goal
 
--- so many connections were served, and the door is open
+-- the number of served connections, and the listener is open
 abbrev pub invariant-loop-finished : goal.invariant-loop-finished
 invariant-loop-finished g l = record {
   so_far : SoFar l.resolver (record { aside = g.D.Conn.aside l.fn.door; reads = g.D.Conn.reads l.fn.door; writes = g.D.Conn.writes l.fn.door })
