@@ -3,7 +3,7 @@
 use Rattle.std.proofs.Common.{◌≡◌, ◌≤◌, ℕ, zero, suc, ◌+◌, Bool, true, false, if◌then◌else◌, List, [], ◌∷◌, ◌++◌, length, map, take, drop, codes, refl, sym, ap, ◌∙◌, Ordering, Less, Equal, Greater, arith, append_assoc, append-nil}
 =======
 -- The text is appended token by token: these are the tokens of the document's tree.
-use Rattle.std.proofs.Common.{◌≡◌, ◌≤◌, ℕ, zero, suc, ◌+◌, Bool, true, false, if◌then◌else◌, List, [], ◌∷◌, ◌++◌, length, map, take, drop, codes, Some, slice_get, refl, sym, ap, ◌∙◌, Ordering, Less, Equal, Greater, arith, append_assoc, append-nil}
+use Rattle.std.proofs.Common.{◌≡◌, ◌≤◌, ℕ, zero, suc, ◌+◌, Bool, true, false, if◌then◌else◌, List, [], ◌∷◌, ◌++◌, length, map, take, drop, codes, refl, sym, ap, ◌∙◌, Ordering, Less, Equal, Greater, arith, append_assoc, append-nil}
 >>>>>>> f4143ae837538d0a87f240bf0b1e499e2626e96a
 use Rattle.std.specs.Prelude.{not}
 use Rattle.std.specs.Cmp.Lexicographic.{slice_cmp}
@@ -115,9 +115,6 @@ module _ {X : Type 0} (name : X → List ℕ) (see : X → Data) where
 <<<<<<< HEAD
 -- ---- the shape of what is written
 =======
-pub tagged_tokens : (text language : List ℕ) → tokens_of (tagged_tree (text, language)) ≡ begin_object ∷ (language_tokens language ++ (text_tokens (codes "value") text ++ end_object ∷ []))
-tagged_tokens text [] = refl
-tagged_tokens text (c ∷ language) = refl
 
 -- ---- the shape of the written text
 >>>>>>> f4143ae837538d0a87f240bf0b1e499e2626e96a

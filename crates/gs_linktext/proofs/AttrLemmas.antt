@@ -34,10 +34,6 @@ values_by q p (x ∷ params) = elim (true_or_false (bytes_eq x.name q)) [
 <<<<<<< HEAD
 -- ---- what entries give
 =======
-pub values_more : (q : List ℕ) (params : List Param) (i : ℕ) (p : Param) (old new : List (List ℕ)) → i < length params → p ≡ get_or params i p → old ≡ values_of q (take i params) → new ≡ old ++ value_at q p.name p.value → new ≡ values_of q (take (i + 1) params)
-values_more q params i p old new h is so_far e =
-    let more : take (i + 1) params ≡ take i params ++ p ∷ [] = take_more params i p h ∙ ap (λ (x : Param). take i params ++ x ∷ []) (sym is) in
-    rw more (e ∙ ap (λ (vs : List (List ℕ)). vs ++ value_at q p.name p.value) so_far ∙ sym (values_by q p (take i params)))
 
 -- ---- the values of entries
 >>>>>>> f4143ae837538d0a87f240bf0b1e499e2626e96a
