@@ -15,27 +15,27 @@ INDEX = """# Definitions
 
 Written by `checks/definitions --write` from the marks in specs/, and not by hand.
 
-These are the definitions that the contracts of public calls reach, at once or by others. Each entry has its sentence, its source, its
-formula and what it uses. The source is a section of a standard or `own`, this project's own.
+These are the definitions that the contracts of public calls reach, directly or through others. Each entry has its sentence, its source, its
+formula and links to the definitions that it uses. The source is a section of a standard or `own`, this project's own.
 
 | Page | Definitions | Lines | Words of sentences |
 |---|---|---|---|
 {rows}
 
-docs/THEOREM.md is where to begin. The search for tables that read a text in two ways uses machines; what it decides is said by `Derives` and
-`IsAmbiguous`, which do not speak of machines. The clauses of calls that hand out machines do, and so the third page has them.
+Begin with [THEOREM.md](THEOREM.md). The search for tables that read a text in two ways uses machines, but `Derives` and `IsAmbiguous` define its
+result without them. The third page has machines, since some calls return them.
 
 ## Names
 """
 
 PAGES = {
-    "kernel": ("The kernel", "What the clause `defined` of `run` says for `canon` and `translate`, with files of tables and of company prefix lengths."),
-    "run": ("The rest of `run`", "What else the contract of `run` says: the other commands and files, `serve`, and the clauses beside `defined`."),
-    "calls": ("Other public calls", "What the contracts of other public calls say beside that."),
+    "kernel": ("The kernel", "The definitions of the clause `defined` of `run` for `canon` and `translate`, with files of tables and of company prefix lengths."),
+    "run": ("The rest of `run`", "The other definitions of the contract of `run`: the other commands and files, `serve`, and the clauses other than `defined`."),
+    "calls": ("Other public calls", "The other definitions of the contracts of public calls."),
 }
 CHAPTERS = {
-    "core": ("The core", "What is accepted and what it means."),
-    "kernel": ("The rest of the kernel", "The command line, the files, the rules of tables, the reasons, and which of several right spellings is chosen."),
+    "core": ("The core", "Which texts are accepted, and their meaning."),
+    "kernel": ("The rest of the kernel", "The command line, the files, the rules of tables, the reasons, and the choice among several right spellings."),
 }
 
 
@@ -100,16 +100,16 @@ class Pages:
         return "".join(text) + ("\n" + "\\\n".join(lines) + "\n" if lines else "")
 
     def source(self, node):
-        """The source of a definition, or the law that is read in place of its formula."""
+        """Returns the source of a definition, or the law that a reader reads instead of its formula."""
         law = self.specs.laws.get((node.crate, node.law))
         if not law:
             return f"Source: {node.source}."
-        return f"Fixed by the law [{law.name}](../../crates/{law.crate}/src/{law.module.replace('::', '/')}.rt#L{law.line}), which is read in place of the formula."
+        return f"Fixed by the law [{law.name}](../../crates/{law.crate}/src/{law.module.replace('::', '/')}.rt#L{law.line}); read the law instead of the formula."
 
     def text(self, page):
         """The text of a page."""
         title, about = PAGES[page]
-        text = [f"# {title}\n\nWritten by `checks/definitions --write`, and not by hand. {about} docs/DEFINITIONS.md has the index.\n"]
+        text = [f"# {title}\n\nWritten by `checks/definitions --write`, and not by hand. {about} [DEFINITIONS.md](../DEFINITIONS.md) has the index.\n"]
         for chapter in ("core", "kernel") if page == "kernel" else (page,):
             if page == "kernel":
                 text.append(f"\n## {CHAPTERS[chapter][0]}\n\n{CHAPTERS[chapter][1]}\n")
