@@ -1,5 +1,5 @@
 -- What proofs and private functions say beside the definitions of NumeralTables.antt.
-use Rattle.std.specs.Prelude.{◌≡◌, ℕ, ◌+◌, ◌-◌, List, ◌++◌, decimal, length}
+use Rattle.std.specs.Prelude.{◌≡◌, ℕ, ◌+◌, List, ◌++◌, decimal, length}
 use Rattle.gs_grammar_machine.specs.declared.edge.Edge.{Edge}
 use Rattle.gs_grammar_compile.specs.NumeralTables.{numeral_table}
 

@@ -40,13 +40,7 @@ fn target_of(target: u8, base: usize, next: usize) -> Result<usize, Memory>
 }
 
 /// Adds a state with the edge of one bit, if the number of its target is not 0.
-fn add_bit(
-    table: &mut Table,
-    bit: u8,
-    target: u8,
-    base: usize,
-    next: usize,
-) -> Result<(), Memory>
+fn add_bit(table: &mut Table, bit: u8, target: u8, base: usize, next: usize) -> Result<(), Memory>
     ensures { OnOk result (table.new ≡ table.old ++ code_edge bit base next target ∷ []) }
 {
     if target == 0 {
@@ -163,13 +157,7 @@ fn add_code(
 }
 
 /// Adds the states of characters, at least `lo` and at most `hi`.
-fn add_codes(
-    table: &mut Table,
-    lo: usize,
-    hi: usize,
-    bits: usize,
-    end: usize,
-) -> Result<(), Memory>
+fn add_codes(table: &mut Table, lo: usize, hi: usize, bits: usize, end: usize) -> Result<(), Memory>
     requires few { 7 * hi ≤ bits }
     requires room { bits ≤ end }
     ensures { OnOk result (table.new ≡ table.old ++ characters_table lo hi bits (length table.old) end) }

@@ -1,5 +1,4 @@
-use Rattle.std.proofs.Common.{◌≡◌, ℕ, List, ◌++◌, length, ap, ◌∙◌}
-use Rattle.gs_grammar_machine.specs.declared.edge.Edge.{Edge}
+use Rattle.std.proofs.Common.{ℕ, ◌++◌, ap, ◌∙◌}
 use Rattle.gs_grammar_compile.specs.CodeTables.{code_block, code_states}
 use Rattle.gs_grammar_compile.proofs.AddedRows.{ok_follows}
 use Rattle.gs_grammar_compile.proofs.code_states.add_rest.Goals as goal
