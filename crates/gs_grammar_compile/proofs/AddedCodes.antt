@@ -1,52 +1,12 @@
 -- The states of characters that were added to a table.
-use Rattle.std.proofs.Common.{◌≡◌, ℕ, ◌<◌, ◌≤◌, ◌+◌, ◌-◌, ◌*◌, ◌^◌, List, [], ◌∷◌, ◌++◌, length, zero, suc, refl, sym, ◌∙◌, ap, arith, add-one, length-append}
-use Rattle.std.proofs.Math.Nat.{pow-succ'}
-use Rattle.std.proofs.lemmas.List.{append_assoc}
+use Rattle.std.proofs.Common.{◌≡◌, ℕ, ◌<◌, ◌≤◌, ◌+◌, ◌-◌, ◌*◌, List, [], ◌∷◌, ◌++◌, length, get_or, drop, zero, suc, refl, sym, ◌∙◌, ap, arith, length-append}
+use Rattle.std.proofs.lemmas.List.{append_assoc, append-nil, drop_more, drop_all}
 use Rattle.gs_grammar_machine.specs.declared.edge.Edge.{Edge}
 use Rattle.gs_grammar_compile.specs.Tables.{edge, run_table}
 use Rattle.gs_grammar_compile.specs.EscapeTables.{plain_ranges, two_ranges, three_ranges, last_or_next, esc_table}
-use Rattle.gs_grammar_compile.specs.CodeTables.{trie_table, root_edges, next_character, code_rows, characters_table, ascii_table}
+use Rattle.gs_grammar_compile.specs.CodeTables.{code_target, code_edge, code_row, code_block, code_states, root_edges, next_character, code_rows, characters_table, ascii_table}
 use Rattle.gs_grammar_compile.proofs.AddedRows.{one_more, next_row}
-use Rattle.gs_grammar_compile.proofs.Codes.{length_trie}
-use Rattle.gs_grammar_compile.proofs.PackedTexts.{length_characters}
-
-pub trie_room : (front more : ℕ) → 0 < more → (front + 1) * 2 ^ (more + 1) ≤ 128 → (front + front + 1 + 1) * 2 ^ (more - 1 + 1) ≤ 128
-trie_room front more l h =
-    let same : more - 1 + 1 ≡ more = omega arith in
-    let power : 2 ^ (more + 1) ≡ 2 * 2 ^ more = rw add-one (pow-succ' 2 more) in
-    let twice : (front + front + 1 + 1) * 2 ^ more ≡ (front + 1) * (2 * 2 ^ more) = omega arith in
-    let whole : (front + 1) * 2 ^ (more + 1) ≡ (front + 1) * (2 * 2 ^ more) = ap (λ (k : ℕ). (front + 1) * k) power in
-    rw same (omega arith)
-
-pub trie_less : (front more : ℕ) → 0 < more → (front + 1) * 2 ^ (more + 1) ≤ 128 → (front + front + 1) * 2 ^ (more - 1 + 1) ≤ 128
-trie_less front more l h =
-    let big = trie_room front more l h in
-    let step : (front + front + 1 + 1) * 2 ^ (more - 1 + 1) ≡ (front + front + 1) * 2 ^ (more - 1 + 1) + 2 ^ (more - 1 + 1) = omega arith in
-    omega arith
-
-trie_parts : (n front next : ℕ) (table forked low new : List (List Edge)) → forked ≡ table ++ (edge 0 0 (length table + 1) ∷ edge 1 1 (length table + 2 ^ suc n) ∷ []) ∷ [] → low ≡ forked ++ trie_table (suc n) (front + front) (length forked) next → new ≡ low ++ trie_table (suc n) (front + front + 1) (length low) next → new ≡ table ++ trie_table (suc (suc n)) front (length table) next
-trie_parts n front next table forked low new e f g =
-    let row : List Edge = edge 0 0 (length table + 1) ∷ edge 1 1 (length table + 2 ^ suc n) ∷ [] in
-    let len = one_more table forked row e in
-    let first : List (List Edge) = trie_table (suc n) (front + front) (length forked) next in
-    let count = length_trie n (front + front) (length forked) next in
-    let after : length low ≡ length table + 2 ^ suc n = let x = ap length f in let y = length-append forked first in omega arith in
-    let second : List (List Edge) = trie_table (suc n) (front + front + 1) (length table + 2 ^ suc n) next in
-    g
-    ∙ ap (λ (b : ℕ). low ++ trie_table (suc n) (front + front + 1) b next) after
-    ∙ ap (λ (rows : List (List Edge)). rows ++ second) f
-    ∙ append_assoc forked first second
-    ∙ next_row table forked (first ++ second) row e
-    ∙ ap (λ (b : ℕ). table ++ row ∷ (trie_table (suc n) (front + front) b next ++ second)) len
-
-pub trie_added : (more front next : ℕ) (table forked low new : List (List Edge)) → 0 < more → forked ≡ table ++ (edge 0 0 (length table + 1) ∷ edge 1 1 (length table + 2 ^ more) ∷ []) ∷ [] → low ≡ forked ++ trie_table (more - 1 + 1) (front + front) (length forked) next → new ≡ low ++ trie_table (more - 1 + 1) (front + front + 1) (length low) next → new ≡ table ++ trie_table (more + 1) front (length table) next
-trie_added zero front next table forked low new l e f g = absurd (omega arith)
-trie_added (suc n) front next table forked low new l e f g =
-    let same : suc n - 1 + 1 ≡ suc n = omega arith in
-    let a : low ≡ forked ++ trie_table (suc n) (front + front) (length forked) next = f ∙ ap (λ (k : ℕ). forked ++ trie_table k (front + front) (length forked) next) same in
-    let b : new ≡ low ++ trie_table (suc n) (front + front + 1) (length low) next = g ∙ ap (λ (k : ℕ). low ++ trie_table k (front + front + 1) (length low) next) same in
-    let whole : suc (suc n) ≡ suc n + 1 = omega arith in
-    trie_parts n front next table forked low new e a b ∙ ap (λ (k : ℕ). table ++ trie_table k front (length table) next) whole
+use Rattle.gs_grammar_compile.proofs.PackedTexts.{length_characters, length_code}
 
 -- the four states of a character
 
@@ -96,34 +56,61 @@ character_rows lo more n base next end table new a c d m b x e f g h =
 
 -- packed characters
 
-pub trees_added : (base next end lo more left : ℕ) (table root zeros new : List (List Edge)) → base ≡ length table → next ≡ next_character more left base end → root ≡ table ++ root_edges lo left base end ∷ [] → zeros ≡ root ++ trie_table (5 + 1) 0 (length root) next → new ≡ zeros ++ trie_table (5 + 1) 1 (length zeros) next → new ≡ table ++ code_rows lo more left (length table) end
-trees_added base next end lo more left table root zeros new b n e f g =
+-- an edge that is there
+pub some_edge : (bit base next target to : ℕ) → 0 < target → to ≡ code_target target base next → edge bit bit to ∷ [] ≡ code_edge bit base next target
+some_edge bit base next zero to l e = absurd (omega arith)
+some_edge bit base next (suc zero) to l e = ap (λ (k : ℕ). edge bit bit k ∷ []) e
+some_edge bit base next (suc (suc n)) to l e = ap (λ (k : ℕ). edge bit bit k ∷ []) e
+
+pub no_edge : (bit base next target : ℕ) → target ≡ 0 → [] ≡ code_edge bit base next target
+no_edge bit base next zero e = refl
+no_edge bit base next (suc n) e = absurd (omega arith)
+
+pub no_zero : (base next zeros ones : ℕ) → zeros ≡ 0 → code_edge 1 base next ones ≡ code_row base next (zeros, ones)
+no_zero base next zeros ones e = ap (λ (row : List Edge). row ++ code_edge 1 base next ones) (no_edge 0 base next zeros e)
+
+pub no_one : (base next zeros ones : ℕ) → ones ≡ 0 → code_edge 0 base next zeros ≡ code_row base next (zeros, ones)
+no_one base next zeros ones e = sym (append-nil (code_edge 0 base next zeros)) ∙ ap (λ (row : List Edge). code_edge 0 base next zeros ++ row) (no_edge 1 base next ones e)
+
+pub two_edges : (base next zeros ones low high : ℕ) → 0 < zeros → 0 < ones → low ≡ code_target zeros base next → high ≡ code_target ones base next → edge 0 0 low ∷ edge 1 1 high ∷ [] ≡ code_row base next (zeros, ones)
+two_edges base next zeros ones low high l m e f =
+    ap (λ (row : List Edge). row ++ edge 1 1 high ∷ []) (some_edge 0 base next zeros low l e) ∙ ap (λ (row : List Edge). code_edge 0 base next zeros ++ row) (some_edge 1 base next ones high m f)
+
+-- a row that was added, in other words
+pub row_is : (table new : List (List Edge)) (row other : List Edge) → new ≡ table ++ row ∷ [] → row ≡ other → new ≡ table ++ other ∷ []
+row_is table new row other e f = e ∙ ap (λ (x : List Edge). table ++ x ∷ []) f
+
+-- the state of one pair of targets more, before those that are still to come
+pub block_step : (rows : List (ℕ × ℕ)) (place base next : ℕ) (targets d : ℕ × ℕ) (whole new all : List (List Edge)) → place < length rows → targets ≡ get_or rows place d → whole ++ code_block (drop place rows) base next ≡ all → new ≡ whole ++ code_row base next targets ∷ [] → new ++ code_block (drop (place + 1) rows) base next ≡ all
+block_step rows place base next targets d whole new all l e h m =
+    let here : drop place rows ≡ targets ∷ drop (place + 1) rows = rw e (drop_more rows place d l) in
+    let front : whole ++ code_row base next targets ∷ code_block (drop (place + 1) rows) base next ≡ all = rw here at h in
+    next_row whole new (code_block (drop (place + 1) rows) base next) (code_row base next targets) m ∙ front
+
+pub block_end : (rows : List (ℕ × ℕ)) (place base next : ℕ) (whole all : List (List Edge)) → length rows ≤ place → whole ++ code_block (drop place rows) base next ≡ all → whole ≡ all
+block_end rows place base next whole all l h =
+    let none : drop place rows ≡ [] = drop_all place rows l in
+    let end : whole ++ [] ≡ all = rw none at h in
+    sym (append-nil whole) ∙ end
+
+pub code_added : (base next end lo more left : ℕ) (table root new : List (List Edge)) → base ≡ length table → next ≡ next_character more left base end → root ≡ table ++ root_edges lo left base end ∷ [] → new ≡ root ++ code_block code_states (length root) next → new ≡ table ++ code_rows lo more left (length table) end
+code_added base next end lo more left table root new b n e f =
     let len = one_more table root (root_edges lo left base end) e in
-    let low : List (List Edge) = trie_table 6 0 (base + 1) next in
-    let high : List (List Edge) = trie_table 6 1 (base + 64) next in
-    let first : zeros ≡ root ++ low = f ∙ ap (λ (k : ℕ). root ++ trie_table 6 0 k next) (omega arith) in
-    let count = length_trie 5 0 (base + 1) next in
-    let after : length zeros ≡ base + 64 = let x = ap length first in let y = length-append root low in omega arith in
-    let second : new ≡ zeros ++ high = g ∙ ap (λ (k : ℕ). zeros ++ trie_table 6 1 k next) after in
-    second
-    ∙ ap (λ (rows : List (List Edge)). rows ++ high) first
-    ∙ append_assoc root low high
-    ∙ next_row table root (low ++ high) (root_edges lo left base end) e
-    ∙ ap (λ (k : ℕ). table ++ root_edges lo left base end ∷ (trie_table 6 0 (base + 1) k ++ trie_table 6 1 (base + 64) k)) n
+    let place : length root ≡ base + 1 = omega arith in
+    f
+    ∙ ap (λ (k : ℕ). root ++ code_block code_states k next) place
+    ∙ next_row table root (code_block code_states (base + 1) next) (root_edges lo left base end) e
+    ∙ ap (λ (k : ℕ). table ++ root_edges lo left base end ∷ code_block code_states (base + 1) k) n
     ∙ ap (λ (k : ℕ). table ++ code_rows lo more left k end) b
 
-code_count : (lo more left base end : ℕ) → length (code_rows lo more left base end) ≡ 127
-code_count lo more left base end =
-    let l = length_trie 5 0 (base + 1) (next_character more left base end) in
-    let r = length_trie 5 1 (base + 64) (next_character more left base end) in
-    let both = length-append (trie_table 6 0 (base + 1) (next_character more left base end)) (trie_table 6 1 (base + 64) (next_character more left base end)) in
-    omega arith
+code_count : (lo more left base end : ℕ) → length (code_rows lo more left base end) ≡ 24
+code_count lo more left base end = ap suc (length_code (next_character more left base end) (base + 1))
 
 codes_next : (lo more left end : ℕ) (whole new all : List (List Edge)) → whole ++ characters_table lo (suc more) left (length whole) end ≡ all → new ≡ whole ++ code_rows lo more left (length whole) end → new ++ characters_table (lo - 1) more (left - 7) (length new) end ≡ all
 codes_next lo more left end whole new all h e =
     let rows : List (List Edge) = code_rows lo more left (length whole) end in
     let count = code_count lo more left (length whole) end in
-    let len : length new ≡ length whole + 127 = let x = ap length e in let y = length-append whole rows in omega arith in
+    let len : length new ≡ length whole + 24 = let x = ap length e in let y = length-append whole rows in omega arith in
     ap (λ (front : List (List Edge)). front ++ characters_table (lo - 1) more (left - 7) (length new) end) e
     ∙ append_assoc whole rows (characters_table (lo - 1) more (left - 7) (length new) end)
     ∙ ap (λ (k : ℕ). whole ++ (rows ++ characters_table (lo - 1) more (left - 7) k end)) len
@@ -134,20 +121,20 @@ codes_step lo less left more fewer end whole new all l s m h e =
     let same : more ≡ suc fewer = omega arith in
     ap (λ (k : ℕ). new ++ characters_table k fewer (left - 7) (length new) end) m ∙ codes_next lo fewer left end whole new all (ap (λ (k : ℕ). whole ++ characters_table lo k left (length whole) end) (sym same) ∙ h) e
 
-pub ascii_added : (lo hi bits zeros end : ℕ) (table front new : List (List Edge)) → zeros ≡ bits - 7 * lo → end ≡ length table + (127 * hi + zeros) → front ≡ table ++ characters_table lo hi bits (length table) end → new ≡ front ++ run_table 0 0 zeros (length front) → new ≡ table ++ ascii_table lo hi bits (length table)
+pub ascii_added : (lo hi bits zeros end : ℕ) (table front new : List (List Edge)) → zeros ≡ bits - 7 * lo → end ≡ length table + (24 * hi + zeros) → front ≡ table ++ characters_table lo hi bits (length table) end → new ≡ front ++ run_table 0 0 zeros (length front) → new ≡ table ++ ascii_table lo hi bits (length table)
 ascii_added lo hi bits zeros end table front new z e f g =
     let rows : List (List Edge) = characters_table lo hi bits (length table) end in
     let count = length_characters hi lo bits (length table) end in
-    let len : length front ≡ length table + 127 * hi = let x = ap length f in let y = length-append table rows in omega arith in
-    let place : end ≡ length table + 127 * hi + (bits - 7 * lo) = omega arith in
+    let len : length front ≡ length table + 24 * hi = let x = ap length f in let y = length-append table rows in omega arith in
+    let place : end ≡ length table + 24 * hi + (bits - 7 * lo) = omega arith in
     g
     ∙ ap (λ (k : ℕ). front ++ run_table 0 0 zeros k) len
-    ∙ ap (λ (k : ℕ). front ++ run_table 0 0 k (length table + 127 * hi)) z
-    ∙ ap (λ (r : List (List Edge)). r ++ run_table 0 0 (bits - 7 * lo) (length table + 127 * hi)) f
-    ∙ append_assoc table rows (run_table 0 0 (bits - 7 * lo) (length table + 127 * hi))
-    ∙ ap (λ (k : ℕ). table ++ (characters_table lo hi bits (length table) k ++ run_table 0 0 (bits - 7 * lo) (length table + 127 * hi))) place
+    ∙ ap (λ (k : ℕ). front ++ run_table 0 0 k (length table + 24 * hi)) z
+    ∙ ap (λ (r : List (List Edge)). r ++ run_table 0 0 (bits - 7 * lo) (length table + 24 * hi)) f
+    ∙ append_assoc table rows (run_table 0 0 (bits - 7 * lo) (length table + 24 * hi))
+    ∙ ap (λ (k : ℕ). table ++ (characters_table lo hi bits (length table) k ++ run_table 0 0 (bits - 7 * lo) (length table + 24 * hi))) place
 
-pub ascii_at : (lo hi bits l m w end : ℕ) (table front new : List (List Edge)) → l ≡ lo → m ≡ hi → w ≡ bits → end ≡ length table + (127 * m + (w - 7 * l)) → front ≡ table ++ characters_table l m w (length table) end → new ≡ front ++ run_table 0 0 (w - 7 * l) (length front) → new ≡ table ++ ascii_table lo hi bits (length table)
+pub ascii_at : (lo hi bits l m w end : ℕ) (table front new : List (List Edge)) → l ≡ lo → m ≡ hi → w ≡ bits → end ≡ length table + (24 * m + (w - 7 * l)) → front ≡ table ++ characters_table l m w (length table) end → new ≡ front ++ run_table 0 0 (w - 7 * l) (length front) → new ≡ table ++ ascii_table lo hi bits (length table)
 ascii_at lo hi bits l m w end table front new a b c e f g =
     ascii_added l m w (w - 7 * l) end table front new refl e f g
     ∙ ap (λ (k : ℕ). table ++ ascii_table k m w (length table)) a

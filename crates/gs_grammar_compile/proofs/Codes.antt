@@ -1,16 +1,19 @@
--- The tree of the seven bits of a character.
-use Rattle.std.proofs.Common.{◌≡◌, ◌⊎◌, ℕ, ◌<◌, ◌≤◌, ◌+◌, ◌*◌, ◌^◌, Bool, true, false, List, [], ◌∷◌, ◌++◌, length, zero, suc, refl, sym, ◌∙◌, ap, subst, inl, inr, arith, length-append}
-use Rattle.std.proofs.Math.Nat.{pow-succ', one-le-pow}
+-- The states of the seven bits of a character.
+use Rattle.std.proofs.Common.{◌≡◌, ◌⊎◌, ℕ, ◌<◌, ◌≤◌, ◌+◌, ◌*◌, ◌^◌, ◌&&◌, not, Bool, true, false, List, [], ◌∷◌, ◌++◌, length, get_or, zero, suc, refl, sym, ◌∙◌, ap, inl, inr, arith}
+use Rattle.std.specs.Prelude.{nat_lt}
+use Rattle.std.proofs.Math.Nat.{pow-succ'}
+use Rattle.std.proofs.lemmas.Bool.Decides.{nat_tests}
 use Rattle.std.proofs.lemmas.List.Elements.{All-cons, All-nil, All-head, All-tail}
 use Rattle.gs_chars.specs.Characters.{is_in_set82}
+use Rattle.gs_chars.proofs.TruthsAndLists.{and_first, and_second, and_parts}
 use Rattle.gs_bits.specs.Bits.{AreBits, number_of}
 use Rattle.gs_grammar_machine.specs.declared.edge.Edge.{Edge}
 use Rattle.gs_grammar_machine.specs.Walks.{edges_at}
 use Rattle.gs_grammar_compile.specs.Readers.{Reads}
 use Rattle.gs_grammar_compile.specs.Tables.{edge}
-use Rattle.gs_grammar_compile.specs.CodeTables.{edge_where, leaf_edges, trie_table}
+use Rattle.gs_grammar_compile.specs.CodeTables.{code_edge, code_row, code_block, code_states}
 use Rattle.gs_grammar_compile.proofs.Arms.{Arms, Begins, ByEdge, Either, NoArm, reads_state, reads_as, arms_as, arms_none, arms_one, arms_cons}
-use Rattle.gs_grammar_compile.proofs.Blocks.{Has, has_head, has_tail, has_left, has_right}
+use Rattle.gs_grammar_compile.proofs.Blocks.{Has}
 use Rattle.gs_grammar_compile.proofs.Spread.{arms_both}
 
 -- that many bits of a code of the set, whose bits before them write this number, and after them a list of the language
@@ -19,88 +22,140 @@ Code zero front language w = (is_in_set82 front ≡ true) × language w
 Code (suc n) front language [] = ⊥
 Code (suc n) front language (s ∷ w) = ((s ≡ 0) × Code n (front + front) language w) ⊎ ((s ≡ 1) × Code n (front + front + 1) language w)
 
--- an edge that may be there
-
-abbrev ByBit : Bool → ℕ → (List ℕ → Type 0) → ℕ → List ℕ → Type 0
-ByBit b bit language s w = (b ≡ true) × ((s ≡ bit) × language w)
-
-arms_where : (table : List (List Edge)) (b : Bool) (bit next q : ℕ) (language : List ℕ → Type 0) → Reads table next q language → Arms table (edge_where b bit next) q (ByBit b bit language)
-arms_where table true bit next q language r =
-    arms_as table (edge bit bit next ∷ []) q (ByEdge (edge bit bit next) language) (ByBit true bit language) (arms_one table (edge bit bit next) q language r)
-    (λ s w h. (refl, (let a = h.0 in let b = h.1 in omega arith, h.2)))
-    (λ s w h. let e = h.1.0 in (omega arith, omega arith, h.1.1))
-arms_where table false bit next q language r =
-    arms_as table [] q NoArm (ByBit false bit language) (arms_none table q) (λ s w h. absurd h) (λ s w h. let f : false ≡ true = h.0 in cc)
-
-abbrev Leaf : ℕ → (List ℕ → Type 0) → ℕ → List ℕ → Type 0
-Leaf front language = Either (ByBit (is_in_set82 (front + front)) 0 language) (ByBit (is_in_set82 (front + front + 1)) 1 language)
-
-leaf_there : (front : ℕ) (language : List ℕ → Type 0) (w : List ℕ) → Begins (Leaf front language) w → Code 1 front language w
-leaf_there front language [] h = h
-leaf_there front language (s ∷ w) (inl h) = inl (h.1.0, (h.0, h.1.1))
-leaf_there front language (s ∷ w) (inr h) = inr (h.1.0, (h.0, h.1.1))
-
-leaf_back : (front : ℕ) (language : List ℕ → Type 0) (w : List ℕ) → Code 1 front language w → Begins (Leaf front language) w
-leaf_back front language [] h = h
-leaf_back front language (s ∷ w) (inl h) = inl (h.1.0, (h.0, h.1.1))
-leaf_back front language (s ∷ w) (inr h) = inr (h.1.0, (h.0, h.1.1))
-
-leaf_apart : (front : ℕ) (language : List ℕ → Type 0) (s : ℕ) (w : List ℕ) → ByBit (is_in_set82 (front + front)) 0 language s w → ByBit (is_in_set82 (front + front + 1)) 1 language s w → ⊥
-leaf_apart front language s w h k = let a = h.1.0 in let b = k.1.0 in omega arith
-
-reads_leaf : (table : List (List Edge)) (front base next q : ℕ) (language : List ℕ → Type 0) → edges_at table base ≡ leaf_edges front next → base < q → Reads table next q language → Reads table base q (Code 1 front language)
-reads_leaf table front base next q language e l r =
-    let low = arms_where table (is_in_set82 (front + front)) 0 next q language r in
-    let high = arms_where table (is_in_set82 (front + front + 1)) 1 next q language r in
-    let arms = arms_both table (edge_where (is_in_set82 (front + front)) 0 next) (edge_where (is_in_set82 (front + front + 1)) 1 next) q (ByBit (is_in_set82 (front + front)) 0 language) (ByBit (is_in_set82 (front + front + 1)) 1 language) low high (leaf_apart front language) in
-    let state = reads_state table base q (leaf_edges front next) (Leaf front language) e l arms in
-    reads_as table base q (Begins (Leaf front language)) (Code 1 front language) state (leaf_there front language) (leaf_back front language)
-
 -- a state with an edge for each bit
 abbrev pub Fork : ℕ → ℕ → (List ℕ → Type 0) → (List ℕ → Type 0) → ℕ → List ℕ → Type 0
 Fork zero_state one_state low high = Either (ByEdge (edge 0 0 zero_state) low) (ByEdge (edge 1 1 one_state) high)
-
-fork_there : (n front a b : ℕ) (language : List ℕ → Type 0) (w : List ℕ) → Begins (Fork a b (Code n (front + front) language) (Code n (front + front + 1) language)) w → Code (suc n) front language w
-fork_there n front a b language [] h = h
-fork_there n front a b language (s ∷ w) (inl h) = inl (let x = h.1 in omega arith, h.2)
-fork_there n front a b language (s ∷ w) (inr h) = inr (let x = h.0 in let y = h.1 in omega arith, h.2)
-
-fork_back : (n front a b : ℕ) (language : List ℕ → Type 0) (w : List ℕ) → Code (suc n) front language w → Begins (Fork a b (Code n (front + front) language) (Code n (front + front + 1) language)) w
-fork_back n front a b language [] h = h
-fork_back n front a b language (s ∷ w) (inl h) = let x = h.0 in inl (omega arith, omega arith, h.1)
-fork_back n front a b language (s ∷ w) (inr h) = let x = h.0 in inr (omega arith, omega arith, h.1)
 
 pub arms_fork : (table : List (List Edge)) (a b q : ℕ) (low high : List ℕ → Type 0) → Reads table a q low → Reads table b q high → Arms table (edge 0 0 a ∷ edge 1 1 b ∷ []) q (Fork a b low high)
 arms_fork table a b q low high r s =
     arms_cons table (edge 0 0 a) (edge 1 1 b ∷ []) q low (ByEdge (edge 1 1 b) high) r (arms_one table (edge 1 1 b) q high s) (λ x w h k. let c = h.1 in let d = k.0 in omega arith)
 
-pub length_trie : (n front base next : ℕ) → length (trie_table (suc n) front base next) + 1 ≡ 2 ^ suc n
-length_trie zero front base next = omega arith
-length_trie (suc n) front base next =
-    let l = length_trie n (front + front) (base + 1) next in
-    let r = length_trie n (front + front + 1) (base + 2 ^ suc n) next in
-    let both = length-append (trie_table (suc n) (front + front) (base + 1) next) (trie_table (suc n) (front + front + 1) (base + 2 ^ suc n) next) in
-    let power : 2 ^ suc (suc n) ≡ 2 * 2 ^ suc n = pow-succ' 2 (suc n) in
-    omega arith
+-- the state that these numbers lead to reads exactly the codes of the set whose first bits write `front`, of which n bits follow
+abbrev covers : ℕ → ℕ → ℕ → Bool
+covers zero zero front = not (is_in_set82 front)
+covers zero (suc zero) front = is_in_set82 front
+covers zero (suc (suc k)) front = false
+covers (suc n) zero front = covers n zero (front + front) && covers n zero (front + front + 1)
+covers (suc n) (suc zero) front = false
+covers (suc n) (suc (suc k)) front =
+    nat_lt k 23 && (covers n (get_or code_states k (0, 0)).0 (front + front) && covers n (get_or code_states k (0, 0)).1 (front + front + 1))
 
-pub reads_trie : (table : List (List Edge)) (n front base next q : ℕ) (language : List ℕ → Type 0) → Has table base (trie_table (suc n) front base next) → base + 2 ^ suc n ≤ q + 1 → Reads table next q language → Reads table base q (Code (suc n) front language)
-reads_trie table zero front base next q language h l r =
-    reads_leaf table front base next q language (has_head table base (leaf_edges front next) [] h) (omega arith) r
-reads_trie table (suc n) front base next q language h l r =
-    let row : List Edge = edge 0 0 (base + 1) ∷ edge 1 1 (base + 2 ^ suc n) ∷ [] in
-    let low : List (List Edge) = trie_table (suc n) (front + front) (base + 1) next in
-    let high : List (List Edge) = trie_table (suc n) (front + front + 1) (base + 2 ^ suc n) next in
-    let behind = has_tail table base row (low ++ high) h in
-    let count = length_trie n (front + front) (base + 1) next in
-    let place : base + 1 + length low ≡ base + 2 ^ suc n = omega arith in
-    let power : 2 ^ suc (suc n) ≡ 2 * 2 ^ suc n = pow-succ' 2 (suc n) in
-    let some = one-le-pow (suc n) 2 (omega arith) in
-    let first = reads_trie table n (front + front) (base + 1) next q language (has_left table (base + 1) low high behind) (omega arith) r in
-    let here : Has table (base + 2 ^ suc n) high = subst (λ (k : ℕ). Has table k high) place (has_right table (base + 1) low high behind) in
-    let second = reads_trie table n (front + front + 1) (base + 2 ^ suc n) next q language here (omega arith) r in
-    let arms = arms_fork table (base + 1) (base + 2 ^ suc n) q (Code (suc n) (front + front) language) (Code (suc n) (front + front + 1) language) first second in
-    let state = reads_state table base q row (Fork (base + 1) (base + 2 ^ suc n) (Code (suc n) (front + front) language) (Code (suc n) (front + front + 1) language)) (has_head table base row (low ++ high) h) (omega arith) arms in
-    reads_as table base q (Begins (Fork (base + 1) (base + 2 ^ suc n) (Code (suc n) (front + front) language) (Code (suc n) (front + front + 1) language))) (Code (suc (suc n)) front language) state (fork_there (suc n) front (base + 1) (base + 2 ^ suc n) language) (fork_back (suc n) front (base + 1) (base + 2 ^ suc n) language)
+covers_row : (n k front : ℕ) → covers (suc n) (suc (suc k)) front ≡ true → (k < 23) × ((covers n (get_or code_states k (0, 0)).0 (front + front) ≡ true) × (covers n (get_or code_states k (0, 0)).1 (front + front + 1) ≡ true))
+covers_row n k front c =
+    let low : Bool = covers n (get_or code_states k (0, 0)).0 (front + front) in
+    let high : Bool = covers n (get_or code_states k (0, 0)).1 (front + front + 1) in
+    let inside : nat_lt k 23 ≡ true = and_first (nat_lt k 23) (low && high) c in
+    let both = and_parts low high (and_second (nat_lt k 23) (low && high) c) in
+    (grind (arith, nat_tests), both)
+
+not_both : (b : Bool) → not b ≡ true → b ≡ true → ⊥
+not_both true n t = let f : false ≡ true = n in cc
+not_both false n t = cc
+
+none_coded : (n front : ℕ) (language : List ℕ → Type 0) (w : List ℕ) → covers n 0 front ≡ true → Code n front language w → ⊥
+none_coded zero front language w c h = not_both (is_in_set82 front) c h.0
+none_coded (suc n) front language [] c h = h
+none_coded (suc n) front language (s ∷ w) c (inl h) = none_coded n (front + front) language w (and_first (covers n 0 (front + front)) (covers n 0 (front + front + 1)) c) h.1
+none_coded (suc n) front language (s ∷ w) c (inr h) = none_coded n (front + front + 1) language w (and_second (covers n 0 (front + front)) (covers n 0 (front + front + 1)) c) h.1
+
+-- a bit, and after it a code whose bits so far write `front`
+abbrev OnBit : ℕ → ℕ → ℕ → (List ℕ → Type 0) → ℕ → List ℕ → Type 0
+OnBit bit n front language s w = (s ≡ bit) × Code n front language w
+
+abbrev Bits : ℕ → ℕ → (List ℕ → Type 0) → ℕ → List ℕ → Type 0
+Bits n front language = Either (OnBit 0 n (front + front) language) (OnBit 1 n (front + front + 1) language)
+
+bits_there : (n front : ℕ) (language : List ℕ → Type 0) (w : List ℕ) → Begins (Bits n front language) w → Code (suc n) front language w
+bits_there n front language [] h = h
+bits_there n front language (s ∷ w) (inl h) = inl h
+bits_there n front language (s ∷ w) (inr h) = inr h
+
+bits_back : (n front : ℕ) (language : List ℕ → Type 0) (w : List ℕ) → Code (suc n) front language w → Begins (Bits n front language) w
+bits_back n front language [] h = h
+bits_back n front language (s ∷ w) (inl h) = inl h
+bits_back n front language (s ∷ w) (inr h) = inr h
+
+bits_apart : (n front : ℕ) (language : List ℕ → Type 0) (s : ℕ) (w : List ℕ) → OnBit 0 n (front + front) language s w → OnBit 1 n (front + front + 1) language s w → ⊥
+bits_apart n front language s w h k = let a = h.0 in let b = k.0 in omega arith
+
+block_at : (rows : List (ℕ × ℕ)) (base next k : ℕ) → k < length rows → edges_at (code_block rows base next) k ≡ code_row base next (get_or rows k (0, 0))
+block_at [] base next k l = absurd (omega arith)
+block_at (row ∷ rows) base next zero l = refl
+block_at (row ∷ rows) base next (suc k) l = block_at rows base next k (omega arith)
+
+pub length_block : (rows : List (ℕ × ℕ)) (base next : ℕ) → length (code_block rows base next) ≡ length rows
+length_block [] base next = refl
+length_block (row ∷ rows) base next = ap suc (length_block rows base next)
+
+pub count_states : length code_states ≡ 23
+unfolding code_states
+count_states = refl
+
+-- the states of a code in a table, whose end reads the language
+pub record HasCode (table : List (List Edge)) (base next q : ℕ) (language : List ℕ → Type 0) : Type 0 where
+  pub states : Has table base (code_block code_states base next)
+  pub room : base + 23 ≤ q
+  pub end : Reads table next q language
+
+row_at : (table : List (List Edge)) (base next q k : ℕ) (language : List ℕ → Type 0) → HasCode table base next q language → k < 23 → edges_at table (base + k) ≡ code_row base next (get_or code_states k (0, 0))
+row_at table base next q k language h l =
+    let count = count_states in
+    let block = length_block code_states base next in
+    h.states.at k (omega arith) ∙ block_at code_states base next k (omega arith)
+
+reads_row : (table : List (List Edge)) (base next q n k front : ℕ) (language : List ℕ → Type 0) → HasCode table base next q language → k < 23 → Arms table (code_edge 0 base next (get_or code_states k (0, 0)).0) q (OnBit 0 n (front + front) language) → Arms table (code_edge 1 base next (get_or code_states k (0, 0)).1) q (OnBit 1 n (front + front + 1) language) → Reads table (base + k) q (Code (suc n) front language)
+reads_row table base next q n k front language h l a b =
+    let zeros : List Edge = code_edge 0 base next (get_or code_states k (0, 0)).0 in
+    let ones : List Edge = code_edge 1 base next (get_or code_states k (0, 0)).1 in
+    let room = h.room in
+    let arms = arms_both table zeros ones q (OnBit 0 n (front + front) language) (OnBit 1 n (front + front + 1) language) a b (bits_apart n front language) in
+    let state = reads_state table (base + k) q (zeros ++ ones) (Bits n front language) (row_at table base next q k language h l) (omega arith) arms in
+    reads_as table (base + k) q (Begins (Bits n front language)) (Code (suc n) front language) state (bits_there n front language) (bits_back n front language)
+
+arms_to : (table : List (List Edge)) (bit to q n front : ℕ) (language : List ℕ → Type 0) → Reads table to q (Code n front language) → Arms table (edge bit bit to ∷ []) q (OnBit bit n front language)
+arms_to table bit to q n front language r =
+    arms_as table (edge bit bit to ∷ []) q (ByEdge (edge bit bit to) (Code n front language)) (OnBit bit n front language) (arms_one table (edge bit bit to) q (Code n front language) r)
+    (λ s w h. (let a = h.0 in let b = h.1 in omega arith, h.2))
+    (λ s w h. (let e = h.0 in omega arith, let e = h.0 in omega arith, h.1))
+
+code_arms : (table : List (List Edge)) (base next q bit n target front : ℕ) (language : List ℕ → Type 0) → HasCode table base next q language → covers n target front ≡ true → Arms table (code_edge bit base next target) q (OnBit bit n front language)
+code_arms table base next q bit n zero front language h c =
+    arms_as table [] q NoArm (OnBit bit n front language) (arms_none table q) (λ s w a. absurd a) (λ s w a. none_coded n front language w c a.1)
+code_arms table base next q bit zero (suc zero) front language h c =
+    let end : Reads table next q (Code 0 front language) = reads_as table next q language (Code 0 front language) h.end (λ w l. (c, l)) (λ w l. l.1) in
+    arms_to table bit next q 0 front language end
+code_arms table base next q bit (suc n) (suc zero) front language h c = absurd (let f : false ≡ true = c in cc)
+code_arms table base next q bit zero (suc (suc k)) front language h c = absurd (let f : false ≡ true = c in cc)
+code_arms table base next q bit (suc n) (suc (suc k)) front language h c =
+    let zeros : ℕ = (get_or code_states k (0, 0)).0 in
+    let ones : ℕ = (get_or code_states k (0, 0)).1 in
+    let parts = covers_row n k front c in
+    let low = code_arms table base next q 0 n zeros (front + front) language h parts.1.0 in
+    let high = code_arms table base next q 1 n ones (front + front + 1) language h parts.1.1 in
+    arms_to table bit (base + k) q (suc n) front language (reads_row table base next q n k front language h parts.0 low high)
+
+code_reads : (table : List (List Edge)) (base next q n k front : ℕ) (language : List ℕ → Type 0) → HasCode table base next q language → covers (suc n) (suc (suc k)) front ≡ true → Reads table (base + k) q (Code (suc n) front language)
+code_reads table base next q n k front language h c =
+    let zeros : ℕ = (get_or code_states k (0, 0)).0 in
+    let ones : ℕ = (get_or code_states k (0, 0)).1 in
+    let parts = covers_row n k front c in
+    let low = code_arms table base next q 0 n zeros (front + front) language h parts.1.0 in
+    let high = code_arms table base next q 1 n ones (front + front + 1) language h parts.1.1 in
+    reads_row table base next q n k front language h parts.0 low high
+
+covers_low : covers 6 2 0 ≡ true
+unfolding code_states is_in_set82
+covers_low = refl
+
+covers_high : covers 6 3 1 ≡ true
+unfolding code_states is_in_set82
+covers_high = refl
+
+pub reads_low : (table : List (List Edge)) (base next q : ℕ) (language : List ℕ → Type 0) → HasCode table base next q language → Reads table (base + 0) q (Code 6 0 language)
+reads_low table base next q language h = code_reads table base next q 5 0 0 language h covers_low
+
+pub reads_high : (table : List (List Edge)) (base next q : ℕ) (language : List ℕ → Type 0) → HasCode table base next q language → Reads table (base + 1) q (Code 6 1 language)
+reads_high table base next q language h = code_reads table base next q 5 1 1 language h covers_high
 
 -- the bits of a code and the symbols after them
 pub record Coded (n front : ℕ) (language : List ℕ → Type 0) (w : List ℕ) : Type 0 where

@@ -1,10 +1,9 @@
 -- The edges of an item lead to higher states, and not past its end.
 use Rattle.std.proofs.Common.{◌≡◌, ℕ, ◌<◌, ◌≤◌, ◌+◌, ◌-◌, ◌*◌, ◌/◌, ◌%◌, ◌^◌, Bool, true, false, List, [], ◌∷◌, ◌++◌, length, zero, suc, refl, sym, subst, arith}
-use Rattle.std.specs.Prelude.{nat_le, nat_lt, ◌&&◌}
-use Rattle.std.proofs.Math.Nat.{pow-succ', one-le-pow}
+use Rattle.std.specs.Prelude.{nat_le, nat_lt, ◌&&◌, ◌||◌}
 use Rattle.std.proofs.lemmas.Bool.Decides.{nat_tests}
 use Rattle.std.proofs.lemmas.Fmt.{decimal_nonempty}
-use Rattle.gs_chars.specs.Characters.{is_in_set82}
+use Rattle.gs_chars.proofs.TruthsAndLists.{and_first, and_second, and_parts}
 use Rattle.gs_grammar.specs.declared.item.Item.{Item}
 use Rattle.gs_grammar.specs.declared.item.Item.TheVariants.{Lit, Pad, Digits, Int, Esc, NumPad, Num, NumStr, Ascii7, Fill}
 use Rattle.gs_grammar.specs.Items.{IsItem}
@@ -15,15 +14,15 @@ use Rattle.gs_grammar_compile.specs.Readers.{Reads}
 use Rattle.gs_grammar_compile.specs.Tables.{edge, lit_table, run_table, fill_table, lower_state, bound_rest, bound_edges, bound_table, digits_greatest}
 use Rattle.gs_grammar_compile.specs.NumeralTables.{free_edges, free_table, digits_table, tight_edges, tight_table, numeral_table}
 use Rattle.gs_grammar_compile.specs.EscapeTables.{with_ranges, plain_ranges, two_ranges, three_ranges, last_or_next, esc_table}
-use Rattle.gs_grammar_compile.specs.CodeTables.{edge_where, trie_table, root_edges, next_character, characters_table, ascii_table}
+use Rattle.gs_grammar_compile.specs.CodeTables.{edge_where, code_edge, code_block, code_states, root_edges, next_character, characters_table, ascii_table}
 use Rattle.gs_grammar_compile.specs.OnesTables.{layer_states, layer_state, has_bit, is_highest, leads_edges, from_edges, up_to_edges, counts_rows, layer_rows, ones_table}
 use Rattle.gs_grammar_compile.specs.ItemTables.{digits_behind, item_states, item_table}
 use Rattle.gs_grammar_compile.proofs.WalkLemmas.{Ascends}
 use Rattle.gs_grammar_compile.proofs.Blocks.{Has}
 use Rattle.gs_grammar_compile.proofs.AddedRows.{run_count}
 use Rattle.gs_grammar_compile.proofs.ReadsOnes.{layer_count}
-use Rattle.gs_grammar_compile.proofs.Codes.{length_trie}
-use Rattle.gs_grammar_compile.proofs.PackedTexts.{length_characters, length_characters_row, reads_ascii}
+use Rattle.gs_grammar_compile.proofs.Codes.{count_states}
+use Rattle.gs_grammar_compile.proofs.PackedTexts.{length_characters, length_code, reads_ascii}
 use Rattle.gs_grammar_compile.proofs.DecimalTexts.{length_tight, reads_int}
 use Rattle.gs_grammar_compile.proofs.SpelledTexts.{reads_esc}
 use Rattle.gs_grammar_compile.proofs.ItemReaders.{reads_literal, reads_pad, reads_digits, reads_numstr, reads_filling, reads_num, reads_numpad}
@@ -184,47 +183,65 @@ inside_esc (suc more) lo base end l =
     let rest = inside_at (base + 1 + 1 + 1 + 1) (base + 4) end (esc_table (lo - 1) more (base + 4) end) (omega arith) (inside_esc more (lo - 1) (base + 4) end (omega arith)) in
     (first, ((omega arith, omega arith, (omega arith, omega arith, tt)), (third, (fourth, rest))))
 
-inside_trie : (n front base next end : ℕ) → base + 2 ^ suc n ≤ next + 1 → next ≤ end → Inside base end (trie_table (suc n) front base next)
-inside_trie zero front base next end l m = (all_append base end (edge_where (is_in_set82 (front + front)) 0 next) (edge_where (is_in_set82 (front + front + 1)) 1 next) (where_to (is_in_set82 (front + front)) 0 base next end (omega arith) m) (where_to (is_in_set82 (front + front + 1)) 1 base next end (omega arith) m), tt)
-inside_trie (suc n) front base next end l m =
-    let power : 2 ^ suc (suc n) ≡ 2 * 2 ^ suc n = pow-succ' 2 (suc n) in
-    let some = one-le-pow (suc n) 2 (omega arith) in
-    let low : List (List Edge) = trie_table (suc n) (front + front) (base + 1) next in
-    let high : List (List Edge) = trie_table (suc n) (front + front + 1) (base + 2 ^ suc n) next in
-    let count = length_trie n (front + front) (base + 1) next in
-    ((omega arith, omega arith, (omega arith, omega arith, tt)), inside_append (base + 1) end low high (inside_trie n (front + front) (base + 1) next end (omega arith) m) (inside_at (base + 1 + length low) (base + 2 ^ suc n) end high (omega arith) (inside_trie n (front + front + 1) (base + 2 ^ suc n) next end (omega arith) m)))
+-- each edge of the states of a code, of which this one is the first, leads on
+abbrev leads_on : ℕ → ℕ → Bool
+leads_on k target = nat_le target 1 || (nat_lt (k + 2) target && nat_le target 24)
 
-root_row : (lo left base end chain : ℕ) → base + 127 + chain ≤ end → left ≤ chain + 7 * lo → 7 ≤ left → AllTo base end (root_edges lo left base end)
+abbrev lead_on : ℕ → List (ℕ × ℕ) → Bool
+lead_on k [] = true
+lead_on k (row ∷ rows) = (leads_on k row.0 && leads_on k row.1) && lead_on (k + 1) rows
+
+states_lead_on : lead_on 0 code_states ≡ true
+unfolding code_states
+states_lead_on = refl
+
+code_edge_to : (k bit base next end target : ℕ) → leads_on k target ≡ true → k < 23 → base + 23 ≤ next → next ≤ end → AllTo (base + k) end (code_edge bit base next target)
+code_edge_to k bit base next end zero t l m o = tt
+code_edge_to k bit base next end (suc zero) t l m o = (omega arith, omega arith, tt)
+code_edge_to k bit base next end (suc (suc n)) t l m o =
+    let on : k + 2 < suc (suc n) = grind (arith, nat_tests) in
+    let low : suc (suc n) ≤ 24 = grind (arith, nat_tests) in
+    (omega arith, omega arith, tt)
+
+inside_code : (rows : List (ℕ × ℕ)) (k base next end : ℕ) → lead_on k rows ≡ true → k + length rows ≤ 23 → base + 23 ≤ next → next ≤ end → Inside (base + k) end (code_block rows base next)
+inside_code [] k base next end t l m o = tt
+inside_code (row ∷ rows) k base next end t l m o =
+    let place : base + k + 1 ≡ base + (k + 1) = omega arith in
+    let here = and_parts (leads_on k row.0) (leads_on k row.1) (and_first (leads_on k row.0 && leads_on k row.1) (lead_on (k + 1) rows) t) in
+    let others = and_second (leads_on k row.0 && leads_on k row.1) (lead_on (k + 1) rows) t in
+    let zeros = code_edge_to k 0 base next end row.0 here.0 (omega arith) m o in
+    let ones = code_edge_to k 1 base next end row.1 here.1 (omega arith) m o in
+    (all_append (base + k) end (code_edge 0 base next row.0) (code_edge 1 base next row.1) zeros ones, inside_at (base + k + 1) (base + (k + 1)) end (code_block rows base next) place (inside_code rows (k + 1) base next end others (omega arith) m o))
+
+root_row : (lo left base end chain : ℕ) → base + 24 + chain ≤ end → left ≤ chain + 7 * lo → 7 ≤ left → AllTo base end (root_edges lo left base end)
 root_row zero left base end chain l m f = (omega arith, omega arith, (omega arith, omega arith, (omega arith, omega arith, tt)))
 root_row (suc lo) left base end chain l m f = (omega arith, omega arith, (omega arith, omega arith, tt))
 
-next_high : (more lo left base end chain : ℕ) → base + 127 * suc more + chain ≤ end → left ≤ chain + 7 * lo → lo ≤ suc more → 7 ≤ left → (base + 127 ≤ next_character more left base end) × (next_character more left base end ≤ end)
+next_high : (more lo left base end chain : ℕ) → base + 24 * suc more + chain ≤ end → left ≤ chain + 7 * lo → lo ≤ suc more → 7 ≤ left → (base + 24 ≤ next_character more left base end) × (next_character more left base end ≤ end)
 next_high zero lo left base end chain l m o f = (omega arith, omega arith)
 next_high (suc more) lo left base end chain l m o f = (omega arith, omega arith)
 
-inside_characters : (hi lo left base end chain : ℕ) → base + 127 * hi + chain ≤ end → left ≤ chain + 7 * lo → lo ≤ hi → 7 * hi ≤ left → Inside base end (characters_table lo hi left base end)
+inside_characters : (hi lo left base end chain : ℕ) → base + 24 * hi + chain ≤ end → left ≤ chain + 7 * lo → lo ≤ hi → 7 * hi ≤ left → Inside base end (characters_table lo hi left base end)
 inside_characters zero lo left base end chain l m o f = tt
 inside_characters (suc more) lo left base end chain l m o f =
     let next : ℕ = next_character more left base end in
     let high = next_high more lo left base end chain l m o (omega arith) in
     let above = high.0 in
-    let trees : List (List Edge) = trie_table 6 0 (base + 1) next ++ trie_table 6 1 (base + 64) next in
-    let others : List (List Edge) = characters_table (lo - 1) more (left - 7) (base + 127) end in
-    let count = length_trie 5 0 (base + 1) next in
-    let row_count = length_characters_row next base in
-    let first = inside_trie 5 0 (base + 1) next end (omega arith) high.1 in
-    let second = inside_at (base + 1 + length (trie_table 6 0 (base + 1) next)) (base + 64) end (trie_table 6 1 (base + 64) next) (omega arith) (inside_trie 5 1 (base + 64) next end (omega arith) high.1) in
-    let both = inside_append (base + 1) end (trie_table 6 0 (base + 1) next) (trie_table 6 1 (base + 64) next) first second in
-    let rest = inside_at (base + 1 + length trees) (base + 127) end others (omega arith) (inside_characters more (lo - 1) (left - 7) (base + 127) end chain (omega arith) (omega arith) (omega arith) (omega arith)) in
-    (root_row lo left base end chain (omega arith) m (omega arith), inside_append (base + 1) end trees others both rest)
+    let states : List (List Edge) = code_block code_states (base + 1) next in
+    let others : List (List Edge) = characters_table (lo - 1) more (left - 7) (base + 24) end in
+    let count = length_code next (base + 1) in
+    let few = count_states in
+    let code = inside_at (base + 1) (base + 1 + 0) end states (omega arith) (inside_code code_states 0 (base + 1) next end states_lead_on (omega arith) (omega arith) high.1) in
+    let rest = inside_at (base + 1 + length states) (base + 24) end others (omega arith) (inside_characters more (lo - 1) (left - 7) (base + 24) end chain (omega arith) (omega arith) (omega arith) (omega arith)) in
+    (root_row lo left base end chain (omega arith) m (omega arith), inside_append (base + 1) end states others code rest)
 
-inside_ascii : (lo hi bits base end : ℕ) → lo ≤ hi → 7 * hi ≤ bits → end ≡ base + 127 * hi + (bits - 7 * lo) → Inside base end (ascii_table lo hi bits base)
+inside_ascii : (lo hi bits base end : ℕ) → lo ≤ hi → 7 * hi ≤ bits → end ≡ base + 24 * hi + (bits - 7 * lo) → Inside base end (ascii_table lo hi bits base)
 inside_ascii lo hi bits base end o f e =
     let count = length_characters hi lo bits base end in
     let front = inside_characters hi lo bits base end (bits - 7 * lo) (omega arith) (omega arith) o f in
-    let tail = inside_at (base + length (characters_table lo hi bits base end)) (base + 127 * hi) end (run_table 0 0 (bits - 7 * lo) (base + 127 * hi)) (omega arith) (inside_run 0 0 (bits - 7 * lo) (base + 127 * hi) end (omega arith)) in
-    let whole : Inside base end (characters_table lo hi bits base end ++ run_table 0 0 (bits - 7 * lo) (base + 127 * hi)) = inside_append base end (characters_table lo hi bits base end) (run_table 0 0 (bits - 7 * lo) (base + 127 * hi)) front tail in
-    subst (λ (k : ℕ). Inside base end (characters_table lo hi bits base k ++ run_table 0 0 (bits - 7 * lo) (base + 127 * hi))) e whole
+    let tail = inside_at (base + length (characters_table lo hi bits base end)) (base + 24 * hi) end (run_table 0 0 (bits - 7 * lo) (base + 24 * hi)) (omega arith) (inside_run 0 0 (bits - 7 * lo) (base + 24 * hi) end (omega arith)) in
+    let whole : Inside base end (characters_table lo hi bits base end ++ run_table 0 0 (bits - 7 * lo) (base + 24 * hi)) = inside_append base end (characters_table lo hi bits base end) (run_table 0 0 (bits - 7 * lo) (base + 24 * hi)) front tail in
+    subst (λ (k : ℕ). Inside base end (characters_table lo hi bits base k ++ run_table 0 0 (bits - 7 * lo) (base + 24 * hi))) e whole
 
 -- the facts that the bounds of items give
 pub esc_bounds : (lo hi : ℕ) → IsItem (Esc lo hi) → (1 ≤ lo) × (lo ≤ hi)

@@ -16,12 +16,12 @@ use Rattle.gs_grammar_machine.specs.declared.edge.Edge.{Edge}
 use Rattle.gs_grammar_machine.specs.Walks.{edges_at}
 use Rattle.gs_grammar_compile.specs.Readers.{Reads}
 use Rattle.gs_grammar_compile.specs.Tables.{edge, run_table}
-use Rattle.gs_grammar_compile.specs.CodeTables.{trie_table, root_edges, next_character, characters_table, ascii_table}
+use Rattle.gs_grammar_compile.specs.CodeTables.{code_block, code_states, root_edges, next_character, characters_table, ascii_table}
 use Rattle.gs_grammar_compile.proofs.WalkLemmas.{Ascends}
 use Rattle.gs_grammar_compile.proofs.Arms.{Begins, ByEdge, Either, reads_state, reads_as, arms_one, arms_cons}
 use Rattle.gs_grammar_compile.proofs.Blocks.{Has, has_head, has_tail, has_left, has_right}
 use Rattle.gs_grammar_compile.proofs.Runs.{IsRun, reads_run, zeros_run, run_zeros}
-use Rattle.gs_grammar_compile.proofs.Codes.{Code, Coded, Fork, arms_fork, reads_trie, length_trie, code_there, code_back}
+use Rattle.gs_grammar_compile.proofs.Codes.{Code, Coded, Fork, arms_fork, HasCode, reads_low, reads_high, length_block, count_states, code_there, code_back}
 
 -- the list packs from lo to n characters, and has that many bits
 pub record PacksIn (lo n bits : ℕ) (w : List ℕ) : Type 0 where
@@ -194,26 +194,26 @@ zeros_apart n bits a b next s w few h k =
 
 -- the state of a character's first bit
 
-reads_must : (table : List (List Edge)) (lo n bits base q : ℕ) → 7 ≤ bits → edges_at table base ≡ root_edges (suc lo) bits base q → base < q → Reads table (base + 1) q (Code 6 0 (PacksIn lo n (bits - 7))) → Reads table (base + 64) q (Code 6 1 (PacksIn lo n (bits - 7))) → Reads table base q (PacksIn (suc lo) (suc n) bits)
+reads_must : (table : List (List Edge)) (lo n bits base q : ℕ) → 7 ≤ bits → edges_at table base ≡ root_edges (suc lo) bits base q → base < q → Reads table (base + 1) q (Code 6 0 (PacksIn lo n (bits - 7))) → Reads table (base + 2) q (Code 6 1 (PacksIn lo n (bits - 7))) → Reads table base q (PacksIn (suc lo) (suc n) bits)
 reads_must table lo n bits base q few e l r s =
     let less : suc lo - 1 ≡ lo = omega arith in
     let low : Reads table (base + 1) q (Code 6 0 (PacksIn (suc lo - 1) n (bits - 7))) = subst (λ (k : ℕ). Reads table (base + 1) q (Code 6 0 (PacksIn k n (bits - 7)))) (sym less) r in
-    let high : Reads table (base + 64) q (Code 6 1 (PacksIn (suc lo - 1) n (bits - 7))) = subst (λ (k : ℕ). Reads table (base + 64) q (Code 6 1 (PacksIn k n (bits - 7)))) (sym less) s in
-    let arms = arms_fork table (base + 1) (base + 64) q (Code 6 0 (PacksIn (suc lo - 1) n (bits - 7))) (Code 6 1 (PacksIn (suc lo - 1) n (bits - 7))) low high in
-    let state = reads_state table base q (edge 0 0 (base + 1) ∷ edge 1 1 (base + 64) ∷ []) (Root (suc lo) n bits (base + 1) (base + 64)) e l arms in
-    reads_as table base q (Begins (Root (suc lo) n bits (base + 1) (base + 64))) (PacksIn (suc lo) (suc n) bits) state (must_there lo n bits (base + 1) (base + 64) few) (must_back lo n bits (base + 1) (base + 64) few)
+    let high : Reads table (base + 2) q (Code 6 1 (PacksIn (suc lo - 1) n (bits - 7))) = subst (λ (k : ℕ). Reads table (base + 2) q (Code 6 1 (PacksIn k n (bits - 7)))) (sym less) s in
+    let arms = arms_fork table (base + 1) (base + 2) q (Code 6 0 (PacksIn (suc lo - 1) n (bits - 7))) (Code 6 1 (PacksIn (suc lo - 1) n (bits - 7))) low high in
+    let state = reads_state table base q (edge 0 0 (base + 1) ∷ edge 1 1 (base + 2) ∷ []) (Root (suc lo) n bits (base + 1) (base + 2)) e l arms in
+    reads_as table base q (Begins (Root (suc lo) n bits (base + 1) (base + 2))) (PacksIn (suc lo) (suc n) bits) state (must_there lo n bits (base + 1) (base + 2) few) (must_back lo n bits (base + 1) (base + 2) few)
 
 first_apart : (n bits a b next : ℕ) → 7 ≤ bits → (s : ℕ) (w : List ℕ) → ByEdge (edge 0 0 a) (Code 6 0 (PacksIn 0 n (bits - 7))) s w → Either (ByEdge (edge 1 1 b) (Code 6 1 (PacksIn 0 n (bits - 7)))) (Zeros bits next) s w → ⊥
 first_apart n bits a b next few s w h (inl k) = let x = h.1 in let y = k.0 in omega arith
 first_apart n bits a b next few s w h (inr k) = zeros_apart n bits a b next s w few (inl h) k
 
-reads_may : (table : List (List Edge)) (n bits base q : ℕ) → 7 ≤ bits → edges_at table base ≡ root_edges 0 bits base q → base < q → Reads table (base + 1) q (Code 6 0 (PacksIn 0 n (bits - 7))) → Reads table (base + 64) q (Code 6 1 (PacksIn 0 n (bits - 7))) → Reads table (q - (bits - 1)) q (IsRun 0 0 (bits - 1)) → Reads table base q (PacksIn 0 (suc n) bits)
+reads_may : (table : List (List Edge)) (n bits base q : ℕ) → 7 ≤ bits → edges_at table base ≡ root_edges 0 bits base q → base < q → Reads table (base + 1) q (Code 6 0 (PacksIn 0 n (bits - 7))) → Reads table (base + 2) q (Code 6 1 (PacksIn 0 n (bits - 7))) → Reads table (q - (bits - 1)) q (IsRun 0 0 (bits - 1)) → Reads table base q (PacksIn 0 (suc n) bits)
 reads_may table n bits base q few e l r s z =
     let zeros = arms_one table (edge 0 0 (q - (bits - 1))) q (IsRun 0 0 (bits - 1)) z in
-    let ones = arms_cons table (edge 1 1 (base + 64)) (edge 0 0 (q - (bits - 1)) ∷ []) q (Code 6 1 (PacksIn 0 n (bits - 7))) (Zeros bits (q - (bits - 1))) s zeros (λ x w h k. let a = h.0 in let b = k.1 in omega arith) in
-    let arms = arms_cons table (edge 0 0 (base + 1)) (edge 1 1 (base + 64) ∷ edge 0 0 (q - (bits - 1)) ∷ []) q (Code 6 0 (PacksIn 0 n (bits - 7))) (Either (ByEdge (edge 1 1 (base + 64)) (Code 6 1 (PacksIn 0 n (bits - 7)))) (Zeros bits (q - (bits - 1)))) r ones (first_apart n bits (base + 1) (base + 64) (q - (bits - 1)) few) in
-    let state = reads_state table base q (edge 0 0 (base + 1) ∷ edge 1 1 (base + 64) ∷ edge 0 0 (q - (bits - 1)) ∷ []) (RootOrZeros n bits (base + 1) (base + 64) (q - (bits - 1))) e l arms in
-    reads_as table base q (Begins (RootOrZeros n bits (base + 1) (base + 64) (q - (bits - 1)))) (PacksIn 0 (suc n) bits) state (may_there n bits (base + 1) (base + 64) (q - (bits - 1)) few) (may_back n bits (base + 1) (base + 64) (q - (bits - 1)) few)
+    let ones = arms_cons table (edge 1 1 (base + 2)) (edge 0 0 (q - (bits - 1)) ∷ []) q (Code 6 1 (PacksIn 0 n (bits - 7))) (Zeros bits (q - (bits - 1))) s zeros (λ x w h k. let a = h.0 in let b = k.1 in omega arith) in
+    let arms = arms_cons table (edge 0 0 (base + 1)) (edge 1 1 (base + 2) ∷ edge 0 0 (q - (bits - 1)) ∷ []) q (Code 6 0 (PacksIn 0 n (bits - 7))) (Either (ByEdge (edge 1 1 (base + 2)) (Code 6 1 (PacksIn 0 n (bits - 7)))) (Zeros bits (q - (bits - 1)))) r ones (first_apart n bits (base + 1) (base + 2) (q - (bits - 1)) few) in
+    let state = reads_state table base q (edge 0 0 (base + 1) ∷ edge 1 1 (base + 2) ∷ edge 0 0 (q - (bits - 1)) ∷ []) (RootOrZeros n bits (base + 1) (base + 2) (q - (bits - 1))) e l arms in
+    reads_as table base q (Begins (RootOrZeros n bits (base + 1) (base + 2) (q - (bits - 1)))) (PacksIn 0 (suc n) bits) state (may_there n bits (base + 1) (base + 2) (q - (bits - 1)) few) (may_back n bits (base + 1) (base + 2) (q - (bits - 1)) few)
 
 -- the chain of zeros
 abbrev ZerosFrom : List (List Edge) → ℕ → ℕ → Type 0
@@ -240,65 +240,61 @@ reads_zeros table lo bits n q z none l =
     subst (λ (k : ℕ). Reads table (q - bits) q (PacksIn k 0 bits)) (sym none)
     (reads_as table (q - bits) q (IsRun 0 0 bits) (PacksIn 0 0 bits) (z bits l) (λ w r. zeros_packed 0 bits w (run_zeros bits w r)) (λ w p. zeros_run bits w (packed_zeros bits w p)))
 
-pub length_characters_row : (next base : ℕ) → length (trie_table 6 0 (base + 1) next ++ trie_table 6 1 (base + 64) next) ≡ 126
-length_characters_row next base =
-    let l = length_trie 5 0 (base + 1) next in
-    let r = length_trie 5 1 (base + 64) next in
-    let both = length-append (trie_table 6 0 (base + 1) next) (trie_table 6 1 (base + 64) next) in
-    omega arith
+pub length_code : (next base : ℕ) → length (code_block code_states base next) ≡ 23
+length_code next base = length_block code_states base next ∙ count_states
 
--- the tree below the first bit
-pub record ReadsTrees (table : List (List Edge)) (lo n bits base q : ℕ) : Type 0 where
+-- the states below the first bit
+pub record ReadsCode (table : List (List Edge)) (lo n bits base q : ℕ) : Type 0 where
   pub low : Reads table (base + 1) q (Code 6 0 (PacksIn (lo - 1) n (bits - 7)))
-  pub high : Reads table (base + 64) q (Code 6 1 (PacksIn (lo - 1) n (bits - 7)))
+  pub high : Reads table (base + 2) q (Code 6 1 (PacksIn (lo - 1) n (bits - 7)))
 
-reads_trees : (table : List (List Edge)) (lo n bits base next q : ℕ) → Has table (base + 1) (trie_table 6 0 (base + 1) next ++ trie_table 6 1 (base + 64) next) → base + 127 ≤ q → Reads table next q (PacksIn (lo - 1) n (bits - 7)) → ReadsTrees table lo n bits base q
-reads_trees table lo n bits base next q h l r =
-    let count = length_trie 5 0 (base + 1) next in
-    let place : base + 1 + length (trie_table 6 0 (base + 1) next) ≡ base + 64 = omega arith in
-    let second : Has table (base + 64) (trie_table 6 1 (base + 64) next) = subst (λ (k : ℕ). Has table k (trie_table 6 1 (base + 64) next)) place (has_right table (base + 1) (trie_table 6 0 (base + 1) next) (trie_table 6 1 (base + 64) next) h) in
+reads_code : (table : List (List Edge)) (lo n bits base next q : ℕ) → Has table (base + 1) (code_block code_states (base + 1) next) → base + 24 ≤ q → Reads table next q (PacksIn (lo - 1) n (bits - 7)) → ReadsCode table lo n bits base q
+reads_code table lo n bits base next q h l r =
+    let code : HasCode table (base + 1) next q (PacksIn (lo - 1) n (bits - 7)) = record { states = h; room = omega arith; end = r } in
+    let first : base + 1 + 0 ≡ base + 1 = omega arith in
+    let second : base + 1 + 1 ≡ base + 2 = omega arith in
     record {
-      low = reads_trie table 5 0 (base + 1) next q (PacksIn (lo - 1) n (bits - 7)) (has_left table (base + 1) (trie_table 6 0 (base + 1) next) (trie_table 6 1 (base + 64) next) h) (omega arith) r;
-      high = reads_trie table 5 1 (base + 64) next q (PacksIn (lo - 1) n (bits - 7)) second (omega arith) r;
+      low = subst (λ (k : ℕ). Reads table k q (Code 6 0 (PacksIn (lo - 1) n (bits - 7)))) first (reads_low table (base + 1) next q (PacksIn (lo - 1) n (bits - 7)) code);
+      high = subst (λ (k : ℕ). Reads table k q (Code 6 1 (PacksIn (lo - 1) n (bits - 7)))) second (reads_high table (base + 1) next q (PacksIn (lo - 1) n (bits - 7)) code);
     }
 
-reads_root : (table : List (List Edge)) (lo n bits base q chain : ℕ) → 7 ≤ bits → edges_at table base ≡ root_edges lo bits base q → base < q → ZerosFrom table chain q → bits ≤ chain + 7 * lo → ReadsTrees table lo n bits base q → Reads table base q (PacksIn lo (suc n) bits)
+reads_root : (table : List (List Edge)) (lo n bits base q chain : ℕ) → 7 ≤ bits → edges_at table base ≡ root_edges lo bits base q → base < q → ZerosFrom table chain q → bits ≤ chain + 7 * lo → ReadsCode table lo n bits base q → Reads table base q (PacksIn lo (suc n) bits)
 reads_root table zero n bits base q chain few e l z c r = reads_may table n bits base q few e l r.low r.high (z (bits - 1) (omega arith))
 reads_root table (suc lo) n bits base q chain few e l z c r =
     let less : suc lo - 1 ≡ lo = omega arith in
     let low : Reads table (base + 1) q (Code 6 0 (PacksIn lo n (bits - 7))) = subst (λ (k : ℕ). Reads table (base + 1) q (Code 6 0 (PacksIn k n (bits - 7)))) less r.low in
-    let high : Reads table (base + 64) q (Code 6 1 (PacksIn lo n (bits - 7))) = subst (λ (k : ℕ). Reads table (base + 64) q (Code 6 1 (PacksIn k n (bits - 7)))) less r.high in
+    let high : Reads table (base + 2) q (Code 6 1 (PacksIn lo n (bits - 7))) = subst (λ (k : ℕ). Reads table (base + 2) q (Code 6 1 (PacksIn k n (bits - 7)))) less r.high in
     reads_must table lo n bits base q few e l low high
 
-pub reads_characters : (table : List (List Edge)) (n lo bits base q chain : ℕ) → Has table base (characters_table lo (suc n) bits base q) → lo ≤ suc n → 7 * suc n ≤ bits → bits ≤ chain + 7 * lo → base + 127 * suc n ≤ q → ZerosFrom table chain q → Reads table base q (PacksIn lo (suc n) bits)
+pub reads_characters : (table : List (List Edge)) (n lo bits base q chain : ℕ) → Has table base (characters_table lo (suc n) bits base q) → lo ≤ suc n → 7 * suc n ≤ bits → bits ≤ chain + 7 * lo → base + 24 * suc n ≤ q → ZerosFrom table chain q → Reads table base q (PacksIn lo (suc n) bits)
 reads_characters table zero lo bits base q chain h l few most room z =
     let next : ℕ = q - (bits - 7) in
     let row : List Edge = root_edges lo bits base q in
-    let trees : List (List Edge) = trie_table 6 0 (base + 1) next ++ trie_table 6 1 (base + 64) next in
-    let behind = has_tail table base row (trees ++ []) h in
-    let here = has_left table (base + 1) trees [] behind in
+    let states : List (List Edge) = code_block code_states (base + 1) next in
+    let behind = has_tail table base row (states ++ []) h in
+    let here = has_left table (base + 1) states [] behind in
     let rest = reads_zeros table (lo - 1) (bits - 7) chain q z (omega arith) (omega arith) in
-    let both = reads_trees table lo 0 bits base next q here (omega arith) rest in
-    reads_root table lo 0 bits base q chain (omega arith) (has_head table base row (trees ++ []) h) (omega arith) z most both
+    let both = reads_code table lo 0 bits base next q here (omega arith) rest in
+    reads_root table lo 0 bits base q chain (omega arith) (has_head table base row (states ++ []) h) (omega arith) z most both
 reads_characters table (suc n) lo bits base q chain h l few most room z =
-    let next : ℕ = base + 127 in
+    let next : ℕ = base + 24 in
     let row : List Edge = root_edges lo bits base q in
-    let trees : List (List Edge) = trie_table 6 0 (base + 1) next ++ trie_table 6 1 (base + 64) next in
-    let others : List (List Edge) = characters_table (lo - 1) (suc n) (bits - 7) (base + 127) q in
-    let behind = has_tail table base row (trees ++ others) h in
-    let count = length_characters_row next base in
-    let place : base + 1 + length trees ≡ base + 127 = omega arith in
-    let block : Has table (base + 127) others = subst (λ (k : ℕ). Has table k others) place (has_right table (base + 1) trees others behind) in
-    let rest = reads_characters table n (lo - 1) (bits - 7) (base + 127) q chain block (omega arith) (omega arith) (omega arith) (omega arith) z in
-    let both = reads_trees table lo (suc n) bits base next q (has_left table (base + 1) trees others behind) (omega arith) rest in
-    reads_root table lo (suc n) bits base q chain (omega arith) (has_head table base row (trees ++ others) h) (omega arith) z most both
+    let states : List (List Edge) = code_block code_states (base + 1) next in
+    let others : List (List Edge) = characters_table (lo - 1) (suc n) (bits - 7) (base + 24) q in
+    let behind = has_tail table base row (states ++ others) h in
+    let count = length_code next (base + 1) in
+    let place : base + 1 + length states ≡ base + 24 = omega arith in
+    let block : Has table (base + 24) others = subst (λ (k : ℕ). Has table k others) place (has_right table (base + 1) states others behind) in
+    let rest = reads_characters table n (lo - 1) (bits - 7) (base + 24) q chain block (omega arith) (omega arith) (omega arith) (omega arith) z in
+    let both = reads_code table lo (suc n) bits base next q (has_left table (base + 1) states others behind) (omega arith) rest in
+    reads_root table lo (suc n) bits base q chain (omega arith) (has_head table base row (states ++ others) h) (omega arith) z most both
 
-pub length_characters : (hi lo bits base q : ℕ) → length (characters_table lo hi bits base q) ≡ 127 * hi
+pub length_characters : (hi lo bits base q : ℕ) → length (characters_table lo hi bits base q) ≡ 24 * hi
 length_characters zero lo bits base q = omega arith
 length_characters (suc n) lo bits base q =
-    let row = length_characters_row (next_character n bits base q) base in
-    let rest = length_characters n (lo - 1) (bits - 7) (base + 127) q in
-    let both = length-append (trie_table 6 0 (base + 1) (next_character n bits base q) ++ trie_table 6 1 (base + 64) (next_character n bits base q)) (characters_table (lo - 1) n (bits - 7) (base + 127) q) in
+    let row = length_code (next_character n bits base q) (base + 1) in
+    let rest = length_characters n (lo - 1) (bits - 7) (base + 24) q in
+    let both = length-append (code_block code_states (base + 1) (next_character n bits base q)) (characters_table (lo - 1) n (bits - 7) (base + 24) q) in
     omega arith
 
 packs_within : (lo hi bits : ℕ) (w : List ℕ) → PacksIn lo hi bits w → (length w ≡ bits) × PacksWithin lo hi w
@@ -311,16 +307,16 @@ within_packs lo hi bits w h =
     let most = h.1.most in
     record { value = h.1.packed.value; packed = h.1.packed.packed; least = omega arith; most = omega arith; count = h.0 }
 
-pub reads_ascii : (table : List (List Edge)) (lo hi bits base q : ℕ) → Has table base (ascii_table lo hi bits base) → Ascends table → 1 ≤ lo → lo ≤ hi → 7 * hi ≤ bits → q ≡ base + 127 * hi + (bits - 7 * lo) → Reads table base q (IsWord (Ascii7 lo hi bits))
+pub reads_ascii : (table : List (List Edge)) (lo hi bits base q : ℕ) → Has table base (ascii_table lo hi bits base) → Ascends table → 1 ≤ lo → lo ≤ hi → 7 * hi ≤ bits → q ≡ base + 24 * hi + (bits - 7 * lo) → Reads table base q (IsWord (Ascii7 lo hi bits))
 reads_ascii table lo zero bits base q h a some l few e = absurd (omega arith)
 reads_ascii table lo (suc n) bits base q h a some l few e =
-    let end : ℕ = base + 127 * suc n + (bits - 7 * lo) in
+    let end : ℕ = base + 24 * suc n + (bits - 7 * lo) in
     let front : List (List Edge) = characters_table lo (suc n) bits base end in
-    let tail : List (List Edge) = run_table 0 0 (bits - 7 * lo) (base + 127 * suc n) in
+    let tail : List (List Edge) = run_table 0 0 (bits - 7 * lo) (base + 24 * suc n) in
     let count = length_characters (suc n) lo bits base end in
-    let place : base + length front ≡ base + 127 * suc n = omega arith in
-    let chain : Has table (base + 127 * suc n) tail = subst (λ (k : ℕ). Has table k tail) place (has_right table base front tail h) in
-    let zeros = zeros_from table (bits - 7 * lo) (base + 127 * suc n) end chain a refl in
+    let place : base + length front ≡ base + 24 * suc n = omega arith in
+    let chain : Has table (base + 24 * suc n) tail = subst (λ (k : ℕ). Has table k tail) place (has_right table base front tail h) in
+    let zeros = zeros_from table (bits - 7 * lo) (base + 24 * suc n) end chain a refl in
     let whole = reads_characters table n lo bits base end (bits - 7 * lo) (has_left table base front tail h) l few (omega arith) (omega arith) zeros in
     let here : Reads table base q (PacksIn lo (suc n) bits) = subst (λ (k : ℕ). Reads table base k (PacksIn lo (suc n) bits)) (sym e) whole in
     reads_as table base q (PacksIn lo (suc n) bits) (IsWord (Ascii7 lo (suc n) bits)) here

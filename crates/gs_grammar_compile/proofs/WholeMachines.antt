@@ -92,9 +92,9 @@ item_count (NumPad bits n) base i = bound_count bits (digits_greatest bits n) ba
 item_count (Num bits greatest) base i = bound_count bits greatest base
 item_count (NumStr bits hi) base i = ones_count bits hi base
 item_count (Ascii7 lo hi bits) base i =
-    let c = length_characters hi lo bits base (base + 127 * hi + (bits - 7 * lo)) in
-    let r = run_count 0 0 (bits - 7 * lo) (base + 127 * hi) in
-    let both = length-append (characters_table lo hi bits base (base + 127 * hi + (bits - 7 * lo))) (run_table 0 0 (bits - 7 * lo) (base + 127 * hi)) in
+    let c = length_characters hi lo bits base (base + 24 * hi + (bits - 7 * lo)) in
+    let r = run_count 0 0 (bits - 7 * lo) (base + 24 * hi) in
+    let both = length-append (characters_table lo hi bits base (base + 24 * hi + (bits - 7 * lo))) (run_table 0 0 (bits - 7 * lo) (base + 24 * hi)) in
     omega arith
 item_count (Fill a b) base i = let f = fill_count a (b - a) base in let o = fill_bounds a b i in let x = o.1 in omega arith
 

@@ -24,7 +24,7 @@ item_states (Esc lo hi) = 4 * hi
 item_states (NumPad bits n) = 2 * bits
 item_states (Num bits greatest) = 2 * bits
 item_states (NumStr bits hi) = layer_states hi * bits
-item_states (Ascii7 lo hi bits) = 127 * hi + (bits - 7 * lo)
+item_states (Ascii7 lo hi bits) = 24 * hi + (bits - 7 * lo)
 item_states (Fill a b) = b
 
 -- the edges of the states of an item, numbered from this number on; the state after them is its end

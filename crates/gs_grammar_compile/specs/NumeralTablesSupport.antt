@@ -1,5 +1,5 @@
 -- Definitions for proofs and private functions, in addition to those of NumeralTables.antt.
-use Rattle.std.specs.Prelude.{◌≡◌, ℕ, ◌+◌, ◌-◌, List, ◌++◌, decimal, length}
+use Rattle.std.specs.Prelude.{◌≡◌, ℕ, ◌+◌, List, ◌++◌, decimal, length}
 use Rattle.gs_grammar_machine.specs.declared.edge.Edge.{Edge}
 use Rattle.gs_grammar_compile.specs.NumeralTables.{numeral_table}
 

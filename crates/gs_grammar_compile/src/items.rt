@@ -41,7 +41,7 @@ pub fn add_item(alloc: Global, table: &mut Table, item: &Item) -> Result<(), Mem
         Item::NumPad { bits, n } => add_bound(table, *bits, greatest_number(*bits, *n)),
         Item::Num { bits, max } => add_bound(table, *bits, *max),
         Item::NumStr { bits, hi } => add_ones(alloc, table, *bits, *hi),
-        Item::Ascii7 { lo, hi, bits } => add_packed(alloc, table, *lo, *hi, *bits),
+        Item::Ascii7 { lo, hi, bits } => add_packed(table, *lo, *hi, *bits),
         Item::Fill { a, b } => add_fill(table, usize::from(*a), usize::from(*b)),
     }
 }

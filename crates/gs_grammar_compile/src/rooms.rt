@@ -20,10 +20,7 @@ fn room_of(item: &Item) -> (usize, usize) {
         }
         Item::Ascii7 { lo: _, hi, bits } => {
             let zeros = usize::from(*bits);
-            (
-                127 * usize::from(*hi) + zeros,
-                209 * usize::from(*hi) + zeros,
-            )
+            (24 * usize::from(*hi) + zeros, 44 * usize::from(*hi) + zeros)
         }
         Item::Fill { a: _, b } => (usize::from(*b), 1 + usize::from(*b)),
     }

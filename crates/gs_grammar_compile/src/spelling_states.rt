@@ -32,7 +32,7 @@ fn last_row(
 ) -> Result<Vec<Edge>, Memory>
     ensures { IfOk result (λ row. row.items ≡ last_or_next lo more ranges.now next end) }
 {
-    let mut row = Vec::new(alloc);
+    let mut row = Vec::with_capacity(alloc, 16)?;
     if more == 0 {
         push_ranges(&mut row, ranges, end)?;
         return Ok(row);
