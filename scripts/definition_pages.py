@@ -185,7 +185,7 @@ def theorem(specs, entries):
             if lines is None:
                 return block[0]
             texts.append("".join(f"{line}\n" for line in [head[0], *lines]))
-        return "```\n" + "\n".join(texts) + "```"
+        return "```\n" + "".join(texts) + "```"
 
     def linked(found):
         node = next((it for it in entries.order if it.name == found[1]), None)
