@@ -154,7 +154,7 @@ errors_end beside href i further all so_far = rw (so_far, drop_all href i all) r
 
 -- ---- bytes of places
 
-plain_small : (c : ℕ) → is_place_byte c ≡ true → c < 128
+pub plain_small : (c : ℕ) → is_place_byte c ≡ true → c < 128
 unfolding is_unescaped
 plain_small c h = grind (arith, nat_tests)
 
