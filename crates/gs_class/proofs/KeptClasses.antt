@@ -159,6 +159,7 @@ record NotRejected (ais : List AiRow) (earlier : List ClassRow) (row : ClassRow)
   none_bad : position is_bad_item row.items ≡ None
   small : size_of_all (alone (present row.items)) ≤ most_symbols
   is : is_class ais earlier row ≡ true
+  none_same : position (is_same_row row) earlier ≡ None
 
 passed : (ais : List AiRow) (rows : List ClassRow) (i : ℕ) (row : ClassRow) → row_rejections ais rows (i, row) ≡ [] → NotRejected ais (take i rows) row
 unfolding row_rejections
@@ -174,6 +175,7 @@ passed ais rows i row h =
       none_bad = none_listed (λ k. BadItem i k) (position is_bad_item row.items) third.0;
       small = within_limit (size_of_all (alone (present row.items))) most_symbols (Size i) third.1;
       is = not_rejected (is_class ais (take i rows) row) (Mismatch i) second.1;
+      none_same = none_listed (λ j. Duplicate j i) (position (is_same_row row) (take i rows)) first.1;
     }
 
 not_rejected_at : (ais : List AiRow) (rows : List ClassRow) (i : ℕ) (row : ClassRow) → class_rejections ais rows ≡ [] → slice_get rows i ≡ Some row → NotRejected ais (take i rows) row
@@ -218,6 +220,10 @@ class_at ais rows i row none at =
 -- the rows before a row agree with it
 pub agree_at : (ais : List AiRow) (rows : List ClassRow) (i : ℕ) (row : ClassRow) → class_rejections ais rows ≡ [] → slice_get rows i ≡ Some row → list_all (agrees row) (take i rows) ≡ true
 agree_at ais rows i row none at = (rules_kept ais (take i rows) row (not_rejected_at ais rows i row none at).is).agree
+
+-- no row before a row is the same
+pub none_same_at : (ais : List AiRow) (rows : List ClassRow) (i : ℕ) (row : ClassRow) → class_rejections ais rows ≡ [] → slice_get rows i ≡ Some row → position (is_same_row row) (take i rows) ≡ None
+none_same_at ais rows i row none at = (not_rejected_at ais rows i row none at).none_same
 
 -- the conditions for making a class of its row
 pub record CanBeMade (row : ClassRow) : Type 0 where

@@ -8,6 +8,7 @@ pub mod ClassIdentities
 pub mod KeyDigits
 pub mod WrittenItems
 pub mod Loading
+pub mod ReadBack
 pub mod ReadClasses
 pub mod OneName
 pub mod OneClass

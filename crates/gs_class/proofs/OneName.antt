@@ -25,7 +25,7 @@ pub record IsOnePair (row other : ClassRow) : Type 0 where
   pub key : row.key ≡ other.key
   pub element : row.element ≡ other.element
 
-all_at : {X : Type 0} (p : X → Bool) (xs : List X) (i : ℕ) (x : X) → list_all p xs ≡ true → slice_get xs i ≡ Some x → p x ≡ true
+pub all_at : {X : Type 0} (p : X → Bool) (xs : List X) (i : ℕ) (x : X) → list_all p xs ≡ true → slice_get xs i ≡ Some x → p x ≡ true
 all_at p [] i x h at = absurd (let e : None ≡ Some x = at in cc)
 all_at p (y ∷ ys) zero x h at = let same : y ≡ x = cc in rw (← same) (and_parts (p y) (list_all p ys) h).0
 all_at p (y ∷ ys) (suc i) x h at = all_at p ys i x (and_parts (p y) (list_all p ys) h).1 at

@@ -1,4 +1,4 @@
-ghost use Rattle.std.specs.Prelude.{◌≡◌, ℕ, List, Option, Ok, Result};
+ghost use Rattle.std.specs.Prelude.{◌≡◌, ℕ, List, Option, Ok, Result, Some};
 ghost use Rattle.gs_ai.specs.declared.row.AiRow.{AiRow};
 ghost use Rattle.gs_ident.specs.Elements.{Elements};
 ghost use Rattle.gs_ident.specs.Identities.{IsMadeWith};
@@ -27,6 +27,14 @@ pub fn what_is_written_is_read(table: &AiTable)
     // only for the proof: the rows satisfy the rules of application identifiers
     let _ = table.rows();
 }
+
+/// States that an identity that is read of a class URI is written by the company prefix length of the class that read it, and
+/// never rejected, whatever the prefixes. The set is of a table.
+pub fn what_is_read_is_written()
+    ensures { (ais : List AiRow) (set : ClassRows) (prefixes : List PrefixEntry) (text : List ℕ)
+        (identity : Elements) → IsOfTable ais set → (read : IsClass set text identity)
+        → (written : List ℕ) × (class_answer set prefixes (Some read.class.gcp) identity ≡ Ok written) }
+{}
 
 /// States that all bytes have exactly one result of `ClassSet::load`, apart from the text of an ambiguous set. The built-in
 /// rows of `ClassSet::builtin` have one too.

@@ -39,6 +39,8 @@ mod writer;
 
 pub use class_set::ClassSet;
 pub use error::{ClassFault, ClassLoadFault, ClassWriteFault};
-pub use laws::{classes_have_one_answer, one_class, what_is_written_is_read};
+pub use laws::{
+    classes_have_one_answer, one_class, what_is_read_is_written, what_is_written_is_read,
+};
 pub use reader::read_class;
 pub use writer::write_class;

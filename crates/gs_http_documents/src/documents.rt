@@ -1,4 +1,4 @@
-ghost use Rattle.std.specs.Prelude.{◌≡◌, IfOk, map, true};
+ghost use Rattle.std.specs.Prelude.{◌≡◌, IfOk, Ok, false, map, true};
 ghost use Rattle.std.specs.List.{list_all};
 ghost use Rattle.gs_http_documents.specs.References.{document_for};
 
@@ -98,7 +98,8 @@ pub fn document_for(
     identity: &Identity,
     doc: LinkDoc,
 ) -> Result<LinkDoc, Memory>
-    ensures { IfOk result (λ made. made ≡ document_for templates identity.now doc) }
+    ensures document { IfOk result (λ made. made ≡ document_for templates identity.now doc) }
+    ensures own { templates ≡ false → result ≡ Ok doc }
 {
     if !templates {
         return Ok(doc);

@@ -1,5 +1,6 @@
-ghost use Rattle.std.specs.Prelude.{◌≡◌, IfOk};
+ghost use Rattle.std.specs.Prelude.{◌≡◌, IfOk, Ok, false};
 ghost use Rattle.gs_http_documents.specs.References.{reference_for, reference_of};
+ghost use Rattle.gs_http_documents.specs.declared.references.Reference.TheVariants.{Lent};
 
 use gs_chars::{Memory, Text};
 use gs_ident::Identity;
@@ -35,8 +36,9 @@ pub fn reference_for<'a>(
     identity: &Identity,
     href: &'a [u8],
 ) -> Result<Reference<'a>, Memory>
-    ensures { IfOk result (λ reference. reference_of reference
+    ensures reference { IfOk result (λ reference. reference_of reference
         ≡ reference_for templates identity.now href.now) }
+    ensures own { templates ≡ false → result ≡ Ok (Lent href.entry) }
 {
     if !templates {
         return Ok(Reference::Lent(href));

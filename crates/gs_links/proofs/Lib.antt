@@ -6,4 +6,5 @@ pub mod LanguageLemmas
 pub mod VocabularyLemmas
 pub mod LoadLemmas
 pub mod SameLinks
+pub mod SameLoads
 pub mod ShapeLemmas

@@ -21,7 +21,7 @@ link_at voc name target (Ok anchor) = link_with anchor (expanded voc name) targe
 link_at voc name target (Err why) = []
 
 -- the links that are loaded of a link of a document
-abbrev link_by : List AiRow → List ℕ → List ℕ × List ℕ × Target → List Link
+abbrev pub link_by : List AiRow → List ℕ → List ℕ × List ℕ × Target → List Link
 link_by table voc link = link_at voc link.1 link.2 (anchor_answer table link.0)
 
 -- the links that are loaded of a relation
@@ -55,7 +55,7 @@ one_context : (table : List AiRow) (voc : List ℕ) (context : Context) → flat
 unfolding context_links
 one_context table voc context = context_by table voc context.anchor context.relations ∙ relations_by voc context.relations (anchor_answer table context.anchor)
 
-all_links : (table : List AiRow) (voc : List ℕ) (contexts : List Context) → flat_map (link_by table voc) (links_of_document contexts) ≡ flat_map (context_links table voc) contexts
+pub all_links : (table : List AiRow) (voc : List ℕ) (contexts : List Context) → flat_map (link_by table voc) (links_of_document contexts) ≡ flat_map (context_links table voc) contexts
 all_links table voc [] = refl
 all_links table voc (context ∷ contexts) =
     flat_map-append (link_by table voc) (links_of_context context) (links_of_document contexts)

@@ -13,6 +13,7 @@ use Rattle.gs_dlink.specs.declared.error.LinkFault.{LinkFault}
 use Rattle.gs_ident.specs.Elements.{Elements}
 use Rattle.gs_ident.specs.Identities.{identity_of_pairs}
 use Rattle.gs_ident.specs.declared.errors.IdentFault.{IdentFault}
+use Rattle.gs_linkset.specs.LinkShapes.{links_of_context}
 use Rattle.gs_linkset.specs.declared.link_types.Context.{Context}
 use Rattle.gs_linkset.specs.declared.link_types.Relation.{Relation}
 use Rattle.gs_linkset.specs.declared.link_types.Target.{Target}
@@ -124,6 +125,10 @@ context_links table voc context = links_by voc context.relations (anchor_answer 
 -- trusted, RFC 9264, section 4.2: the links, in the order of the document
 unfoldable pub links_of : List AiRow → List ℕ → List Context → List Link
 links_of table voc contexts = flat_map (context_links table voc) contexts
+
+-- trusted, own: the context has a link
+abbrev pub has_link : Context → Bool
+has_link context = not (is_empty (links_of_context context))
 
 -- ---- the answer
 

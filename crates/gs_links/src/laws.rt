@@ -1,11 +1,12 @@
 ghost use Rattle.std.specs.Prelude.{◌≡◌, ◌≤◌, ◌↔◌, ℕ, List, Ok, Some, length, slice_get, true};
+ghost use Rattle.std.specs.List.{list_all};
 ghost use Rattle.gs_ai.specs.declared.row.AiRow.{AiRow};
 ghost use Rattle.gs_ident.specs.Elements.{Elements, first_qualifiers};
 ghost use Rattle.gs_linkset.specs.LinkShapes.{links_of_document};
 ghost use Rattle.gs_linkset.specs.declared.link_types.Context.{Context};
 ghost use Rattle.gs_links.specs.Choices.{IsAmong, chosen, chosen_depth, depth_of, is_candidate, is_prefix};
 ghost use Rattle.gs_links.specs.Documents.{AreNamesOf, names_of};
-ghost use Rattle.gs_links.specs.Loads.{expanded, keeps_names, load_answer};
+ghost use Rattle.gs_links.specs.Loads.{expanded, has_link, keeps_names, load_answer};
 ghost use Rattle.gs_links.specs.declared.link.Link.{Link};
 ghost use Rattle.gs_links.specs.declared.link.Want.{Want};
 
@@ -51,6 +52,14 @@ pub fn same_links_same_store()
     ensures { (table : List AiRow) (voc : List ℕ) (a b : List Context) (x y : List Link)
         → links_of_document a ≡ links_of_document b → load_answer table voc a ≡ Ok x
         → load_answer table voc b ≡ Ok y → x ≡ y }
+{}
+
+/// States that a linkset with the links of one that loads, in one order, loads to the same links if each of its contexts has a
+/// link.
+pub fn same_links_load()
+    ensures { (table : List AiRow) (voc : List ℕ) (a b : List Context) (links : List Link)
+        → links_of_document a ≡ links_of_document b → list_all has_link b ≡ true
+        → load_answer table voc a ≡ Ok links → load_answer table voc b ≡ Ok links }
 {}
 
 /// States that the names of the links' relations are the one ascending list of these names without `anchor`.

@@ -48,7 +48,7 @@ pub use counts::is_over;
 pub use error::{AnchorWhy, StoreFault};
 pub use laws::{
     by_key_and_qualifiers, deeper_hides, expanded_once, names_of_relations, one_anchor,
-    prefixes_of, same_links_same_store,
+    prefixes_of, same_links_load, same_links_same_store,
 };
 pub use link::{Chosen, Link, Want};
 pub use store::Store;

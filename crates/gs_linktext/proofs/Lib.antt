@@ -9,6 +9,7 @@ pub mod ReadLemmas
 pub mod ShapedLemmas
 pub mod SomeNames
 pub mod SomeReading
+pub mod SpellableRead
 pub mod SpelledAttrs
 pub mod SpelledBytes
 pub mod SpelledGrammar

@@ -40,7 +40,7 @@ all_imply s t f [] h = refl
 all_imply s t f (c ∷ xs) h = and_true (t c) (list_all t xs) (f c (and_first (s c) (list_all s xs) h)) (all_imply s t f xs (and_second (s c) (list_all s xs) h))
 
 -- a byte of a list that passes passes
-any_in : (test : ℕ → Bool) (c : ℕ) (xs : List ℕ) → list_any (λ x. x == c) xs ≡ true → list_all test xs ≡ true → test c ≡ true
+pub any_in : (test : ℕ → Bool) (c : ℕ) (xs : List ℕ) → list_any (λ x. x == c) xs ≡ true → list_all test xs ≡ true → test c ≡ true
 any_in test c [] h all = absurd (let f : false ≡ true = h in cc)
 any_in test c (x ∷ xs) h all = elim (true_or_false (x == c)) [
   | inl t ↦ let same : x ≡ c = equal_number x c t in rw (← same) (and_first (test x) (list_all test xs) all)

@@ -27,6 +27,12 @@ pub fn written_is_read()
         → IsReadError (spelled doc) error → error ≡ Memory }
 {}
 
+/// States that each link of a text that is read can be spelled, so `write` spells what `read` reads, or fails with `Memory`.
+pub fn read_is_spelled()
+    ensures { (bytes : List ℕ) (contexts : List Context) → IsReadAs bytes contexts
+        → position cannot_spell (links_of_document contexts) ≡ None }
+{}
+
 /// States that links have at most one cut into contexts.
 pub fn one_cut()
     ensures { (links : List (List ℕ × List ℕ × Target)) (c d : List Context) → IsCut links c

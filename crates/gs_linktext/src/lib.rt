@@ -2,7 +2,7 @@
 //! (RFC 8288, section 3), read and written.
 //!
 //! - `read` reads a linkset from a text, or gives its first error; `write` spells one.
-//! - A written document is read as the same links: `written_is_read`.
+//! - A written document is read as the same links: `written_is_read`. A read one can be written: `read_is_spelled`.
 //! - `one_lexing`, `one_cut`, `one_reading`, `some_reading`, `spelled_is_read`: the other laws of reading and writing.
 //!
 //! # Example
@@ -37,6 +37,8 @@ mod types;
 mod writer;
 
 pub use gs_linktext_grammar::{LinkTextFault, one_lexing};
-pub use laws::{one_cut, one_reading, some_reading, spelled_is_read, written_is_read};
+pub use laws::{
+    one_cut, one_reading, read_is_spelled, some_reading, spelled_is_read, written_is_read,
+};
 pub use reader::read;
 pub use writer::{LinkTextWriteFault, write};

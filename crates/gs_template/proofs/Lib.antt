@@ -1,2 +1,3 @@
+pub mod BraceLemmas
 pub mod PartLemmas
 pub mod TemplateLemmas

@@ -147,7 +147,7 @@ module _ (beside : List (List ℕ)) (href : List ℕ) (i c : ℕ) (within : i < 
 
 -- ---- bytes of places
 
-plain_small : (c : ℕ) → is_place_byte c ≡ true → c < 128
+pub plain_small : (c : ℕ) → is_place_byte c ≡ true → c < 128
 unfolding is_unescaped
 plain_small c h = grind (arith, nat_tests)
 

@@ -1,7 +1,9 @@
-ghost use Rattle.std.specs.Prelude.{◌≡◌, ◌<◌, ◌↔◌, ℕ, All, List, filter, true};
-ghost use Rattle.std.specs.List.{list_all};
+ghost use Rattle.std.specs.Prelude.{◌≡◌, ◌<◌, ◌↔◌, [], ℕ, All, List, false, filter, true};
+ghost use Rattle.std.specs.List.{list_all, list_any};
+ghost use Rattle.gs_ai.specs.declared.row.AiRow.{AiRow};
 ghost use Rattle.gs_ident.specs.Elements.{Elements};
 ghost use Rattle.gs_ident.specs.Links.{percent_encoded};
+ghost use Rattle.gs_template.specs.Errors.{is_brace, place_errors};
 ghost use Rattle.gs_template.specs.Templates.{AreParts, HoldsBytes, Part, filled, is_delimiter, is_place_byte, parts};
 
 /// States that the expansion of a place has only letters, digits, `-`, `.`, `_` and `%`.
@@ -20,4 +22,10 @@ pub fn values_add_no_delimiter()
 /// missed.
 pub fn parts_of_a_template()
     ensures { (href : List ℕ) (found : List Part) → (found ≡ parts href) ↔ AreParts found href }
+{}
+
+/// States that a filled template has no brace if `places_ok` allows the template, whatever the key and the identity.
+pub fn no_brace_is_left()
+    ensures { (table : List AiRow) (key href : List ℕ) (identity : Elements) → HoldsBytes identity
+        → place_errors table key href ≡ [] → list_any is_brace (filled href identity) ≡ false }
 {}

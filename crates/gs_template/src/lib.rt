@@ -28,5 +28,7 @@ mod places;
 
 pub use error::PlaceFault;
 pub use expansion::expand;
-pub use laws::{parts_of_a_template, places_hold_plain_bytes, values_add_no_delimiter};
+pub use laws::{
+    no_brace_is_left, parts_of_a_template, places_hold_plain_bytes, values_add_no_delimiter,
+};
 pub use places::places_ok;
