@@ -1,10 +1,5 @@
-<<<<<<< HEAD
--- What the reading of one option, of a group and of a level says.
-use Rattle.std.proofs.Common.{◌≡◌, ℕ, ◌<◌, ◌≤◌, ◌+◌, Bool, true, false, IsTrue, List, [], ◌∷◌, length, get_or, drop, suc, Some, sym, ◌∙◌, ap, inl, inr, arith, add-one}
-=======
 -- The answers of reading by one option, by a group and by a level.
 use Rattle.std.proofs.Common.{◌≡◌, ℕ, ◌<◌, ◌≤◌, ◌+◌, Bool, true, false, IsTrue, List, [], ◌∷◌, length, get_or, drop, suc, Some, sym, ◌∙◌, ap, inl, inr, arith, add-one}
->>>>>>> f4143ae837538d0a87f240bf0b1e499e2626e96a
 use Rattle.std.specs.List.{slice_get}
 use Rattle.std.specs.Option.{option_map}
 use Rattle.std.proofs.lemmas.Bool.{cases_lt}

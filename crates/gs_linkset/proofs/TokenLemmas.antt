@@ -1,10 +1,5 @@
-<<<<<<< HEAD
--- What is appended token by token: the tokens of the tree of what is written.
-use Rattle.std.proofs.Common.{◌≡◌, ◌≤◌, ℕ, zero, suc, ◌+◌, Bool, true, false, if◌then◌else◌, List, [], ◌∷◌, ◌++◌, length, map, take, drop, codes, refl, sym, ap, ◌∙◌, Ordering, Less, Equal, Greater, arith, append_assoc, append-nil}
-=======
 -- The text is appended token by token: these are the tokens of the document's tree.
 use Rattle.std.proofs.Common.{◌≡◌, ◌≤◌, ℕ, zero, suc, ◌+◌, Bool, true, false, if◌then◌else◌, List, [], ◌∷◌, ◌++◌, length, map, take, drop, codes, refl, sym, ap, ◌∙◌, Ordering, Less, Equal, Greater, arith, append_assoc, append-nil}
->>>>>>> f4143ae837538d0a87f240bf0b1e499e2626e96a
 use Rattle.std.specs.Prelude.{not}
 use Rattle.std.specs.Cmp.Lexicographic.{slice_cmp}
 use Rattle.std.specs.List.{list_all}
@@ -112,12 +107,7 @@ module _ {X : Type 0} (name : X → List ℕ) (see : X → Data) where
       let step : count_below k (map name (drop i xs)) ≡ 0 = rw (at, above) refl in
       omega (arith, step, so_far)
 
-<<<<<<< HEAD
--- ---- the shape of what is written
-=======
-
 -- ---- the shape of the written text
->>>>>>> f4143ae837538d0a87f240bf0b1e499e2626e96a
 
 pub all_take : {X : Type 0} (t : X → Bool) (n : ℕ) (xs : List X) → list_all t xs ≡ true → list_all t (take n xs) ≡ true
 all_take t zero xs h = refl

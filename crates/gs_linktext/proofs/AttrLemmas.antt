@@ -31,12 +31,7 @@ values_by q p (x ∷ params) = elim (true_or_false (bytes_eq x.name q)) [
   | inr f ↦ rw f (values_by q p params)
 ]
 
-<<<<<<< HEAD
--- ---- what entries give
-=======
-
 -- ---- the values of entries
->>>>>>> f4143ae837538d0a87f240bf0b1e499e2626e96a
 
 module _ {E X : Type 0} (h : E → Option X) where
   pub given_from : (es : List E) (i : ℕ) (x : X) → slice_get (filter_map h es) i ≡ Some x → (j : ℕ) × (e : E) × (slice_get es j ≡ Some e) × (h e ≡ Some x)
