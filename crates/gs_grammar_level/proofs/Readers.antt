@@ -36,8 +36,6 @@ cuts_derived form items symbols cuts list m r c e =
 
 -- one option
 
-}
-
 pub none_by_probe : (options : List OptionForm) (w : List ℕ) (n place : ℕ) (literal : List ℕ) (b : Bool) → ((option : OptionForm) → slice_get options n ≡ Some option → HasLiteral option.items place literal) → (StandsAt place literal w → IsTrue b) → b ≡ false → NoneReads options n (n + 1) w
 none_by_probe options w n place literal b has test f = record {
   none = λ k option low high g d.
