@@ -6,7 +6,7 @@ use Rattle.gs_chars.proofs.TruthsAndLists.{read_at, within}
 use Rattle.gs_grammar_machine.specs.Machines.{AutoForm}
 use Rattle.gs_grammar_machine.specs.MachinesSupport.{start_of}
 use Rattle.gs_ambig.specs.Shares.{Share, SharesNone, IsFirstFrom, IsFirstDouble}
-use Rattle.gs_ambig.specs.Searches.{Leads, IsDead, Parts, IsSingle}
+use Rattle.gs_ambig.specs.Searches.{Leads, IsDead, HasTwoWalks, IsSingle}
 
 pub share_two : (machines : List AutoForm) (i j : ℕ) (m n : AutoForm) (word : List ℕ) → i < length machines → m ≡ get_or machines i m → j < length machines → n ≡ get_or machines j n → (i ≡ j → ⊥) → Leads m n (start_of m) (start_of n) word → Share machines i j word
 share_two machines i j m n word l e k f d leads = record {
@@ -31,7 +31,7 @@ none_of_two machines i j m n l e k f dead symbols s =
     let whole : Leads s.one s.other (start_of s.one) (start_of s.other) symbols = record { run = s.run; other_run = s.other_run; walk = s.accepts; other_walk = s.other_accepts } in
     dead symbols (rw (a, b) at whole)
 
-pub share_one : (machines : List AutoForm) (i j : ℕ) (m : AutoForm) (word : List ℕ) → i < length machines → m ≡ get_or machines i m → i ≡ j → Parts m (start_of m) word → Share machines i j word
+pub share_one : (machines : List AutoForm) (i j : ℕ) (m : AutoForm) (word : List ℕ) → i < length machines → m ≡ get_or machines i m → i ≡ j → HasTwoWalks m (start_of m) word → Share machines i j word
 share_one machines i j m word l e same parts = record {
   one = m;
   other = m;
@@ -48,7 +48,7 @@ pub none_of_one : (machines : List AutoForm) (i j : ℕ) (m : AutoForm) → i < 
 none_of_one machines i j m l e same single symbols s =
     let a = same_machine machines i m s.one l e s.one_at in
     let b = same_machine machines i m s.other l e (rw (← same) at s.other_at) in
-    let whole : Parts s.one (start_of s.one) symbols = record {
+    let whole : HasTwoWalks s.one (start_of s.one) symbols = record {
       run = s.run;
       other_run = s.other_run;
       walk = s.accepts;

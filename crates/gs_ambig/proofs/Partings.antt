@@ -7,7 +7,7 @@ use Rattle.std.proofs.lemmas.List.Elements.{Contains-push_cases}
 use Rattle.gs_grammar_machine.specs.declared.edge.Edge.{Edge}
 use Rattle.gs_grammar_machine.specs.Walks.{Fits, edges_at, Walk}
 use Rattle.gs_grammar_machine.specs.Machines.{AutoForm, accept_of}
-use Rattle.gs_ambig.specs.Searches.{LeadsBehind, IsDead, IsDeadBehind, Parts, IsSingle, HasNoFork, MarksSingle}
+use Rattle.gs_ambig.specs.Searches.{LeadsBehind, IsDead, IsDeadBehind, HasTwoWalks, IsSingle, HasNoFork, MarksSingle}
 use Rattle.gs_ambig.proofs.Steps.{fits_more, fits_at}
 
 -- forks of the edges that have been handled
@@ -24,12 +24,12 @@ fork_end m edges others i h l e = let all : HasNoFork m edges others = rw (take_
 apart : (p q : ℕ) (ps qs : List ℕ) → p < q → p ∷ ps ≡ q ∷ qs → ⊥
 apart p q ps qs l e = let same : p ≡ q = cc in omega arith
 
-pub parts_here : (m : AutoForm) (p : ℕ) (edges : List Edge) (i : ℕ) (edge : Edge) (word : List ℕ) → edges ≡ edges_at m.table p → i < length edges → edge ≡ get_or edges i edge → LeadsBehind m m edge p (edge.to + 1) word → Parts m p word
+pub parts_here : (m : AutoForm) (p : ℕ) (edges : List Edge) (i : ℕ) (edge : Edge) (word : List ℕ) → edges ≡ edges_at m.table p → i < length edges → edge ≡ get_or edges i edge → LeadsBehind m m edge p (edge.to + 1) word → HasTwoWalks m p word
 parts_here m p edges i edge word e l r b =
     let fits = fits_at edges i edge b.symbol l r b.above b.below in
     let there : Fits (edges_at m.table p) b.symbol edge.to = rw e at fits in
     let high = b.high in
-    let whole : Parts m p (b.symbol ∷ b.rest) = record {
+    let whole : HasTwoWalks m p (b.symbol ∷ b.rest) = record {
       run = edge.to ∷ b.leads.run;
       other_run = b.next ∷ b.leads.other_run;
       walk = (there, b.leads.walk);
@@ -52,7 +52,7 @@ single_more m edges i edge h l e s symbol next f = elim (fits_more edges i edge 
 pub single_empty : (m : AutoForm) (edges : List Edge) (i : ℕ) (edge : Edge) → SingleBy m (take i edges) → i < length edges → edge ≡ get_or edges i edge → edge.hi < edge.lo → SingleBy m (take (i + 1) edges)
 single_empty m edges i edge h l e none = single_more m edges i edge h l e (λ some. absurd (omega arith))
 
-parts_on : (m : AutoForm) (p symbol : ℕ) (edge : Edge) (rest : List ℕ) → Fits (edges_at m.table p) symbol edge.to → Parts m edge.to rest → Parts m p (symbol ∷ rest)
+parts_on : (m : AutoForm) (p symbol : ℕ) (edge : Edge) (rest : List ℕ) → Fits (edges_at m.table p) symbol edge.to → HasTwoWalks m edge.to rest → HasTwoWalks m p (symbol ∷ rest)
 parts_on m p symbol edge rest f b = record {
   run = edge.to ∷ b.run;
   other_run = edge.to ∷ b.other_run;
@@ -61,7 +61,7 @@ parts_on m p symbol edge rest f b = record {
   differ = λ e. b.differ (let whole : edge.to ∷ b.run ≡ edge.to ∷ b.other_run = e in cc);
 }
 
-pub parts_by : (m : AutoForm) (p : ℕ) (edges : List Edge) (i : ℕ) (edge : Edge) (rest word : List ℕ) → edges ≡ edges_at m.table p → i < length edges → edge ≡ get_or edges i edge → edge.lo ≤ edge.hi → Parts m edge.to rest → word ≡ edge.lo ∷ rest → Parts m p word
+pub parts_by : (m : AutoForm) (p : ℕ) (edges : List Edge) (i : ℕ) (edge : Edge) (rest word : List ℕ) → edges ≡ edges_at m.table p → i < length edges → edge ≡ get_or edges i edge → edge.lo ≤ edge.hi → HasTwoWalks m edge.to rest → word ≡ edge.lo ∷ rest → HasTwoWalks m p word
 parts_by m p edges i edge rest word e l r some b w =
     let fits = fits_at edges i edge edge.lo l r (omega arith) some in
     let there : Fits (edges_at m.table p) edge.lo edge.to = rw e at fits in

@@ -63,7 +63,7 @@ abbrev pub MarksDead : AutoForm → AutoForm → List ℕ → Type 0
 MarksDead m n marks = (number : ℕ) → Contains marks number → IsDead m n (number / states_of n) (number % states_of n)
 
 -- trusted, own: the list of symbols has two different walks from the state to the accepting one
-pub record Parts (m : AutoForm) (p : ℕ) (symbols : List ℕ) : Type 0 where
+pub record HasTwoWalks (m : AutoForm) (p : ℕ) (symbols : List ℕ) : Type 0 where
   pub run : List ℕ
   pub other_run : List ℕ
   pub walk : Walk m.table p run symbols (accept_of m)
@@ -72,7 +72,7 @@ pub record Parts (m : AutoForm) (p : ℕ) (symbols : List ℕ) : Type 0 where
 
 -- trusted, own: no list of symbols has
 abbrev pub IsSingle : AutoForm → ℕ → Type 0
-IsSingle m p = (symbols : List ℕ) → Parts m p symbols → ⊥
+IsSingle m p = (symbols : List ℕ) → HasTwoWalks m p symbols → ⊥
 
 -- two edges with one symbol to different states lead on to no list
 abbrev pub HasNoFork : AutoForm → List Edge → List Edge → Type 0

@@ -1,6 +1,6 @@
 ghost use Rattle.std.specs.Prelude.{◌≡◌, ◌*◌, ◌^◌, ◌<◌};
 ghost use Rattle.gs_grammar_machine.specs.Machines.{states_of};
-ghost use Rattle.gs_ambig.specs.Searches.{HasNoForkAt, IfFound, IfNotFound, IsSingle, MarksDead, MarksSingle, Parts};
+ghost use Rattle.gs_ambig.specs.Searches.{HasNoForkAt, IfFound, IfNotFound, IsSingle, MarksDead, MarksSingle, HasTwoWalks};
 
 use crate::marks::Marks;
 use crate::search::{search_behind, with_front};
@@ -19,7 +19,7 @@ fn search_fork(
     requires state { p < states_of m.now }
     requires room { states_of m.now * states_of m.now < 2 ^ 64 }
     requires marked { MarksDead m.now m.now dead.old }
-    ensures found { IfFound result (λ word. Parts m.now p word.items) }
+    ensures found { IfFound result (λ word. HasTwoWalks m.now p word.items) }
     ensures none { IfNotFound result (HasNoForkAt m.now p) }
     ensures marks { MarksDead m.now m.now dead.new }
 {
@@ -45,7 +45,7 @@ pub fn search_forks(
     requires room { states_of m.now * states_of m.now < 2 ^ 64 }
     requires marked_single { MarksSingle m.now single.old }
     requires marked { MarksDead m.now m.now dead.old }
-    ensures found { IfFound result (λ word. Parts m.now p word.items) }
+    ensures found { IfFound result (λ word. HasTwoWalks m.now p word.items) }
     ensures none { IfNotFound result (IsSingle m.now p) }
     ensures marks_single { MarksSingle m.now single.new }
     ensures marks { MarksDead m.now m.now dead.new }

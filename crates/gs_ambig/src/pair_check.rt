@@ -22,9 +22,9 @@ fn shared_word(
     ensures none { IfNotFound result (ShareNothing machines.now i j) }
 {
     if i == j {
-        return search.word_of_one(alloc, &machines[i]);
+        return search.find_ambiguous_word(alloc, &machines[i]);
     }
-    search.word_of_two(alloc, &machines[i], &machines[j])
+    search.find_shared_word(alloc, &machines[i], &machines[j])
 }
 
 /// Returns the first machine, from i on, that shares a list of symbols with machine i, and such a list.

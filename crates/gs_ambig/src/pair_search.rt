@@ -1,7 +1,7 @@
 ghost use Rattle.std.specs.Prelude.{◌≡◌, ◌<◌, ◌*◌, ◌^◌, [], OnOk};
 ghost use Rattle.gs_grammar_machine.specs.Machines.{states_of};
 ghost use Rattle.gs_grammar_machine.specs.MachinesSupport.{start_of};
-ghost use Rattle.gs_ambig.specs.Searches.{BothAccept, IfFound, IfNotFound, IsSingle, NoneInCommon, Parts};
+ghost use Rattle.gs_ambig.specs.Searches.{BothAccept, IfFound, IfNotFound, IsSingle, NoneInCommon, HasTwoWalks};
 
 use crate::forks::search_forks;
 use crate::marks::Marks;
@@ -41,7 +41,7 @@ impl PairSearch {
 
     /// Returns a list of symbols that both machines accept. `None` is returned if and only if there is none. Fails only with
     /// `Memory`.
-    pub fn word_of_two(
+    pub fn find_shared_word(
         &mut self,
         alloc: Global,
         m: &Auto,
@@ -56,8 +56,12 @@ impl PairSearch {
 
     /// Returns a list of symbols with two different accepting runs of the machine. `None` is returned if and only if there is
     /// none. Fails only with `Memory`.
-    pub fn word_of_one(&mut self, alloc: Global, m: &Auto) -> Result<Option<Vec<u8>>, Memory>
-        ensures found { IfFound result (λ word. Parts m.now (start_of m.now) word.items) }
+    pub fn find_ambiguous_word(
+        &mut self,
+        alloc: Global,
+        m: &Auto,
+    ) -> Result<Option<Vec<u8>>, Memory>
+        ensures found { IfFound result (λ word. HasTwoWalks m.now (start_of m.now) word.items) }
         ensures none { IfNotFound result (IsSingle m.now (start_of m.now)) }
     {
         make_ready(&mut self.dead, m, m)?;

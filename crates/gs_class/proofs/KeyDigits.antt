@@ -23,7 +23,7 @@ use Rattle.gs_tables.specs.declared.form.KeyForm.TheVariants.{Digits}
 use Rattle.gs_tables.specs.Rules.{is_digits, is_gcp, is_one, keeps_gcp}
 use Rattle.gs_epc.proofs.LaidAgain.{parts_kept}
 use Rattle.gs_class.specs.declared.row.ClassRow.{ClassRow}
-use Rattle.gs_class.specs.Written.{unchecked}
+use Rattle.gs_class.specs.Written.{without_check_digit}
 use Rattle.gs_class.proofs.KeptClasses.{KeptClass}
 
 -- ---- digits
@@ -97,7 +97,7 @@ pub record AreDigits (n : ℕ) (text : List ℕ) : Type 0 where
 
 module _ (k lead n : ℕ) (value : List ℕ) (is : IsKeyValue k value) (low : lead ≤ 1) (length_is : IsLength (k - 1) lead n) where
   abbrev front : List ℕ
-  front = unchecked value
+  front = without_check_digit value
 
   front_count : length front ≡ k - 1
   front_count =

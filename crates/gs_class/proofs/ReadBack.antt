@@ -34,7 +34,7 @@ use Rattle.gs_class.specs.declared.row.ClassRow.{ClassRow}
 use Rattle.gs_class.specs.Meanings.{IsClass, class_identity, said_by}
 use Rattle.gs_class.specs.Rules.{agrees, class_rejections, is_same_pair, is_same_row}
 use Rattle.gs_class.specs.Sets.{ClassRows, IsOfTable}
-use Rattle.gs_class.specs.Written.{by_length, by_name, class_answer, has_key, is_extra, is_named_by, is_sized, items_at, length_for, lot_of, others_of, said_of, values_for, why_not_lot}
+use Rattle.gs_class.specs.Written.{by_length, by_name, class_answer, has_key, is_extra, is_named_by, is_sized, items_at, length_for, lot_of, others_of, class_fields, values_for, why_not_lot}
 use Rattle.gs_class.proofs.KeptClasses.{agree_at, none_same_at}
 use Rattle.gs_class.proofs.OneName.{all_at}
 use Rattle.gs_class.proofs.SetParts.{RowOf, items_at as level_items, row_of_class}
@@ -204,10 +204,10 @@ module _ (ais : List AiRow) (set : ClassRows) (of : IsOfTable ais set) (i : ℕ)
   lot_is = ap (λ (o : Option Pair). option_map_or (λ (pair : Pair). pair.value) o []) (only_pair class.element element refl)
 
   pub answer : (prefixes : List PrefixEntry) → why_not_lot class.fields (items_at set i) said.serial ≡ None
-      → class_answer set prefixes (Some class.gcp) identity ≡ Ok (written (items_at set i) (values_for (said_of class identity) class.fields))
+      → class_answer set prefixes (Some class.gcp) identity ≡ Ok (written (items_at set i) (values_for (class_fields class identity) class.fields))
   unfolding class_answer by_name by_length length_for
   answer prefixes fits =
-      let held : why_not_lot class.fields (items_at set i) (said_of class identity).serial ≡ None = rw lot_is fits in
+      let held : why_not_lot class.fields (items_at set i) (class_fields class identity).serial ≡ None = rw lot_is fits in
       let some = any_at (has_key identity) set.classes i class at own_key in
       rw (some, naming.1, none_extra, sized, at, held) refl
 
@@ -227,4 +227,4 @@ read_is_written ais set prefixes text identity of read =
     let items : items_at set d.option ≡ d.items = ap (λ (o : Option (List Item)). option_map_or (λ its. its) o []) d.of_level in
     let fits : why_not_lot read.class.fields (items_at set d.option) said.serial ≡ None = rw items word in
     let own = answer ais set of d.option read.class read.named said prefixes fits in
-    (written (items_at set d.option) (values_for (said_of read.class (class_identity read.class said)) read.class.fields), subst (λ (e : Elements). class_answer set prefixes (Some read.class.gcp) e ≡ Ok (written (items_at set d.option) (values_for (said_of read.class (class_identity read.class said)) read.class.fields))) (sym read.is) own)
+    (written (items_at set d.option) (values_for (class_fields read.class (class_identity read.class said)) read.class.fields), subst (λ (e : Elements). class_answer set prefixes (Some read.class.gcp) e ≡ Ok (written (items_at set d.option) (values_for (class_fields read.class (class_identity read.class said)) read.class.fields))) (sym read.is) own)

@@ -28,7 +28,7 @@ use Rattle.gs_class.specs.declared.row.ClassRow.{ClassRow}
 use Rattle.gs_class.specs.Rules.{is_bad_item, is_class_item}
 use Rattle.gs_class.specs.Sets.{class_of}
 use Rattle.gs_epc.specs.Layout.{KeyFields}
-use Rattle.gs_class.specs.Written.{OrMemory, by_items, said_of, value_for, values_for, why_not_lot}
+use Rattle.gs_class.specs.Written.{OrMemory, by_items, class_fields, value_for, values_for, why_not_lot}
 use Rattle.gs_class.specs.WrittenSupport.{CanWrite, HasOneLot, HoldOthers}
 use Rattle.gs_class.proofs.KeptClasses.{KeptClass}
 use Rattle.gs_class.proofs.KeyDigits.{AreDigits, key_of_identity, length_kept, one_of_prefix, prefix_digits, rest_digits}
@@ -140,23 +140,23 @@ module _ (ais : List AiRow) (row : ClassRow) (kept : KeptClass ais row) (identit
   abbrev parts : List FieldItem
   parts = present row.items
 
-  prefix_holds : (k : ℕ) (item : Item) → slice_get parts k ≡ Some (Some Gcp, item) → is_in_bounds false item ≡ true → why_not item (said_of (class_of row) identity).prefix ≡ None
+  prefix_holds : (k : ℕ) (item : Item) → slice_get parts k ≡ Some (Some Gcp, item) → is_in_bounds false item ≡ true → why_not item (class_fields (class_of row) identity).prefix ≡ None
   prefix_holds k item at bounds =
       let is = key_of_identity ais row kept identity made same in
       let long = length_kept (kept.k - 1) row.lead row.gcp (items_of_field Gcp parts) kept.gcp in
       let one = the_one (is_digits row.gcp) (items_of_field Gcp parts) (one_of_prefix (kept.k - 1) row.lead row.gcp (items_of_field Gcp parts) kept.gcp) in
       let own = the_same Gcp parts one.0 k (Some Gcp, item) one.1 at refl in
       let digits : is_digits row.gcp item ≡ true = rw own one.2 in
-      digits_hold row.gcp item (said_of (class_of row) identity).prefix bounds digits (prefix_digits kept.k row.lead row.gcp identity.key.value is (leb-true row.lead 1 kept.lead) long)
+      digits_hold row.gcp item (class_fields (class_of row) identity).prefix bounds digits (prefix_digits kept.k row.lead row.gcp identity.key.value is (leb-true row.lead 1 kept.lead) long)
 
-  rest_holds : (k : ℕ) (item : Item) → slice_get parts k ≡ Some (Some Rest, item) → is_in_bounds false item ≡ true → why_not item (said_of (class_of row) identity).rest ≡ None
+  rest_holds : (k : ℕ) (item : Item) → slice_get parts k ≡ Some (Some Rest, item) → is_in_bounds false item ≡ true → why_not item (class_fields (class_of row) identity).rest ≡ None
   unfolding keeps_rest
   rest_holds k item at bounds = by (kept.k - 1 - row.gcp == 0) refl
     where
       left : ℕ
       left = kept.k - 1 - row.gcp
 
-      by : (b : Bool) → (kept.k - 1 - row.gcp == 0) ≡ b → why_not item (said_of (class_of row) identity).rest ≡ None
+      by : (b : Bool) → (kept.k - 1 - row.gcp == 0) ≡ b → why_not item (class_fields (class_of row) identity).rest ≡ None
       by true e =
           let h : is_empty (items_of_field Rest parts) ≡ true = rw e at kept.rest in
           absurd (none_there Rest parts k (Some Rest, item) (empty (items_of_field Rest parts) h) at refl)
@@ -167,9 +167,9 @@ module _ (ais : List AiRow) (row : ClassRow) (kept : KeptClass ais row) (identit
           let one = the_one (is_digits (kept.k - 1 - row.gcp)) (items_of_field Rest parts) h in
           let own = the_same Rest parts one.0 k (Some Rest, item) one.1 at refl in
           let digits : is_digits (kept.k - 1 - row.gcp) item ≡ true = rw own one.2 in
-          digits_hold (kept.k - 1 - row.gcp) item (said_of (class_of row) identity).rest bounds digits (rest_digits kept.k row.lead row.gcp identity.key.value is (leb-true row.lead 1 kept.lead) long)
+          digits_hold (kept.k - 1 - row.gcp) item (class_fields (class_of row) identity).rest bounds digits (rest_digits kept.k row.lead row.gcp identity.key.value is (leb-true row.lead 1 kept.lead) long)
 
-  holds_at : (k : ℕ) (item : Item) (field : Option Field) → slice_get parts k ≡ Some (field, item) → IsGood (field, item) → is_field Serial field ≡ false → why_not item (value_for (said_of (class_of row) identity) field) ≡ None
+  holds_at : (k : ℕ) (item : Item) (field : Option Field) → slice_get parts k ≡ Some (field, item) → IsGood (field, item) → is_field Serial field ≡ false → why_not item (value_for (class_fields (class_of row) identity) field) ≡ None
   holds_at k item None at good other = literal_holds item good.classy
   holds_at k item (Some Gcp) at good other = prefix_holds k item at good.bounds
   holds_at k item (Some Rest) at good other = rest_holds k item at good.bounds
@@ -205,17 +205,17 @@ named_serial field h = absurd (let e : false ≡ true = h in cc)
 
 module _ (class : Class) (items : List Item) (identity : Elements) (can : CanWrite class items identity) where
   abbrev lot : List ℕ
-  lot = (said_of class identity).serial
+  lot = (class_fields class identity).serial
 
   -- the value of the item of the lot
-  lot_at : (k : ℕ) → position (is_field Serial) class.fields ≡ Some k → slice_get (values_for (said_of class identity) class.fields) k ≡ Some lot
+  lot_at : (k : ℕ) → position (is_field Serial) class.fields ≡ Some k → slice_get (values_for (class_fields class identity) class.fields) k ≡ Some lot
   lot_at k e =
       let at = position_some (is_field Serial) class.fields k e in
       let own = named_serial at.0 at.2 in
-      slice_get-map (value_for (said_of class identity)) class.fields k ∙ ap (option_map (value_for (said_of class identity))) at.1 ∙ ap (λ (f : Option Field). Some (value_for (said_of class identity) f)) own
+      slice_get-map (value_for (class_fields class identity)) class.fields k ∙ ap (option_map (value_for (class_fields class identity))) at.1 ∙ ap (λ (f : Option Field). Some (value_for (class_fields class identity) f)) own
 
   -- the item of the lot has a word if all items hold their values
-  pub lot_held : AreHeld items (values_for (said_of class identity) class.fields) → why_not_lot class.fields items lot ≡ None
+  pub lot_held : AreHeld items (values_for (class_fields class identity) class.fields) → why_not_lot class.fields items lot ≡ None
   lot_held held = by (position (is_field Serial) class.fields) refl
     where
       by : (place : Option ℕ) → position (is_field Serial) class.fields ≡ place → option_and_then (λ k. option_and_then (λ item. why_not item lot) (slice_get items k)) place ≡ None
@@ -227,14 +227,14 @@ module _ (class : Class) (items : List Item) (identity : Elements) (can : CanWri
           by_item (Some item) f = held k item lot (slice_get_within items k item f) f (lot_at k e)
 
   -- the one item that may not hold its value is that of the lot
-  pub lot_not_held : (k : ℕ) (why : Why) → IsFirstRejection items (values_for (said_of class identity) class.fields) k why → why_not_lot class.fields items lot ≡ Some why
+  pub lot_not_held : (k : ℕ) (why : Why) → IsFirstRejection items (values_for (class_fields class identity) class.fields) k why → why_not_lot class.fields items lot ≡ Some why
   lot_not_held k why first =
-      let field = mapped_some (value_for (said_of class identity)) (slice_get class.fields k) first.value (sym (slice_get-map (value_for (said_of class identity)) class.fields k) ∙ first.value_at) in
+      let field = mapped_some (value_for (class_fields class identity)) (slice_get class.fields k) first.value (sym (slice_get-map (value_for (class_fields class identity)) class.fields k) ∙ first.value_at) in
       elim (true_or_false (is_field Serial field.0)) [
         | inl is ↦
             let place = can.lot k field.0 field.1 is in
             let own = named_serial field.0 is in
-            let value : lot ≡ first.value = ap (value_for (said_of class identity)) (sym own) ∙ field.2 in
+            let value : lot ≡ first.value = ap (value_for (class_fields class identity)) (sym own) ∙ field.2 in
             rw (place, first.item_at, value) first.reason
         | inr other ↦
             let none = can.others k first.item field.0 first.item_at field.1 other in
@@ -242,35 +242,35 @@ module _ (class : Class) (items : List Item) (identity : Elements) (can : CanWri
             absurd (let e : Some why ≡ None = sym first.reason ∙ value in cc)
       ]
 
-  pub written_by : (text : List ℕ) → AreHeld items (values_for (said_of class identity) class.fields) → text ≡ written items (values_for (said_of class identity) class.fields) → Ok text ≡ by_items class identity items
+  pub written_by : (text : List ℕ) → AreHeld items (values_for (class_fields class identity) class.fields) → text ≡ written items (values_for (class_fields class identity) class.fields) → Ok text ≡ by_items class identity items
   written_by text held e = rw (lot_held held) (ap (λ (t : List ℕ). Ok t) e)
 
-  pub rejected_by : (k : ℕ) (why : Why) → IsFirstRejection items (values_for (said_of class identity) class.fields) k why → Err (CannotHold why) ≡ by_items class identity items
+  pub rejected_by : (k : ℕ) (why : Why) → IsFirstRejection items (values_for (class_fields class identity) class.fields) k why → Err (CannotHold why) ≡ by_items class identity items
   rejected_by k why first = rw (lot_not_held k why first) refl
 
 -- if the lot has a word, all items hold their values
-pub all_held : (class : Class) (items : List Item) (identity : Elements) → CanWrite class items identity → why_not_lot class.fields items (said_of class identity).serial ≡ None → AreHeld items (values_for (said_of class identity) class.fields)
+pub all_held : (class : Class) (items : List Item) (identity : Elements) → CanWrite class items identity → why_not_lot class.fields items (class_fields class identity).serial ≡ None → AreHeld items (values_for (class_fields class identity) class.fields)
 all_held class items identity can none k item value low at held =
-    let field = mapped_some (value_for (said_of class identity)) (slice_get class.fields k) value (sym (slice_get-map (value_for (said_of class identity)) class.fields k) ∙ held) in
+    let field = mapped_some (value_for (class_fields class identity)) (slice_get class.fields k) value (sym (slice_get-map (value_for (class_fields class identity)) class.fields k) ∙ held) in
     elim (true_or_false (is_field Serial field.0)) [
       | inl is ↦
           let place = can.lot k field.0 field.1 is in
           let own = named_serial field.0 is in
-          let word : why_not item (said_of class identity).serial ≡ None = rw (place, at) at none in
-          let value_is : (said_of class identity).serial ≡ value = ap (value_for (said_of class identity)) (sym own) ∙ field.2 in
+          let word : why_not item (class_fields class identity).serial ≡ None = rw (place, at) at none in
+          let value_is : (class_fields class identity).serial ≡ value = ap (value_for (class_fields class identity)) (sym own) ∙ field.2 in
           rw (← value_is) word
       | inr other ↦ rw (← field.2) (can.others k item field.0 at field.1 other)
     ]
 
 -- the answer of `write_text` for the values of a class
 pub written_answer : (class : Class) (items : List Item) (identity : Elements) (can : CanWrite class items identity) (said : KeyFields) (fields : List (Option Field)) (values given : List (List ℕ)) (text : List ℕ)
-    → said ≡ said_of class identity → fields ≡ class.fields → values ≡ values_for said fields → given ≡ values → AreHeld items given → text ≡ written items given → OrMemory (Ok text) (by_items class identity items)
+    → said ≡ class_fields class identity → fields ≡ class.fields → values ≡ values_for said fields → given ≡ values → AreHeld items given → text ≡ written items given → OrMemory (Ok text) (by_items class identity items)
 written_answer class items identity can said fields values given text a b d e held wrote =
-    let same : given ≡ values_for (said_of class identity) class.fields = rw (a, b) at (e ∙ d) in
+    let same : given ≡ values_for (class_fields class identity) class.fields = rw (a, b) at (e ∙ d) in
     inr (written_by class items identity can text (rw same at held) (rw same at wrote))
 
 pub rejected_answer : (class : Class) (items : List Item) (identity : Elements) (can : CanWrite class items identity) (said : KeyFields) (fields : List (Option Field)) (values given : List (List ℕ)) (k : ℕ) (why : Why)
-    → said ≡ said_of class identity → fields ≡ class.fields → values ≡ values_for said fields → given ≡ values → IsFirstRejection items given k why → OrMemory (Err (CannotHold why)) (by_items class identity items)
+    → said ≡ class_fields class identity → fields ≡ class.fields → values ≡ values_for said fields → given ≡ values → IsFirstRejection items given k why → OrMemory (Err (CannotHold why)) (by_items class identity items)
 rejected_answer class items identity can said fields values given k why a b d e first =
-    let same : given ≡ values_for (said_of class identity) class.fields = rw (a, b) at (e ∙ d) in
+    let same : given ≡ values_for (class_fields class identity) class.fields = rw (a, b) at (e ∙ d) in
     inr (rejected_by class items identity can k why (rw same at first))

@@ -48,7 +48,7 @@ use Rattle.gs_class.specs.declared.row.ClassRow.{ClassRow}
 use Rattle.gs_class.specs.Meanings.{IsClass, class_identity, said_by}
 use Rattle.gs_class.specs.MeaningsSupport.{FitsClass, kind_of}
 use Rattle.gs_class.specs.Sets.{ClassRows, IsOfTable, class_of}
-use Rattle.gs_class.specs.Written.{by_class, by_items, by_length, by_name, class_answer, has_key, is_extra, is_named_by, is_sized, items_at, length_for, lot_of, others_of, said_of, unchecked, value_for, values_for, why_not_lot}
+use Rattle.gs_class.specs.Written.{by_class, by_items, by_length, by_name, class_answer, has_key, is_extra, is_named_by, is_sized, items_at, length_for, lot_of, others_of, class_fields, without_check_digit, value_for, values_for, why_not_lot}
 use Rattle.gs_class.specs.WrittenSupport.{CanWrite}
 use Rattle.gs_class.proofs.ClassIdentities.{fits_class, kind_kept, laid_is}
 use Rattle.gs_class.proofs.KeptClasses.{KeptClass}
@@ -69,8 +69,8 @@ pub record Steps (set : ClassRows) (identity : Elements) (text : List ℕ) : Typ
   pub none_extra : find (is_extra naming) (others_of identity) ≡ None
   pub sized : position (is_sized naming.name n) set.classes ≡ Some i
   pub at : slice_get set.classes i ≡ Some class
-  pub held : why_not_lot class.fields (items_at set i) (said_of class identity).serial ≡ None
-  pub wrote : written (items_at set i) (values_for (said_of class identity) class.fields) ≡ text
+  pub held : why_not_lot class.fields (items_at set i) (class_fields class identity).serial ≡ None
+  pub wrote : written (items_at set i) (values_for (class_fields class identity) class.fields) ≡ text
 
 -- a result of Ok has an optional value that is present
 there_is : {X : Type 0} (f : X → Result (List ℕ) ClassWriteFault) (o : Option X) (e : ClassWriteFault) (text : List ℕ) → option_map_or f o (Err e) ≡ Ok text → (x : X) × (o ≡ Some x) × (f x ≡ Ok text)
@@ -95,7 +95,7 @@ steps set prefixes gcp identity text h =
     let n = there_is (by_length set identity naming.0) (length_for prefixes gcp naming.0 identity) MissingGcp text extra.1 in
     let i = there_is (by_class set identity) (position (is_sized naming.0.name n.0) set.classes) NoOption text n.2 in
     let class = there_is (λ class. by_items class identity (items_at set i.0)) (slice_get set.classes i.0) NoOption text i.2 in
-    let items = none_there CannotHold (why_not_lot class.0.fields (items_at set i.0) (said_of class.0 identity).serial) (Ok (written (items_at set i.0) (values_for (said_of class.0 identity) class.0.fields))) text class.2 in
+    let items = none_there CannotHold (why_not_lot class.0.fields (items_at set i.0) (class_fields class.0 identity).serial) (Ok (written (items_at set i.0) (values_for (class_fields class.0 identity) class.0.fields))) text class.2 in
     record {
       naming = naming.0;
       i = i.0;
@@ -106,14 +106,14 @@ steps set prefixes gcp identity text h =
       sized = i.1;
       at = class.1;
       held = items.0;
-      wrote = let e : Ok (written (items_at set i.0) (values_for (said_of class.0 identity) class.0.fields)) ≡ Ok text = items.1 in cc;
+      wrote = let e : Ok (written (items_at set i.0) (values_for (class_fields class.0 identity) class.0.fields)) ≡ Ok text = items.1 in cc;
     }
 
 -- ---- the identity that is read from the values of a class
 
 module _ (ais : List AiRow) (row : ClassRow) (kept : KeptClass ais row) (identity : Elements) (made : IsMadeWith ais identity) (same : row.key ≡ identity.key.code) where
   abbrev said : KeyFields
-  said = said_of (class_of row) identity
+  said = class_fields (class_of row) identity
 
   abbrev fields : List (Option Field)
   fields = fields_of (present row.items)
@@ -247,8 +247,8 @@ parts_there ais key row k found parts = rw (found, parts) refl
 
 abbrev fields_of_value : ℕ → ℕ → List ℕ → List ℕ → KeyFields
 fields_of_value lead n value serial = record {
-  prefix = take n (drop lead (unchecked value));
-  rest = take lead (unchecked value) ++ drop n (drop lead (unchecked value));
+  prefix = take n (drop lead (without_check_digit value));
+  rest = take lead (without_check_digit value) ++ drop n (drop lead (without_check_digit value));
   piece = [];
   total = [];
   serial = serial;
@@ -360,10 +360,10 @@ module _ (ais : List AiRow) (rules : KeepsRules ais) (set : ClassRows) (identity
   parts_are : parts_at ais s.class.key ≡ NumCheck its_kept.k ∷ []
   parts_are = parts_there ais s.class.key its_kept.key its_kept.k (subst (λ (code : List ℕ). find (has_code code) ais ≡ Some its_kept.key) (sym pair_is.0) found_key) its_kept.parts
 
-  fields_are : fields_at (parts_at ais s.class.key) (kind_of s.class) s.class.gcp identity.key.value (lot_of s.class identity) ≡ said_of s.class identity
+  fields_are : fields_at (parts_at ais s.class.key) (kind_of s.class) s.class.gcp identity.key.value (lot_of s.class identity) ≡ class_fields s.class identity
   fields_are = fields_there (parts_at ais s.class.key) its_kept.k s.class s.class.gcp identity.key.value (lot_of s.class identity) parts_are value_is.count
 
-  laid_out : identity ≡ lay ais (kind_of s.class) (said_of s.class identity)
+  laid_out : identity ≡ lay ais (kind_of s.class) (class_fields s.class identity)
   laid_out =
       again ais (kind_of s.class) s.class.gcp (lot_of s.class identity) identity rules kept_kind of_kind made (serial_is (parts_at ais s.class.key))
       ∙ ap (λ (f : KeyFields). lay ais (kind_of s.class) f) fields_are
@@ -374,7 +374,7 @@ module _ (ais : List AiRow) (rules : KeepsRules ais) (set : ClassRows) (identity
   items = alone (present its_row.row.items)
 
   abbrev values : List (List ℕ)
-  values = values_for (said_of s.class identity) s.class.fields
+  values = values_for (class_fields s.class identity) s.class.fields
 
   items_are : items_at set s.i ≡ items
   items_are = ap (λ (o : Option (List Item)). option_map_or (λ its. its) o []) (level_items ais set s.i of its_row.row its_row.at)
@@ -383,20 +383,20 @@ module _ (ais : List AiRow) (rules : KeepsRules ais) (set : ClassRows) (identity
   can = subst (λ (c : Class). CanWrite c items identity) (sym its_row.class_is) (can_write ais its_row.row its_kept identity made row_key)
 
   held : AreHeld items values
-  held = all_held s.class items identity can (subst (λ (its : List Item). why_not_lot s.class.fields its (said_of s.class identity).serial ≡ None) items_are s.held)
+  held = all_held s.class items identity can (subst (λ (its : List Item). why_not_lot s.class.fields its (class_fields s.class identity).serial ≡ None) items_are s.held)
 
   count : length values ≡ length items
-  count = length-map s.class.fields (value_for (said_of s.class identity)) ∙ can.as_many
+  count = length-map s.class.fields (value_for (class_fields s.class identity)) ∙ can.as_many
 
   derives : Derives items text values (written_words items values)
   derives =
       let wrote : written items values ≡ text = subst (λ (its : List Item). written its values ≡ text) items_are s.wrote in
       subst (λ (t : List ℕ). Derives items t values (written_words items values)) wrote (written_derives items values (all_items false items its_kept.bounds.none_bad) count held)
 
-  back : said_by s.class values ≡ said_of s.class identity
-  back = subst (λ (c : Class). said_by c (values_for (said_of c identity) c.fields) ≡ said_of c identity) (sym its_row.class_is) (said_back ais its_row.row its_kept identity made row_key)
+  back : said_by s.class values ≡ class_fields s.class identity
+  back = subst (λ (c : Class). said_by c (values_for (class_fields c identity) c.fields) ≡ class_fields c identity) (sym its_row.class_is) (said_back ais its_row.row its_kept identity made row_key)
 
-  fits : FitsClass ais s.class (said_of s.class identity)
+  fits : FitsClass ais s.class (class_fields s.class identity)
   fits =
       let own : FitsClass ais s.class (said_by s.class values) = subst (λ (c : Class). FitsClass ais c (said_by c values)) (sym its_row.class_is) (fits_class ais its_row.row its_kept values (written_words items values) derives.each) in
       subst (λ (f : KeyFields). FitsClass ais s.class f) back own
@@ -406,7 +406,7 @@ module _ (ais : List AiRow) (rules : KeepsRules ais) (set : ClassRows) (identity
     derivation = record { option = s.i; items = items; values = values; words = written_words items values; of_level = level_items ais set s.i of its_row.row its_row.at; derives = derives };
     class = s.class;
     named = s.at;
-    is = laid_out ∙ laid_is ais s.class (said_of s.class identity) fits rules ∙ ap (λ (f : KeyFields). class_identity s.class f) (sym back);
+    is = laid_out ∙ laid_is ais s.class (class_fields s.class identity) fits rules ∙ ap (λ (f : KeyFields). class_identity s.class f) (sym back);
   }
 
 -- the text that is written of an identity of the table is a class URI of it

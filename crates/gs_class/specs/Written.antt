@@ -47,15 +47,15 @@ lot_of class identity = option_map_or (λ (pair : Pair). pair.value) (pair_with 
 -- ---- the values that the items of a class hold
 
 -- trusted, TDS 2.0, section 7: the digits of a key before its check digit, which is the last
-abbrev pub unchecked : List ℕ → List ℕ
-unchecked value = take (length value - 1) value
+abbrev pub without_check_digit : List ℕ → List ℕ
+without_check_digit value = take (length value - 1) value
 
 -- trusted, TDS 2.0, section 7: The fields of an identity by a class: the company prefix after the lead digits, the rest with
 -- these at the start, and the lot.
-abbrev pub said_of : Class → Elements → KeyFields
-said_of class identity = record {
-  prefix = take class.gcp (drop class.lead (unchecked identity.key.value));
-  rest = take class.lead (unchecked identity.key.value) ++ drop class.gcp (drop class.lead (unchecked identity.key.value));
+abbrev pub class_fields : Class → Elements → KeyFields
+class_fields class identity = record {
+  prefix = take class.gcp (drop class.lead (without_check_digit identity.key.value));
+  rest = take class.lead (without_check_digit identity.key.value) ++ drop class.gcp (drop class.lead (without_check_digit identity.key.value));
   piece = [];
   total = [];
   serial = lot_of class identity;
@@ -82,8 +82,8 @@ why_not_lot fields items lot =
 -- trusted, own: the answer of the class that writes, by its items
 abbrev pub by_items : Class → Elements → List Item → Result (List ℕ) ClassWriteFault
 by_items class identity items =
-    option_map_or (λ why. Err (CannotHold why)) (why_not_lot class.fields items (said_of class identity).serial)
-    (Ok (written items (values_for (said_of class identity) class.fields)))
+    option_map_or (λ why. Err (CannotHold why)) (why_not_lot class.fields items (class_fields class identity).serial)
+    (Ok (written items (values_for (class_fields class identity) class.fields)))
 
 -- trusted, own: the items of option i of a set
 abbrev pub items_at : ClassRows → ℕ → List Item

@@ -11,7 +11,7 @@ use Rattle.gs_epc.specs.Layout.{KeyFields}
 use Rattle.gs_class.specs.declared.class.Class.{Class}
 use Rattle.gs_class.specs.declared.writer.Said.{Said}
 use Rattle.gs_class.specs.Sets.{ClassRows}
-use Rattle.gs_class.specs.Written.{said_of, value_for}
+use Rattle.gs_class.specs.Written.{class_fields, value_for}
 
 -- the fields of a class as the fields of a key
 abbrev pub fields_in : Said → KeyFields
@@ -21,7 +21,7 @@ fields_in said = record { prefix = said.prefix; rest = said.rest; piece = []; to
 abbrev pub HoldOthers : Class → List Item → Elements → Type 0
 HoldOthers class items identity =
     (k : ℕ) (item : Item) (field : Option Field) → slice_get items k ≡ Some item → slice_get class.fields k ≡ Some field → is_field Serial field ≡ false
-    → why_not item (value_for (said_of class identity) field) ≡ None
+    → why_not item (value_for (class_fields class identity) field) ≡ None
 
 -- one item stands for the lot
 abbrev pub HasOneLot : Class → Type 0

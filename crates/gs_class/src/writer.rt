@@ -3,7 +3,7 @@ ghost use Rattle.std.specs.List.{find, list_any};
 ghost use Rattle.std.specs.Option.{option_copied};
 ghost use Rattle.gs_ident.specs.Identities.{IsMadeWith, pair_with};
 ghost use Rattle.gs_class.specs.Sets.{IsOfTable};
-ghost use Rattle.gs_class.specs.Written.{OrMemory, by_items, by_length, by_name, class_answer, has_key, is_extra, is_named_by, is_sized, length_for, lot_of, others_of, said_of, unchecked, value_for, values_for};
+ghost use Rattle.gs_class.specs.Written.{OrMemory, by_items, by_length, by_name, class_answer, has_key, is_extra, is_named_by, is_sized, length_for, lot_of, others_of, class_fields, without_check_digit, value_for, values_for};
 ghost use Rattle.gs_class.specs.WrittenSupport.{CanBeWritten, CanWrite, fields_in};
 
 use crate::class::Class;
@@ -94,37 +94,37 @@ fn lot_of<'a>(class: &Class, identity: &'a Identity) -> &'a [u8]
 }
 
 /// Returns the bytes after the first `count`, if there are any.
-fn behind(text: &[u8], count: usize) -> &[u8]
+fn skip_first(text: &[u8], count: usize) -> &[u8]
     ensures { result.now ≡ drop count text.now }
 {
     &text[count.min(text.len())..]
 }
 
 /// Returns the first `count` bytes, or all if there are fewer.
-fn front(text: &[u8], count: usize) -> &[u8]
+fn take_first(text: &[u8], count: usize) -> &[u8]
     ensures { result.now ≡ take count text.now }
 {
     &text[..count.min(text.len())]
 }
 
 /// Returns the digits of a key before its check digit.
-fn unchecked(value: &[u8]) -> &[u8]
-    ensures { result.now ≡ unchecked value.now }
+fn without_check_digit(value: &[u8]) -> &[u8]
+    ensures { result.now ≡ without_check_digit value.now }
 {
-    front(value, value.len().saturating_sub(1))
+    take_first(value, value.len().saturating_sub(1))
 }
 
 /// Returns the fields that an identity has by a class.
-fn said_of(alloc: Global, class: &Class, identity: &Identity) -> Result<Said, Memory>
-    ensures { IfOk result (λ said. fields_in said ≡ said_of class.now identity.now) }
+fn class_fields(alloc: Global, class: &Class, identity: &Identity) -> Result<Said, Memory>
+    ensures { IfOk result (λ said. fields_in said ≡ class_fields class.now identity.now) }
 {
     let (lead, gcp) = (usize::from(class.lead), usize::from(class.gcp));
-    let digits = unchecked(identity.key().value.as_bytes());
-    let others = behind(digits, lead);
-    let mut rest = Text::from_bytes(alloc, front(digits, lead))?;
-    rest.extend_from_slice(behind(others, gcp))?;
+    let digits = without_check_digit(identity.key().value.as_bytes());
+    let others = skip_first(digits, lead);
+    let mut rest = Text::from_bytes(alloc, take_first(digits, lead))?;
+    rest.extend_from_slice(skip_first(others, gcp))?;
     Ok(Said {
-        prefix: Text::from_bytes(alloc, front(others, gcp))?,
+        prefix: Text::from_bytes(alloc, take_first(others, gcp))?,
         rest,
         serial: Text::from_bytes(alloc, lot_of(class, identity))?,
     })
@@ -164,7 +164,7 @@ fn write_option(
     requires can_write { CanWrite class.now option.now.items identity.now }
     ensures { OrMemory result (by_items class.now identity.now option.now.items) }
 {
-    let said = said_of(alloc, class, identity)?;
+    let said = class_fields(alloc, class, identity)?;
     let values = values_for(alloc, &said, class.fields.items())?;
     match write_text(alloc, option, values.as_slice()) {
         Ok(text) => Ok(text),
@@ -217,7 +217,7 @@ fn length_for(
 {
     match gcp {
         Some(n) => Some(n),
-        None => prefixes.length_of(behind(
+        None => prefixes.length_of(skip_first(
             identity.key().value.as_bytes(),
             usize::from(class.lead),
         )),

@@ -4,8 +4,8 @@ ghost use Rattle.std.specs.Option.{option_map_or};
 ghost use Rattle.gs_tables.specs.Rules.{is_field};
 ghost use Rattle.gs_epc.specs.Candidates.{HasFilter, HasFilterOn, filter_text, is_asked, is_left_out, left_out, value_for};
 
+use crate::epc_ref::EpcRef;
 use crate::layout::push_few;
-use crate::lent_epc::LentEpc;
 use gs_chars::{Memory, Text};
 use gs_tables::{Field, LevelName};
 use std::alloc::Global;
@@ -56,7 +56,7 @@ fn few(alloc: Global, bytes: &[u8]) -> Result<Text, Memory>
 }
 
 /// Returns the rest, joined: its lead digits are one as a rule.
-fn rest_of(alloc: Global, epc: &LentEpc<'_>) -> Result<Text, Memory>
+fn rest_of(alloc: Global, epc: &EpcRef<'_>) -> Result<Text, Memory>
     ensures { IfOk result (λ text. text ≡ epc.now.rest) }
 {
     let mut text = few(alloc, epc.lead)?;
@@ -67,7 +67,7 @@ fn rest_of(alloc: Global, epc: &LentEpc<'_>) -> Result<Text, Memory>
 /// Returns a copy of the value of the items that stand for a field.
 fn value_for(
     alloc: Global,
-    epc: &LentEpc<'_>,
+    epc: &EpcRef<'_>,
     filter: &[u8],
     field: Option<Field>,
 ) -> Result<Text, Memory>
@@ -89,7 +89,7 @@ fn value_for(
 pub(crate) fn values_for(
     alloc: Global,
     level: LevelName,
-    epc: &LentEpc<'_>,
+    epc: &EpcRef<'_>,
     fields: &[Option<Field>],
 ) -> Result<Vec<Text>, Memory>
     requires { HasFilterOn level epc.now.filter }
@@ -124,7 +124,7 @@ fn is_left_out(field: Field, fields: &[Option<Field>], text: &[u8]) -> bool
 }
 
 /// Returns whether the rest is not empty, and no item stands for it.
-fn leaves_rest(fields: &[Option<Field>], epc: &LentEpc<'_>) -> bool
+fn leaves_rest(fields: &[Option<Field>], epc: &EpcRef<'_>) -> bool
     ensures { result ≡ is_left_out Field.Rest fields.now epc.now.rest }
 {
     if epc.lead.is_empty() {
@@ -134,7 +134,7 @@ fn leaves_rest(fields: &[Option<Field>], epc: &LentEpc<'_>) -> bool
 }
 
 /// Returns the first of the rest, the piece, the total and the serial that an option leaves out.
-pub(crate) fn left_out(fields: &[Option<Field>], epc: &LentEpc<'_>) -> Option<Field>
+pub(crate) fn left_out(fields: &[Option<Field>], epc: &EpcRef<'_>) -> Option<Field>
     ensures { result ≡ left_out fields.now epc.now }
 {
     if leaves_rest(fields, epc) {

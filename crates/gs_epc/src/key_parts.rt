@@ -5,7 +5,7 @@ ghost use Rattle.gs_epc.specs.Layout.{parts_at};
 ghost use Rattle.gs_epc.specs.KeyParts.{IsTakenApart, behind_zero, checked_count, digits_in, none_text, piece_in, piece_length, prefix_in, rest_in, serial_in, tail_in, total_in, total_length, unless_empty, value_from_prefix};
 
 use crate::epc::Epc;
-use crate::lent_epc::LentEpc;
+use crate::epc_ref::EpcRef;
 use crate::write_error::FieldsFault;
 use gs_ai::{AiTable, Pair, Part};
 use gs_chars::{Memory, Text};
@@ -14,14 +14,14 @@ use gs_tables::{SerialAt, TableSet, are_characters};
 use std::alloc::Global;
 
 /// Returns the first `count` bytes of a value, or all if there are fewer.
-fn front(value: &[u8], count: usize) -> &[u8]
+fn take_first(value: &[u8], count: usize) -> &[u8]
     ensures { result.now ≡ take count value.now }
 {
     &value[..count.min(value.len())]
 }
 
 /// Returns the bytes of a value after the first `count`.
-fn behind(value: &[u8], count: usize) -> &[u8]
+fn skip_first(value: &[u8], count: usize) -> &[u8]
     ensures { result.now ≡ drop count value.now }
 {
     &value[count.min(value.len())..]
@@ -32,7 +32,7 @@ fn behind_zero<'a>(parts: &[Part], value: &'a [u8]) -> &'a [u8]
     ensures { result.now ≡ behind_zero parts.now value.now }
 {
     match parts {
-        [Part::Zero, ..] => behind(value, 1),
+        [Part::Zero, ..] => skip_first(value, 1),
         _ => value,
     }
 }
@@ -52,7 +52,7 @@ fn checked_count(parts: &[Part]) -> usize
 fn digits_in<'a>(parts: &[Part], value: &'a [u8]) -> &'a [u8]
     ensures { result.now ≡ digits_in parts.now value.now }
 {
-    front(
+    take_first(
         behind_zero(parts, value),
         checked_count(parts).saturating_sub(1),
     )
@@ -62,7 +62,7 @@ fn digits_in<'a>(parts: &[Part], value: &'a [u8]) -> &'a [u8]
 fn tail_in<'a>(parts: &[Part], value: &'a [u8]) -> &'a [u8]
     ensures { result.now ≡ tail_in parts.now value.now }
 {
-    behind(behind_zero(parts, value), checked_count(parts))
+    skip_first(behind_zero(parts, value), checked_count(parts))
 }
 
 /// Returns the number of digits of the piece, by the two lengths of a kind.
@@ -89,15 +89,15 @@ fn total_length(further: &[u8]) -> usize
 fn piece_in<'a>(parts: &[Part], further: &[u8], value: &'a [u8]) -> &'a [u8]
     ensures { result.now ≡ piece_in parts.now further.now value.now }
 {
-    front(tail_in(parts, value), piece_length(further))
+    take_first(tail_in(parts, value), piece_length(further))
 }
 
 /// Returns the total: the digits after the piece.
 fn total_in<'a>(parts: &[Part], further: &[u8], value: &'a [u8]) -> &'a [u8]
     ensures { result.now ≡ total_in parts.now further.now value.now }
 {
-    front(
-        behind(tail_in(parts, value), piece_length(further)),
+    take_first(
+        skip_first(tail_in(parts, value), piece_length(further)),
         total_length(further),
     )
 }
@@ -107,10 +107,10 @@ fn prefix_in<'a>(parts: &[Part], lead: u8, gcp: u8, value: &'a [u8]) -> &'a [u8]
     ensures { result.now ≡ prefix_in parts.now lead gcp value.now }
 {
     if are_characters(parts) {
-        return front(value, usize::from(gcp));
+        return take_first(value, usize::from(gcp));
     }
-    front(
-        behind(digits_in(parts, value), usize::from(lead)),
+    take_first(
+        skip_first(digits_in(parts, value), usize::from(lead)),
         usize::from(gcp),
     )
 }
@@ -130,11 +130,14 @@ fn rest_in<'a>(parts: &[Part], lead: u8, gcp: u8, value: &'a [u8]) -> (&'a [u8],
 {
     let gcp = usize::from(gcp);
     if are_characters(parts) {
-        return (&[], behind(value, gcp));
+        return (&[], skip_first(value, gcp));
     }
     let lead = usize::from(lead);
     let digits = digits_in(parts, value);
-    (front(digits, lead), behind(behind(digits, lead), gcp))
+    (
+        take_first(digits, lead),
+        skip_first(skip_first(digits, lead), gcp),
+    )
 }
 
 /// Returns the parts of the key of a code.
@@ -198,11 +201,11 @@ pub fn value_from_prefix<'a>(set: &TableSet, kind: usize, value: &'a [u8]) -> &'
 {
     let row = &set.kinds()[kind];
     let parts = parts_at(set.ais(), row.key.as_bytes());
-    behind(behind_zero(parts, value), usize::from(row.lead))
+    skip_first(behind_zero(parts, value), usize::from(row.lead))
 }
 
 /// Returns the EPC with a copy of each text.
-fn copied(alloc: Global, lent: &LentEpc<'_>) -> Result<Epc, Memory>
+fn copied(alloc: Global, lent: &EpcRef<'_>) -> Result<Epc, Memory>
     ensures { IfOk result (λ epc. epc ≡ lent.now) }
 {
     Ok(Epc {
@@ -227,7 +230,7 @@ pub fn lent_fields_of<'a>(
     kind: usize,
     identity: &'a Identity,
     gcp: u8,
-) -> Result<LentEpc<'a>, FieldsFault>
+) -> Result<EpcRef<'a>, FieldsFault>
     requires { kind < length set.now.kinds }
     ensures { IsTakenApart set.now kind identity.now gcp result }
 {
@@ -239,7 +242,7 @@ pub fn lent_fields_of<'a>(
     let value = identity.key().value.as_bytes();
     let further = row.further.items();
     let (lead, behind) = rest_in(parts, row.lead, gcp, value);
-    Ok(LentEpc {
+    Ok(EpcRef {
         kind,
         encoding: &[],
         filter: None,

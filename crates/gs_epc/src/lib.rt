@@ -26,6 +26,7 @@
 
 mod candidates;
 mod epc;
+mod epc_ref;
 mod error;
 mod fields;
 mod kept;
@@ -33,7 +34,6 @@ mod key_parts;
 mod key_texts;
 mod laws;
 mod layout;
-mod lent_epc;
 mod named;
 mod naming;
 mod read;
@@ -41,13 +41,13 @@ mod write_error;
 mod writer;
 
 pub use epc::Epc;
+pub use epc_ref::EpcRef;
 pub use error::EpcFault;
 pub use key_parts::{fields_of, lent_fields_of, value_from_prefix};
 pub use laws::{
     laying_out_undoes_taking_apart, taking_apart_undoes_laying_out, what_is_written_is_read,
 };
 pub use layout::{identity_of, push_checked};
-pub use lent_epc::LentEpc;
 pub use named::Named;
 pub use naming::{name_hex, name_pure, name_tag};
 pub use read::{read_hex, read_pure, read_tag};

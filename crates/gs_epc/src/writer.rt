@@ -8,7 +8,7 @@ ghost use Rattle.gs_epc.specs.Writes.{IsTried, WritesAs, field_at, text_on};
 
 use crate::candidates::{is_asked, left_out, values_for};
 use crate::epc::Epc;
-use crate::lent_epc::{LentEpc, lent};
+use crate::epc_ref::{EpcRef, lent};
 use crate::write_error::EpcWriteFault;
 use gs_bits::BitBuf;
 use gs_chars::Text;
@@ -73,7 +73,7 @@ fn try_candidate(
     alloc: Global,
     set: &TableSet,
     level: LevelName,
-    epc: &LentEpc<'_>,
+    epc: &EpcRef<'_>,
     i: usize,
 ) -> Result<Text, EpcWriteFault>
     requires filter { HasFilterOn level epc.now.filter }
@@ -102,7 +102,7 @@ pub fn write_lent(
     alloc: Global,
     set: &TableSet,
     level: LevelName,
-    epc: &LentEpc<'_>,
+    epc: &EpcRef<'_>,
 ) -> Result<Text, EpcWriteFault>
     requires { HasFilterOn level epc.now.filter }
     ensures { WritesAs set.now level epc.now result }

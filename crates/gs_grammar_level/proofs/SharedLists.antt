@@ -6,7 +6,7 @@ use Rattle.gs_grammar.specs.declared.item.Item.{Item}
 use Rattle.gs_grammar.specs.Ambiguity.{ShareList}
 use Rattle.gs_grammar_machine.specs.Machines.{AutoForm}
 use Rattle.gs_grammar_machine.specs.MachinesSupport.{Accepts, start_of}
-use Rattle.gs_ambig.specs.Searches.{BothAccept, NoneInCommon, Parts, IsSingle}
+use Rattle.gs_ambig.specs.Searches.{BothAccept, NoneInCommon, HasTwoWalks, IsSingle}
 use Rattle.gs_grammar_level.specs.ShareSearches.{ShareNoList}
 use Rattle.gs_grammar_level.proofs.DecidedShares.{derives_at}
 use Rattle.gs_grammar_compile.specs.Places.{cuts_from, word_cuts, run_cuts, CutsAreThoseOfDerivations}
@@ -83,7 +83,7 @@ none_of_two level i j items others m n at at' law law' none w s =
     let q = law'.run w s.other.values s.other.words (derives_at level w j others s.other at' s.by_other) in
     none w (record { run = r.run; other_run = q.run; walk = r.accepts; other_walk = q.accepts })
 
-pub share_of_one : (level : List (List Item)) (i j : ℕ) (items : List Item) (m : AutoForm) (w : List ℕ) → slice_get level i ≡ Some items → CutsAreThoseOfDerivations m items → i ≡ j → Parts m (start_of m) w → ShareList level i j w
+pub share_of_one : (level : List (List Item)) (i j : ℕ) (items : List Item) (m : AutoForm) (w : List ℕ) → slice_get level i ≡ Some items → CutsAreThoseOfDerivations m items → i ≡ j → HasTwoWalks m (start_of m) w → ShareList level i j w
 share_of_one level i j items m w at law e p =
     let d = law.derivation w p.run p.walk in
     let f = law.derivation w p.other_run p.other_walk in

@@ -71,9 +71,9 @@ fn shared_list(
     }
     let machines = level.machines();
     if i == j {
-        return search.word_of_one(alloc, &machines[i]);
+        return search.find_ambiguous_word(alloc, &machines[i]);
     }
-    search.word_of_two(alloc, &machines[i], &machines[j])
+    search.find_shared_word(alloc, &machines[i], &machines[j])
 }
 
 /// Returns the first option, from this number on, that shares a list with the option of this number, and such a list.

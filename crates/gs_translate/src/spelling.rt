@@ -16,7 +16,7 @@ use crate::words::append_word;
 use gs_chars::Text;
 use gs_dlink::append_link;
 use gs_element::{append_bracketed, append_raw};
-use gs_epc::{LentEpc, write_lent};
+use gs_epc::{EpcRef, write_lent};
 use gs_ident::append_canonical;
 use gs_prefix::PrefixList;
 use gs_tables::{LevelName, TableSet};
@@ -27,7 +27,7 @@ fn write_epc(
     alloc: Global,
     set: &TableSet,
     level: LevelName,
-    epc: &LentEpc<'_>,
+    epc: &EpcRef<'_>,
 ) -> Result<Text, Reason>
     requires { HasFilterOn level epc.now.filter }
     ensures { UnlessMemory result

@@ -11,7 +11,7 @@ use crate::options::Options;
 use crate::reason::Reason;
 use gs_ai::Pair;
 use gs_chars::count_digits;
-use gs_epc::{LentEpc, lent_fields_of, value_from_prefix};
+use gs_epc::{EpcRef, lent_fields_of, value_from_prefix};
 use gs_ident::Identity;
 use gs_prefix::PrefixList;
 use gs_tables::{LevelName, OptInfo, SerialAt, TableSet};
@@ -165,8 +165,8 @@ fn with_tag<'a>(
     options: &'a Options,
     level: LevelName,
     meaning: &'a Meaning,
-    epc: LentEpc<'a>,
-) -> Result<LentEpc<'a>, Reason>
+    epc: EpcRef<'a>,
+) -> Result<EpcRef<'a>, Reason>
     requires options { FitsFilter options.now.filter }
     requires meaning { FitsFilter meaning.now.filter }
     ensures tagged { UnlessMemory result (result ≡ with_tag options.now level meaning.now epc.entry) }
@@ -190,7 +190,7 @@ pub(crate) fn epc_for<'a>(
     options: &'a Options,
     level: LevelName,
     meaning: &'a Meaning,
-) -> Result<LentEpc<'a>, Reason>
+) -> Result<EpcRef<'a>, Reason>
     requires options { FitsFilter options.now.filter }
     requires meaning { FitsFilter meaning.now.filter }
     ensures epc { UnlessMemory result (result ≡ epc_for set.now prefixes.now options.now level meaning.now) }

@@ -6,7 +6,7 @@ use std::marker::Model;
 /// The contents of a tag or an EPC URI, each text lent: the fields of `Epc`. The rest is in two parts, so that none is copied
 /// to join them.
 #[derive(Drop)]
-pub struct LentEpc<'a> {
+pub struct EpcRef<'a> {
     /// The index of the kind.
     pub kind: usize,
     /// The name of the encoding, empty for a pure identity.
@@ -29,7 +29,7 @@ pub struct LentEpc<'a> {
     pub serial: &'a [u8],
 }
 
-impl<'a> Model for LentEpc<'a> {
+impl<'a> Model for EpcRef<'a> {
     ghost use Rattle.std.specs.Prelude.{◌++◌};
     ghost use Rattle.gs_epc.specs.declared.epc.Epc.{Epc};
 
@@ -49,10 +49,10 @@ impl<'a> Model for LentEpc<'a> {
 }
 
 /// Returns an EPC, lent.
-pub(crate) fn lent(epc: &Epc) -> LentEpc<'_>
+pub(crate) fn lent(epc: &Epc) -> EpcRef<'_>
     ensures { result ≡ epc.now }
 {
-    LentEpc {
+    EpcRef {
         kind: epc.kind,
         encoding: epc.encoding.as_bytes(),
         filter: epc.filter,

@@ -1,4 +1,4 @@
-use Rattle.gs_ambig.proofs.pair_search.PairSearch.word_of_two.Goals as goal
+use Rattle.gs_ambig.proofs.pair_search.PairSearch.find_shared_word.Goals as goal
 
 pub returns-clause-none : goal.returns-clause-none
 returns-clause-none c = rw (← c.start.ensures.start, ← c.start-2.ensures.start) c.search.ensures.none
