@@ -42,7 +42,8 @@ pub fn one_anchor()
 
 /// Under a vocabulary that keeps names, an expanded relation is not changed where it is expanded again.
 pub fn expanded_once()
-    ensures { (voc name : List ℕ) → keeps_names voc ≡ true → expanded voc (expanded voc name) ≡ expanded voc name }
+    ensures { (voc name : List ℕ) → keeps_names voc ≡ true
+        → expanded voc (expanded voc name) ≡ expanded voc name }
 {}
 
 /// Two linksets that have the same links, in one order, and that both load give the same links, however they are cut into
@@ -55,5 +56,6 @@ pub fn same_links_same_store()
 
 /// The names of the links' relations are the one ascending list of these names without `anchor`.
 pub fn names_of_relations()
-    ensures { (links : List Link) (names : List (List ℕ)) → (names ≡ names_of links) ↔ AreNamesOf links names }
+    ensures { (links : List Link) (names : List (List ℕ))
+        → (names ≡ names_of links) ↔ AreNamesOf links names }
 {}

@@ -92,7 +92,8 @@ pub(crate) fn is_more(said: &Result<usize>) -> bool
 
 /// Reads until a read is not interrupted. None waits longer than until the time.
 pub(crate) fn read_last<R: StreamCalls>(stream: &mut R, buf: &mut [u8], until: u64) -> Result<usize>
-    ensures called { CallsLast (reading R.reads until) (λ _. IsInterrupted) (stream.old, buf.old) result (stream.new, buf.new) }
+    ensures called { CallsLast (reading R.reads until) (λ _. IsInterrupted) (stream.old, buf.old) result
+        (stream.new, buf.new) }
     ensures within { ReadsAtMost result buf.new }
 {
     for tries in 0..u64::MAX {
@@ -106,7 +107,8 @@ pub(crate) fn read_last<R: StreamCalls>(stream: &mut R, buf: &mut [u8], until: u
 
 /// Writes until a write is not interrupted. None waits longer than until the time.
 pub(crate) fn write_last<W: StreamCalls>(stream: &mut W, piece: &[u8], until: u64) -> Result<usize>
-    ensures called { CallsLast (writing W.writes piece.now until) (λ _. IsInterrupted) stream.old result stream.new }
+    ensures called { CallsLast (writing W.writes piece.now until) (λ _. IsInterrupted)
+        stream.old result stream.new }
     ensures within { WritesAtMost result piece.now }
 {
     for tries in 0..u64::MAX {
