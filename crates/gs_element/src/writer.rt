@@ -138,7 +138,8 @@ fn write_pairs(out: &mut Vec<u8>, pairs: &[Pair]) -> Result<(), Memory>
 /// Appends the element string of the identity in the printed form, as `write_bracketed` returns it. Fails only with `Memory`;
 /// `out` then begins with its old contents.
 pub fn append_bracketed(out: &mut Vec<u8>, identity: &Identity) -> Result<(), Memory>
-    ensures written { IfOk result (λ _. out.new.items ≡ out.old.items ++ bracketed_text (pairs_of identity.now)) }
+    ensures written { IfOk result (λ _.
+        out.new.items ≡ out.old.items ++ bracketed_text (pairs_of identity.now)) }
     ensures begun { OnErr result (BeginsWith out.new.items out.old.items) }
 {
     write_pair(out, identity.key())?;

@@ -1,10 +1,11 @@
-ghost use Rattle.std.specs.Prelude.{◌≡◌, ◌∷◌, ◌↔◌, ◌*◌, ◌^◌, ◌&&◌, ◌||◌, ◌<◌, ℕ, List, Bool, nat_lt, nat_le, IsOk, Some, None};
-ghost use Rattle.gs_chars.specs.Characters.{are_in_set82};
+ghost use Rattle.std.specs.Prelude.{◌≡◌, ◌==◌, ◌∷◌, ◌↔◌, ◌*◌, ◌^◌, ◌&&◌, ◌||◌, ◌<◌, ℕ, List, Bool, false, length, nat_lt, nat_le};
+ghost use Rattle.std.specs.Prelude.{IsOk, Some, None, not};
+ghost use Rattle.gs_chars.specs.Characters.{are_digits, are_in_set82};
 ghost use Rattle.gs_grammar.specs.Items.{is_between};
 ghost use Rattle.gs_grammar.specs.ItemsSupport.{greatest_of};
 ghost use Rattle.gs_grammar.specs.NumeralsSupport.{number_behind};
 ghost use Rattle.gs_grammar.specs.Words.{Word, decimal_value};
-ghost use Rattle.gs_grammar.specs.WrittenWords.{GivesReason, first_reason, is_too_large, why_not};
+ghost use Rattle.gs_grammar.specs.WrittenWords.{GivesReason, first_reason, has_leading_zero, is_too_large, why_not};
 
 use crate::error::Why;
 use crate::item::{Item, fits_bits, is_within};
@@ -25,6 +26,13 @@ fn judge(char: bool, size: bool, zero: bool, large: bool) -> Result<(), Why>
         return Err(Why::Zero);
     }
     if large { Err(Why::Large) } else { Ok(()) }
+}
+
+/// Returns the first reason that applies to a text: a character of it, or its length.
+fn judge_text(char: bool, size: bool) -> Result<(), Why>
+    ensures { GivesReason result (first_reason char size false false) }
+{
+    judge(char, size, false, false)
 }
 
 /// Returns whether each character is one of the set of 82.
@@ -87,6 +95,20 @@ fn is_packable(lo: u8, hi: u8, bits: u16, count: usize) -> bool
     is_within(usize::from(lo), usize::from(hi), count) && count <= usize::from(bits / 7)
 }
 
+/// Returns the first reason why the characters do not write a number without leading zeros that is small enough.
+fn judge_number(value: &[u8], large: bool) -> Result<(), Why>
+    ensures { GivesReason result
+        (first_reason (not (are_digits value.now)) (length value.now == 0)
+        (has_leading_zero value.now) large) }
+{
+    judge(
+        !are_digits(value),
+        value.len() == 0,
+        has_leading_zero(value),
+        large,
+    )
+}
+
 /// Returns the first reason why the item has no word for the value. The greatest number of an item has at most 64 bits.
 fn reason_against(item: &Item, value: &[u8]) -> Result<(), Why>
     ensures greatest { greatest_of item.now < 2 ^ 64 }
@@ -94,24 +116,15 @@ fn reason_against(item: &Item, value: &[u8]) -> Result<(), Why>
 {
     let count = value.len();
     match item {
-        Item::Pad { n } => judge(!are_digits(value), count != usize::from(*n), false, false),
-        Item::Digits { lo, hi } => judge(
+        Item::Pad { n } => judge_text(!are_digits(value), count != usize::from(*n)),
+        Item::Digits { lo, hi } => judge_text(
             !are_digits(value),
             !is_within(usize::from(*lo), usize::from(*hi), count),
-            false,
-            false,
         ),
-        Item::Int { max } => judge(
-            !are_digits(value),
-            count == 0,
-            has_leading_zero(value),
-            is_above(value, *max),
-        ),
-        Item::Esc { lo, hi } => judge(
+        Item::Int { max } => judge_number(value, is_above(value, *max)),
+        Item::Esc { lo, hi } => judge_text(
             !all_in_set82(value),
             !is_within(usize::from(*lo), usize::from(*hi), count),
-            false,
-            false,
         ),
         Item::NumPad { bits, n } => judge(
             !are_digits(value),
@@ -119,25 +132,16 @@ fn reason_against(item: &Item, value: &[u8]) -> Result<(), Why>
             false,
             is_too_wide(value, *bits),
         ),
-        Item::Num { bits, max } => judge(
-            !are_digits(value),
-            count == 0,
-            has_leading_zero(value),
-            is_too_large(value, *max, *bits),
-        ),
-        Item::NumStr { bits, hi } => judge(
+        Item::Num { bits, max } => judge_number(value, is_too_large(value, *max, *bits)),
+        Item::NumStr { bits, hi } => judge_text(
             !are_digits(value),
             !is_within(1, usize::from(*hi), count) || is_too_wide_behind_one(value, *bits),
-            false,
-            false,
         ),
-        Item::Ascii7 { lo, hi, bits } => judge(
+        Item::Ascii7 { lo, hi, bits } => judge_text(
             !all_in_set82(value),
             !is_packable(*lo, *hi, *bits, count),
-            false,
-            false,
         ),
-        Item::Lit(_) | Item::Fill { .. } => judge(false, count != 0, false, false),
+        Item::Lit(_) | Item::Fill { .. } => judge_text(false, count != 0),
     }
 }
 

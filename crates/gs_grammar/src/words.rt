@@ -124,7 +124,8 @@ fn read_packed(
     hi: u8,
     bits: u16,
 ) -> Result<Option<Text>, Memory>
-    ensures found { IfOk result (λ found. IfSome found (λ value. Word (Ascii7 lo hi bits) value symbols.now)) }
+    ensures found { IfOk result (λ found.
+        IfSome found (λ value. Word (Ascii7 lo hi bits) value symbols.now)) }
     ensures none { IfOk result (λ found. IfNone found (IsWord (Ascii7 lo hi bits) symbols.now → ⊥)) }
 {
     if !is_packed(symbols, lo, hi, bits) {

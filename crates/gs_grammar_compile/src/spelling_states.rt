@@ -144,7 +144,8 @@ fn add_character(
 
 /// Adds the states of at least `lo` and at most `hi` characters in the spellings of EPC URIs.
 pub fn add_spelled(alloc: Global, table: &mut Table, lo: u8, hi: u8) -> Result<(), Memory>
-    ensures { OnOk result (table.new ≡ table.old ++ esc_table lo hi (length table.old) (length table.old + 4 * hi)) }
+    ensures { OnOk result (table.new
+        ≡ table.old ++ esc_table lo hi (length table.old) (length table.old + 4 * hi)) }
 {
     let end = state_ahead(table, 4 * usize::from(hi))?;
     let mut least = usize::from(lo);

@@ -10,7 +10,8 @@ use std::alloc::Global;
 
 /// Appends a place with only one symbol for each symbol of a literal.
 fn add_literal(places: &mut Vec<Place>, literal: &[u8]) -> Result<(), Memory>
-    ensures { OnOk result (places.new.items ≡ places.old.items ++ map (λ symbol. place_of symbol symbol) literal.now) }
+    ensures { OnOk result (places.new.items
+        ≡ places.old.items ++ map (λ symbol. place_of symbol symbol) literal.now) }
 {
     for symbol in literal {
         places.push(Place {

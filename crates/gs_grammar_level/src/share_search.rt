@@ -84,8 +84,10 @@ fn first_with(
     search: &mut PairSearch,
 ) -> Result<Option<(usize, Vec<u8>)>, Memory>
     requires { i < length level.now.options }
-    ensures found { IfFound result (λ first. IsFirstWith (item_lists level.now.options) i first.0 first.1.items) }
-    ensures none { IfNotFound result (SharesNoneBefore (item_lists level.now.options) i (length level.now.options)) }
+    ensures found { IfFound result (λ first.
+        IsFirstWith (item_lists level.now.options) i first.0 first.1.items) }
+    ensures none { IfNotFound result
+        (SharesNoneBefore (item_lists level.now.options) i (length level.now.options)) }
 {
     for j in i..level.options().len() {
         if let Some(list) = shared_list(alloc, level, i, j, search)? {

@@ -70,7 +70,8 @@ pub fn reply_with(
     last: bool,
 ) -> Result<Reply, Memory>
     requires { room_for resolver.now.links ≤ length room.old }
-    ensures { IfOk result (IsReply resolver.now.table resolver.now.links resolver.now.settings head.now last) }
+    ensures { IfOk result
+        (IsReply resolver.now.table resolver.now.links resolver.now.settings head.now last) }
 {
     let mut spans = [EMPTY_HEADER_SPAN; MOST_FIELDS];
     let Some(parts) = whole_head(head, &mut spans) else {

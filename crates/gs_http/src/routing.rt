@@ -69,7 +69,8 @@ fn sent_document(
     chosen: &[u32],
 ) -> Result<LinkDoc, Memory>
     requires chosen { (want : Wanted) × (ranges : List (List ℕ))
-        × (chosen.now ≡ narrowed resolver.now.links (chosen_numbers resolver.now.links identity.now want) ranges) }
+        × (chosen.now
+        ≡ narrowed resolver.now.links (chosen_numbers resolver.now.links identity.now want) ranges) }
     requires some { 0 < length chosen.now }
     ensures { IfOk result (λ doc. doc ≡ sent_document resolver.now.settings.templates identity.now
         (linked resolver.now.links chosen.now)) }
@@ -107,7 +108,8 @@ fn by_count<'a>(
     chosen: &[u32],
 ) -> Result<Answer<'a>, Memory>
     requires { (want : Wanted) × (ranges : List (List ℕ))
-        × (chosen.now ≡ narrowed resolver.now.links (chosen_numbers resolver.now.links identity.now want) ranges) }
+        × (chosen.now
+        ≡ narrowed resolver.now.links (chosen_numbers resolver.now.links identity.now want) ranges) }
     ensures { IfOk result (λ answer. said answer ≡ by_relation resolver.now.settings.templates identity.now
         (linked resolver.now.links chosen.now)) }
 {
@@ -156,7 +158,8 @@ fn by_relation<'a>(
     identity: &Identity,
 ) -> Result<Answer<'a>, Memory>
     requires { room_for resolver.now.links ≤ length room.old }
-    ensures { IfOk result (λ answer. said answer ≡ by_elements resolver.now.settings.templates resolver.now.links
+    ensures { IfOk result (λ answer. said answer
+        ≡ by_elements resolver.now.settings.templates resolver.now.links
         (accepted_ranges (asked_by request.now).fields) identity.now (for_relation name.now)) }
 {
     let store = resolver.store();
@@ -176,7 +179,8 @@ fn by_linkset<'a>(
 ) -> Result<Answer<'a>, Memory>
     requires { room_for resolver.now.links ≤ length room.old }
     ensures { (ranges : List (List ℕ)) → IfOk result (λ answer. said answer
-        ≡ by_elements resolver.now.settings.templates resolver.now.links ranges identity.now (for_linkset form)) }
+        ≡ by_elements resolver.now.settings.templates resolver.now.links
+        ranges identity.now (for_linkset form)) }
 {
     let chosen = resolver.store().choose(identity, Want::All, room);
     if chosen.count == 0 {
@@ -196,7 +200,8 @@ fn by_identity<'a>(
     identity: &Identity,
 ) -> Result<Answer<'a>, Memory>
     requires { room_for resolver.now.links ≤ length room.old }
-    ensures { IfOk result (λ answer. said answer ≡ by_elements resolver.now.settings.templates resolver.now.links
+    ensures { IfOk result (λ answer. said answer
+        ≡ by_elements resolver.now.settings.templates resolver.now.links
         (accepted_ranges (asked_by request.now).fields) identity.now (wished wish.now)) }
 {
     match wish {
@@ -218,7 +223,8 @@ fn by_pairs<'a>(
 ) -> Result<Answer<'a>, Memory>
     requires room { room_for resolver.now.links ≤ length room.old }
     requires in_order { All (IsInOrder resolver.now.table) pairs.items }
-    ensures { IfOk result (λ answer. said answer ≡ by_identity resolver.now.settings.templates resolver.now.links
+    ensures { IfOk result (λ answer. said answer
+        ≡ by_identity resolver.now.settings.templates resolver.now.links
         (accepted_ranges (asked_by request.now).fields) (wished wish.now)
         (identity_of_pairs resolver.now.table pairs.items)) }
 {

@@ -58,7 +58,8 @@ impl Identity {
         qualifier: Option<Pair>,
     ) -> Result<Identity, Memory>
         requires { IsQualifiedKey table.now key qualifier }
-        ensures made { IfOk result (λ identity. identity_of_pairs table.now (key ∷ pairs_in qualifier) ≡ Ok identity) }
+        ensures made { IfOk result (λ identity.
+            identity_of_pairs table.now (key ∷ pairs_in qualifier) ≡ Ok identity) }
         ensures with_table { IfOk result (λ identity. IsMadeWith table.now identity) }
     {
         // only for the proof: the rows satisfy the rules

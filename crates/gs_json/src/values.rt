@@ -97,7 +97,8 @@ fn read_members(
         ≡ Some (members_view m.entries, reader.new)) }
     ensures shorter { OnOk result (length reader.new ≤ length reader.old) }
     ensures syntax { result ≡ Err (JsonFault.Syntax)
-        → converted (λ ms. of_members ms no_members) (members (value depth) (length reader.old) reader.old) ≡ None }
+        → converted (λ ms. of_members ms no_members) (members (value depth) (length reader.old) reader.old)
+        ≡ None }
     ensures only { IfErr result (λ e. (e ≡ JsonFault.Syntax) ⊎ (e ≡ JsonFault.Memory)) }
 {
     let mut found = Map::new(alloc);

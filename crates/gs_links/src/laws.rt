@@ -43,7 +43,8 @@ pub fn one_anchor()
 
 /// States that under a vocabulary that keeps names, expanding an expanded relation again does not change it.
 pub fn expanded_once()
-    ensures { (voc name : List ℕ) → keeps_names voc ≡ true → expanded voc (expanded voc name) ≡ expanded voc name }
+    ensures { (voc name : List ℕ) → keeps_names voc ≡ true
+        → expanded voc (expanded voc name) ≡ expanded voc name }
 {}
 
 /// States that two linksets with the same links, in one order, give the same links if both load, however they are cut into
@@ -64,5 +65,6 @@ pub fn same_links_load()
 
 /// States that the names of the links' relations are the one ascending list of these names without `anchor`.
 pub fn names_of_relations()
-    ensures { (links : List Link) (names : List (List ℕ)) → (names ≡ names_of links) ↔ AreNamesOf links names }
+    ensures { (links : List Link) (names : List (List ℕ))
+        → (names ≡ names_of links) ↔ AreNamesOf links names }
 {}

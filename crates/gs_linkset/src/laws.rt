@@ -14,5 +14,6 @@ pub fn written_is_read()
 
 /// States that two targets of the shape with one text are equal.
 pub fn one_text_each()
-    ensures { (a b : Target) → is_target a ≡ true → is_target b ≡ true → target_text a ≡ target_text b → a ≡ b }
+    ensures { (a b : Target) → is_target a ≡ true → is_target b ≡ true
+        → target_text a ≡ target_text b → a ≡ b }
 {}

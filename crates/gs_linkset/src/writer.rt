@@ -139,7 +139,8 @@ fn put_object<T: Member>(
     requires others { list_all (is_other name.now) (map T.key_of things.now) ≡ true }
     requires text { is_utf8 text.now ≡ true }
     ensures { OnOk result (Adds out.old out.new
-        (tokens_of (object (put_member name.now (string text.now) (members_by T.key_of T.tree things.now))))) }
+        (tokens_of (object
+        (put_member name.now (string text.now) (members_by T.key_of T.tree things.now))))) }
 {
     let (below, above) = things.split_at(count_below(things, name));
     put(out, Token::BeginObject)?;

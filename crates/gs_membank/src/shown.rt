@@ -36,7 +36,8 @@ struct Start<'a> {
 
 /// Returns the start of a line, if the line begins as one that shows a dump.
 fn read_start(line: &[u8]) -> Option<Start<'_>>
-    ensures start { IfSome result (λ start. IsShownStart line.now start.user start.attributes start.rest.now) }
+    ensures start { IfSome result (λ start.
+        IsShownStart line.now start.user start.attributes start.rest.now) }
     ensures none { IfNone result ((user : Bool) (attributes : ℕ) (rest : List ℕ)
         → IsShownStart line.now user attributes rest → ⊥) }
 {

@@ -38,7 +38,8 @@ fn take_group<'a>(
     groups: &mut BTreeMap<Text, Vec<StoredLink<'a>>>,
     text: &Text,
 ) -> Vec<StoredLink<'a>>
-    ensures group { result.items ≡ unwrap_or (option_map (λ g. g.items) (found_at groups.old.entries text.now)) [] }
+    ensures group { result.items
+        ≡ unwrap_or (option_map (λ g. g.items) (found_at groups.old.entries text.now)) [] }
     ensures others { (q : List ℕ) → found_at groups.new.entries q
         ≡ (if bytes_eq text.now q then None else found_at groups.old.entries q) }
 {
@@ -56,9 +57,11 @@ fn put_link<'a>(
     link: StoredLink<'a>,
 ) -> Result<(), Memory>
     ensures ordered { IfOk result (λ _. IsStrictlySortedBy (slice_cmp nat_cmp) (keys_of groups.new.entries)) }
-    ensures group { IfOk result (λ _. (q : List ℕ) → option_map (λ g. g.items) (found_at groups.new.entries q)
+    ensures group { IfOk result (λ _. (q : List ℕ)
+        → option_map (λ g. g.items) (found_at groups.new.entries q)
         ≡ (if bytes_eq text q
-        then Some (unwrap_or (option_map (λ g. g.items) (found_at groups.old.entries text)) [] ++ link.entry ∷ [])
+        then Some (unwrap_or (option_map (λ g. g.items) (found_at groups.old.entries text)) []
+        ++ link.entry ∷ [])
         else option_map (λ g. g.items) (found_at groups.old.entries q))) }
 {
     let mut group = take_group(alloc, groups, &text);
@@ -73,7 +76,8 @@ pub(crate) fn groups_of<'a>(
     by: Grouping,
     links: &[StoredLink<'a>],
 ) -> Result<BTreeMap<Text, Vec<StoredLink<'a>>>, Memory>
-    ensures { IfOk result (λ groups. map (entry_seen (λ g. g.items)) groups.entries ≡ groups_of by links.now) }
+    ensures { IfOk result (λ groups.
+        map (entry_seen (λ g. g.items)) groups.entries ≡ groups_of by links.now) }
 {
     let mut groups = BTreeMap::new(alloc);
     for i in 0..links.len() {

@@ -30,8 +30,10 @@ pub trait Door: Conn {
         ensures not_opened { OnNotOpened result (SameOpened (Self.aside self.old) (Self.aside self.new)) }
         ensures failed { OnOpenFailed result (ErrorRises (Self.aside self.old) (Self.aside self.new)) }
         ensures counts { (Self.aside self.old).errors ≤ (Self.aside self.new).errors }
-        ensures addressed { AddsNames (Self.aside self.old).addresses (address.now ∷ []) (Self.aside self.new).addresses }
-        ensures aside { Self.aside self.new ≡ after_open result (Self.aside self.new).addresses (Self.aside self.old) }
+        ensures addressed { AddsNames (Self.aside self.old).addresses (address.now ∷ [])
+            (Self.aside self.new).addresses }
+        ensures aside { Self.aside self.new
+            ≡ after_open result (Self.aside self.new).addresses (Self.aside self.old) }
         ensures same_current { Self.is_open self.new ≡ Self.is_open self.old }
         ensures same_left { Self.left self.new ≡ Self.left self.old }
         ensures same_taken { Self.taken self.new ≡ Self.taken self.old }

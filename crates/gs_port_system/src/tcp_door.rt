@@ -96,7 +96,8 @@ impl<S: DoorCalls> Conn for TcpDoor<S, S::Listener, S::Stream> {
     fn read(&mut self, buf: &mut [u8]) -> ReadAnswer
         requires room { 0 < length buf.old }
         requires current { is_some self.old.current ≡ true }
-        ensures called { ReadsInTime S.times S.Stream.reads self.old.system self.old.budget self.old.current buf.old result
+        ensures called { ReadsInTime S.times S.Stream.reads
+            self.old.system self.old.budget self.old.current buf.old result
             self.new.system self.new.budget self.new.current buf.new }
         ensures within { IfGot result (λ n. n ≤ length buf.new) }
         ensures failed { OnReadFailed result (Rises self.old.reads self.new.reads) }
@@ -104,8 +105,10 @@ impl<S: DoorCalls> Conn for TcpDoor<S, S::Listener, S::Stream> {
         ensures count { self.new.reads ≡ count_after_read result self.old.reads }
         ensures same_writes { self.new.writes ≡ self.old.writes }
         ensures stays_open { is_some self.new.current ≡ true }
-        ensures same_aside { unknown_aside self.new.errors (is_some self.new.listener) self.new.reads_then self.new.writes_then
-            ≡ unknown_aside self.old.errors (is_some self.old.listener) self.old.reads_then self.old.writes_then }
+        ensures same_aside { unknown_aside self.new.errors (is_some self.new.listener)
+            self.new.reads_then self.new.writes_then
+            ≡ unknown_aside self.old.errors (is_some self.old.listener)
+            self.old.reads_then self.old.writes_then }
     {
         read_in_time(
             &mut self.system,
@@ -118,7 +121,8 @@ impl<S: DoorCalls> Conn for TcpDoor<S, S::Listener, S::Stream> {
 
     fn write(&mut self, piece: &[u8]) -> WriteAnswer
         requires current { is_some self.old.current ≡ true }
-        ensures called { WritesInTime S.times S.Stream.writes self.old.system self.old.budget self.old.current piece.now result
+        ensures called { WritesInTime S.times S.Stream.writes
+            self.old.system self.old.budget self.old.current piece.now result
             self.new.system self.new.budget self.new.current }
         ensures within { IfTook result (λ n. n ≤ length piece.now) }
         ensures some { IfTook result (λ n. 0 < length piece.now → 0 < n) }
@@ -127,8 +131,10 @@ impl<S: DoorCalls> Conn for TcpDoor<S, S::Listener, S::Stream> {
         ensures count { self.new.writes ≡ count_after_write result self.old.writes }
         ensures same_reads { self.new.reads ≡ self.old.reads }
         ensures stays_open { is_some self.new.current ≡ true }
-        ensures same_aside { unknown_aside self.new.errors (is_some self.new.listener) self.new.reads_then self.new.writes_then
-            ≡ unknown_aside self.old.errors (is_some self.old.listener) self.old.reads_then self.old.writes_then }
+        ensures same_aside { unknown_aside self.new.errors (is_some self.new.listener)
+            self.new.reads_then self.new.writes_then
+            ≡ unknown_aside self.old.errors (is_some self.old.listener)
+            self.old.reads_then self.old.writes_then }
     {
         write_in_time(
             &mut self.system,
@@ -142,15 +148,17 @@ impl<S: DoorCalls> Conn for TcpDoor<S, S::Listener, S::Stream> {
 
 impl<S: DoorCalls> Door for TcpDoor<S, S::Listener, S::Stream> {
     fn open(&mut self, address: &str) -> OpenAnswer
-        ensures called { ListensOnce S.binds self.old.system address.now self.old.listener result self.new.listener
-            self.new.system }
+        ensures called { ListensOnce S.binds self.old.system address.now self.old.listener result
+            self.new.listener self.new.system }
         ensures opened { OnOpened result (is_some self.new.listener ≡ true) }
         ensures not_opened { OnNotOpened result (is_some self.new.listener ≡ is_some self.old.listener) }
         ensures failed { OnOpenFailed result (Rises self.old.errors self.new.errors) }
         ensures counts { self.old.errors ≤ self.new.errors }
-        ensures aside { unknown_aside self.new.errors (is_some self.new.listener) self.new.reads_then self.new.writes_then
+        ensures aside { unknown_aside self.new.errors (is_some self.new.listener)
+            self.new.reads_then self.new.writes_then
             ≡ after_open result None
-            (unknown_aside self.old.errors (is_some self.old.listener) self.old.reads_then self.old.writes_then) }
+            (unknown_aside self.old.errors (is_some self.old.listener)
+            self.old.reads_then self.old.writes_then) }
         ensures same_current { self.new.current ≡ self.old.current }
         ensures same_reads { self.new.reads ≡ self.old.reads }
         ensures same_writes { self.new.writes ≡ self.old.writes }
@@ -170,15 +178,17 @@ impl<S: DoorCalls> Door for TcpDoor<S, S::Listener, S::Stream> {
     fn accept(&mut self) -> AcceptAnswer
         requires none_open { is_some self.old.current ≡ false }
         requires listening { is_some self.old.listener ≡ true }
-        ensures called { AcceptsOnce S.accepts S.sets_up self.old.listener self.old.current result self.new.listener
-            self.new.current }
+        ensures called { AcceptsOnce S.accepts S.sets_up self.old.listener self.old.current result
+            self.new.listener self.new.current }
         ensures accepted { OnAccepted result (is_some self.new.current ≡ true) }
         ensures not_accepted { OnNotAccepted result (is_some self.new.current ≡ false) }
         ensures failed { OnAcceptFailed result (Rises self.old.errors self.new.errors) }
         ensures counts { self.old.errors ≤ self.new.errors }
-        ensures aside { unknown_aside self.new.errors (is_some self.new.listener) self.new.reads_then self.new.writes_then
+        ensures aside { unknown_aside self.new.errors (is_some self.new.listener)
+            self.new.reads_then self.new.writes_then
             ≡ after_accept result self.old.reads self.old.writes
-            (unknown_aside self.old.errors (is_some self.old.listener) self.old.reads_then self.old.writes_then) }
+            (unknown_aside self.old.errors (is_some self.old.listener)
+            self.old.reads_then self.old.writes_then) }
         ensures same_reads { self.new.reads ≡ self.old.reads }
         ensures same_writes { self.new.writes ≡ self.old.writes }
     {
@@ -198,10 +208,13 @@ impl<S: DoorCalls> Door for TcpDoor<S, S::Listener, S::Stream> {
 
     fn finish(&mut self)
         requires current { is_some self.old.current ≡ true }
-        ensures called { EndsInStages S.times S.Stream.shuts S.Stream.reads self.old.system self.old.current self.new.system }
+        ensures called { EndsInStages S.times S.Stream.shuts S.Stream.reads
+            self.old.system self.old.current self.new.system }
         ensures ended { is_some self.new.current ≡ false }
-        ensures same_aside { unknown_aside self.new.errors (is_some self.new.listener) self.new.reads_then self.new.writes_then
-            ≡ unknown_aside self.old.errors (is_some self.old.listener) self.old.reads_then self.old.writes_then }
+        ensures same_aside { unknown_aside self.new.errors (is_some self.new.listener)
+            self.new.reads_then self.new.writes_then
+            ≡ unknown_aside self.old.errors (is_some self.old.listener)
+            self.old.reads_then self.old.writes_then }
         ensures same_reads { self.new.reads ≡ self.old.reads }
         ensures same_writes { self.new.writes ≡ self.old.writes }
     {

@@ -259,7 +259,8 @@ fn add_behind_prefix(
     form: RestForm,
     serial: Option<Item>,
 ) -> Result<(), Memory>
-    ensures { OnOk result (items.new.items ≡ items.old.items ++ map there (behind_prefix rest (pieces_in_text form) serial)) }
+    ensures { OnOk result (items.new.items
+        ≡ items.old.items ++ map there (behind_prefix rest (pieces_in_text form) serial)) }
 {
     match rest {
         (None, _) => add_behind_dots(alloc, items, serial),

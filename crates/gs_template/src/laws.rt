@@ -8,7 +8,8 @@ ghost use Rattle.gs_template.specs.Templates.{AreParts, HoldsBytes, Part, filled
 
 /// States that the expansion of a place has only letters, digits, `-`, `.`, `_` and `%`.
 pub fn places_hold_plain_bytes()
-    ensures { (value : List ℕ) → All (λ c. c < 256) value → list_all is_place_byte (percent_encoded value) ≡ true }
+    ensures { (value : List ℕ) → All (λ c. c < 256) value
+        → list_all is_place_byte (percent_encoded value) ≡ true }
 {}
 
 /// States that the delimiters of a filled template are those of the template, in their order. No value adds a path segment, a

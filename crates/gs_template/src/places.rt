@@ -52,7 +52,8 @@ fn judge(
 ) -> Result<usize, PlaceFault>
     ensures further { IfOk result (λ further. further ≡ bytes_behind (place_size byte behind.now)) }
     ensures fine { IfOk result (λ _.
-        part_errors (key.now ∷ qualifiers.now) at (part_of byte behind.now (place_size byte behind.now)) ≡ []) }
+        part_errors (key.now ∷ qualifiers.now) at (part_of byte behind.now (place_size byte behind.now))
+        ≡ []) }
     ensures error { IfErr result (λ error.
         part_errors (key.now ∷ qualifiers.now) at (part_of byte behind.now (place_size byte behind.now))
         ≡ error ∷ []) }

@@ -48,7 +48,8 @@ pub(crate) fn bracketed_meaning(
     set: &TableSet,
     text: &[u8],
 ) -> Result<Meaning, Reason>
-    ensures meaning { UnlessMemory result (Then (ReadsBracketed set.now text.now) (IsIdentified set.now) result) }
+    ensures meaning { UnlessMemory result
+        (Then (ReadsBracketed set.now text.now) (IsIdentified set.now) result) }
     ensures with_table { IfOk result (λ meaning. IsMadeWith set.now.ais meaning.identity) }
 {
     let pairs = read_bracketed(alloc, set.ais(), text)?;

@@ -26,7 +26,8 @@ fn link_text(
     text: &[u8],
 ) -> Result<Text, ClassReason>
     requires { IsOfTable table.now classes.now }
-    ensures { HasMemory (λ reason. reason ≡ Common OutOfMemory) result → IsClassLink classes.now text.now result }
+    ensures { HasMemory (λ reason. reason ≡ Common OutOfMemory) result
+        → IsClassLink classes.now text.now result }
 {
     if text.len() > LONGEST_TEXT {
         return Err(ClassReason::Common(Reason::Long));
@@ -128,7 +129,8 @@ impl<'a> ClassUriLines<'a> {
 
     /// Returns the class URI of the meaning of a text as a link.
     fn class_text(&self, alloc: Global, text: &[u8]) -> Result<Text, ClassReason>
-        ensures { HasMemory (λ reason. reason ≡ Common OutOfMemory) result → IsClassText self.now text.now result }
+        ensures { HasMemory (λ reason. reason ≡ Common OutOfMemory) result
+            → IsClassText self.now text.now result }
     {
         let meaning = read(alloc, self.tables, Form::Link, text)?;
         let table = self.tables.ais();

@@ -26,7 +26,8 @@ fn shown_text(alloc: Global, set: &TableSet, text: &[u8]) -> Result<Text, DumpRe
 
 /// Returns the text of the dump that a line shows.
 fn written_text(alloc: Global, set: &TableSet, text: &[u8]) -> Result<Text, DumpReason>
-    ensures { HasMemory (λ reason. reason ≡ Common OutOfMemory) result → IsDumpWritten set.now text.now result }
+    ensures { HasMemory (λ reason. reason ≡ Common OutOfMemory) result
+        → IsDumpWritten set.now text.now result }
 {
     if text.len() > LONGEST_TEXT {
         return Err(DumpReason::Common(Reason::Long));

@@ -243,7 +243,8 @@ fn may_have(command: Command, values: NamedValues<'_>) -> bool
 /// Returns the request of a command with the arguments after its operands. Returns `None` if and only if one of three holds:
 /// they are not pairs that the command takes, a required name is missing, or this command may not have a value.
 fn request_of(command: Command, words: &[String]) -> Option<Request<'_>>
-    ensures request { IfSome result (λ request. Asks command (known_words words.now) (known_request request)) }
+    ensures request { IfSome result (λ request.
+        Asks command (known_words words.now) (known_request request)) }
     ensures none { IfNone result (AsksNothing command (known_words words.now)) }
 {
     if !are_of_rows(words, command.names()) {
@@ -265,7 +266,8 @@ fn request_of(command: Command, words: &[String]) -> Option<Request<'_>>
 
 /// Returns the request that the arguments spell. `None` is returned if and only if they are not valid.
 pub fn read_arguments(words: &[String]) -> Option<Request<'_>>
-    ensures request { IfSome result (λ request. WordsInOrder (known_words words.now) (known_request request)) }
+    ensures request { IfSome result (λ request.
+        WordsInOrder (known_words words.now) (known_request request)) }
     ensures none { IfNone result (NotInOrder (known_words words.now)) }
 {
     let split = command_of(words)?;

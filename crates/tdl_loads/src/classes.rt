@@ -56,8 +56,8 @@ pub fn load_classes<F: Files>(
     name: Option<&str>,
     files: &mut F,
 ) -> Result<ClassSet, Unloaded>
-    ensures { Loads (λ known. ClassesGive known ais.now command (known_name name.entry)) (option_to_list (known_name name.entry))
-        (files.new ≡ files.old)
+    ensures { Loads (λ known. ClassesGive known ais.now command (known_name name.entry))
+        (option_to_list (known_name name.entry)) (files.new ≡ files.old)
         (files_known (F.files files.old) (F.opened files.old) (F.errors files.old))
         (files_known (F.files files.new) (F.opened files.new) (F.errors files.new)) result }
 {

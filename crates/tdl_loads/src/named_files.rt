@@ -41,8 +41,8 @@ pub fn read_if_named<F: Files>(
     name: Option<&str>,
     files: &mut F,
 ) -> Result<Option<Text>, Unloaded>
-    ensures { Loads (λ known. BytesGive known kind (known_name name.entry)) (option_to_list (known_name name.entry))
-        (files.new ≡ files.old)
+    ensures { Loads (λ known. BytesGive known kind (known_name name.entry))
+        (option_to_list (known_name name.entry)) (files.new ≡ files.old)
         (files_known (F.files files.old) (F.opened files.old) (F.errors files.old))
         (files_known (F.files files.new) (F.opened files.new) (F.errors files.new)) result }
 {

@@ -31,8 +31,8 @@ pub fn load_prefixes<F: Files>(
     name: Option<&str>,
     files: &mut F,
 ) -> Result<PrefixList, Unloaded>
-    ensures { Loads (λ known. PrefixesGive known (known_name name.entry)) (option_to_list (known_name name.entry))
-        (files.new ≡ files.old)
+    ensures { Loads (λ known. PrefixesGive known (known_name name.entry))
+        (option_to_list (known_name name.entry)) (files.new ≡ files.old)
         (files_known (F.files files.old) (F.opened files.old) (F.errors files.old))
         (files_known (F.files files.new) (F.opened files.new) (F.errors files.new)) result }
 {

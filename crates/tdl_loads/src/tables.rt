@@ -42,8 +42,8 @@ pub fn load_tables<F: Files>(
     name: Option<&str>,
     files: &mut F,
 ) -> Result<TablesWithSource, Unloaded>
-    ensures { Loads (λ known. TablesGive known (known_name name.entry)) (option_to_list (known_name name.entry))
-        (files.new ≡ files.old)
+    ensures { Loads (λ known. TablesGive known (known_name name.entry))
+        (option_to_list (known_name name.entry)) (files.new ≡ files.old)
         (files_known (F.files files.old) (F.opened files.old) (F.errors files.old))
         (files_known (F.files files.new) (F.opened files.new) (F.errors files.new)) result }
 {

@@ -20,7 +20,8 @@ pub fn link_classes<S: Source, K: Sink>(
     output: &mut K,
 ) -> Status
     requires { AreKept loaded.now.tables.ais loaded.now.classes }
-    ensures { AnswersLines (IsClassCanonLine loaded.now.classes) result (K.held output.old) (K.held output.new)
+    ensures { AnswersLines (IsClassCanonLine loaded.now.classes) result
+        (K.held output.old) (K.held output.new)
         (moment_of (S.left input.old) (S.errors input.old) (K.errors output.old))
         (moment_of (S.left input.new) (S.errors input.new) (K.errors output.new)) }
 {

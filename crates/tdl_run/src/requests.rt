@@ -74,7 +74,8 @@ pub fn run_request<F: Files, S: Source, K: Sink, D: Door>(
         (S.left input.new)) }
     ensures read_error { OnTrue (is_status result Status.ReadFault) (WritesAfterError (input.new ≡ input.old)
         (Rises (S.errors input.old) (S.errors input.new)) (K.held output.old) (K.held output.new)
-        (AskedEnded (known_request request.entry) (F.files files.old) (S.left input.old) (S.left input.new))) }
+        (AskedEnded (known_request request.entry) (F.files files.old)
+        (S.left input.old) (S.left input.new))) }
     ensures served { answers_heads (known_request request.entry).command ≡ true
         → AskedServes (input.new ≡ input.old) (known_request request.entry) (F.files files.old) result
         (S.left input.old) (S.left input.new) (K.held output.old) (K.held output.new) }
@@ -87,7 +88,8 @@ pub fn run_request<F: Files, S: Source, K: Sink, D: Door>(
     ensures closed { D.is_open door.new ≡ false }
     ensures waiting { FinishesFirst (D.aside door.old) (D.aside door.new) }
     ensures listens { uses_door (known_request request.entry).command ≡ true
-        → AskedListens (known_request request.entry) result (D.aside door.old).addresses (D.aside door.new).addresses }
+        → AskedListens (known_request request.entry) result
+        (D.aside door.old).addresses (D.aside door.new).addresses }
     ensures door_counts { (D.aside door.old).errors ≤ (D.aside door.new).errors }
     ensures opened { OpensUpTo (F.files files.old) (known_request request.entry)
         (F.opened files.old) (F.opened files.new) }

@@ -42,7 +42,8 @@ pub fn translate_loaded<S: Source, K: Sink>(
 ) -> Status
     requires loaded { IsLoaded loaded.now.tables }
     requires options { AreInOrder (options_of (known_values values)) }
-    ensures { AnswersLines (IsTranslatedLine (translating loaded.now (known_values values.entry) from to)) result
+    ensures { AnswersLines
+        (IsTranslatedLine (translating loaded.now (known_values values.entry) from to)) result
         (K.held output.old) (K.held output.new)
         (moment_of (S.left input.old) (S.errors input.old) (K.errors output.old))
         (moment_of (S.left input.new) (S.errors input.new) (K.errors output.new)) }

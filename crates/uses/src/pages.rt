@@ -49,7 +49,8 @@ pub fn page_for(
     linkset: &[u8],
     head: &[u8],
 ) -> Result<Reply, PageError>
-    ensures { IfOk result (λ answer. (links : List Link) × (how : How) × IsReply ais.now links how head.now false answer) }
+    ensures { IfOk result (λ answer. (links : List Link) × (how : How)
+        × IsReply ais.now links how head.now false answer) }
 {
     let document = gs_linkset::read(alloc, linkset)?;
     let store = Store::load(alloc, ais, VOCABULARY.as_bytes(), document)?;
