@@ -1,15 +1,17 @@
 -- Merged stores.
 use Rattle.std.proofs.Common.{◌≡◌, ◌++◌, ℕ, true, false, All, List, sym, ap, ◌∙◌}
-use Rattle.std.specs.Prelude.{Ok}
+use Rattle.std.specs.Prelude.{Ok, nat_lt}
 use Rattle.std.proofs.lemmas.List.{append_assoc}
 use Rattle.std.proofs.lemmas.List.Elements.{All-append, All-filter}
 use Rattle.gs_ai.specs.Tables.{KeepsRules}
 use Rattle.gs_ai.specs.declared.row.AiRow.{AiRow}
-use Rattle.gs_links.specs.Loads.{keeps_names, links_of, load_answer}
+use Rattle.gs_linkset.specs.declared.link_types.Context.{Context}
+use Rattle.gs_links.specs.Loads.{keeps_names, links_of, load_answer, targets_count}
+use Rattle.gs_links.specs.Shapes.{most_links}
 use Rattle.gs_links.specs.declared.link.Link.{Link}
 use Rattle.gs_merge.specs.Distinct.{distinct}
 use Rattle.gs_merge.specs.MergedDocuments.{is_too_many, merged, with_relation}
-use Rattle.gs_merge.specs.Stores.{IsStore, targets_at, targets_in}
+use Rattle.gs_merge.specs.Stores.{IsStore, LoadsForBoth, targets_at, targets_in}
 use Rattle.gs_merge.proofs.KeptLinks.{IsKept, IsSettled, contexts_settled, links_are_those, loaded_targets, settled_load, store_kept}
 use Rattle.gs_merge.proofs.TargetsAt.{merged_first, merged_last, one_merged}
 
@@ -36,3 +38,9 @@ module _ (table : List AiRow) (rules : KeepsRules table) (voc : List ℕ) (keeps
       merged_first a b ab c (λ t n o. merged_has a b ab store_a store_b first t n) text name other
       ∙ ap distinct (append_assoc (targets_at a text name) (targets_at b text name) (targets_at c text name))
       ∙ sym (merged_last a b c bc (λ t n o. merged_has b c bc store_b store_c second t n) text name other))
+
+-- the document that is made loads
+pub made_loads : (a b : List Link) (contexts doc : List Context) → contexts ≡ merged a b → doc ≡ contexts → false ≡ nat_lt most_links (targets_count contexts) → LoadsForBoth a b doc
+made_loads a b contexts doc own made few = λ table voc rules keeps store_a store_b.
+    let h : is_too_many (merged a b) ≡ false = rw own at (sym few) in
+    rw (made, own) (merged_loads table rules voc keeps a b store_a store_b h)

@@ -1,15 +1,16 @@
 -- The targets of merged stores at an anchor and a relation (RFC 9264, section 4.2). Those that are chosen for an identity
 -- follow (GS1-Conformant Resolver). The laws are this project's own.
-use Rattle.std.specs.Prelude.{◌≡◌, ℕ, Bool, false, max, List, codes, filter, Ok}
+use Rattle.std.specs.Prelude.{◌≡◌, ℕ, Bool, false, true, max, List, codes, filter, Ok}
 use Rattle.std.specs.List.{flat_map, list_any}
 use Rattle.std.specs.Str.{bytes_eq}
+use Rattle.gs_ai.specs.Tables.{KeepsRules}
 use Rattle.gs_ai.specs.declared.row.AiRow.{AiRow}
 use Rattle.gs_ident.specs.Elements.{Elements}
 use Rattle.gs_linkset.specs.declared.link_types.Context.{Context}
 use Rattle.gs_linkset.specs.declared.link_types.Target.{Target}
 use Rattle.gs_links.specs.Choices.{chosen_at, chosen_depth}
 use Rattle.gs_links.specs.Documents.{linked}
-use Rattle.gs_links.specs.Loads.{load_answer}
+use Rattle.gs_links.specs.Loads.{keeps_names, links_of, load_answer}
 use Rattle.gs_links.specs.declared.link.Link.{Link}
 use Rattle.gs_links.specs.declared.link.Want.{Want}
 use Rattle.gs_links.specs.declared.link.Want.TheVariants.{All, Relation}
@@ -19,6 +20,13 @@ use Rattle.gs_merge.specs.MergedDocuments.{links_at, links_by, targets_of}
 -- trusted, own: the links of a store: those of a document that loads
 abbrev pub IsStore : List AiRow → List ℕ → List Link → Type 0
 IsStore table voc links = (contexts : List Context) × (load_answer table voc contexts ≡ Ok links)
+
+-- trusted, own: Holds if the document loads to its links, by each table and vocabulary of which both are the links of a store.
+-- The table satisfies the rules, and the vocabulary keeps names.
+abbrev pub LoadsForBoth : List Link → List Link → List Context → Type 0
+LoadsForBoth a b contexts =
+    (table : List AiRow) (voc : List ℕ) → KeepsRules table → keeps_names voc ≡ true → IsStore table voc a → IsStore table voc b
+    → load_answer table voc contexts ≡ Ok (links_of table voc contexts)
 
 -- trusted, own: the targets of the links of one anchor and one relation, in their order
 abbrev pub targets_at : List Link → List ℕ → List ℕ → List Target
