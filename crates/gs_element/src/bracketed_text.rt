@@ -4,7 +4,7 @@ ghost use Rattle.gs_element.specs.Answers.{IsBracketedRejection};
 ghost use Rattle.gs_element.specs.BracketedTexts.{IsBracketed};
 
 use crate::behind::{code_front, read_value};
-use crate::errors::{ElementsFault, error_at};
+use crate::errors::{RawFault, error_at};
 use crate::pairs::push_pair;
 use gs_ai::{AiTable, ElementWhy, Pair};
 use gs_chars::Text;
@@ -16,11 +16,7 @@ use std::alloc::Global;
 /// The error is the one at the smallest place: `Bracket` if `(` is missing, or if digits and `)` do not follow it. At the place
 /// of the code's first digit it is `Unknown` if no row has the code, or the error of the value. May return `Memory` instead.
 /// Reads the text from left to right, and allocates only for the pairs.
-pub fn read_bracketed(
-    alloc: Global,
-    table: &AiTable,
-    text: &[u8],
-) -> Result<Vec<Pair>, ElementsFault>
+pub fn read_bracketed(alloc: Global, table: &AiTable, text: &[u8]) -> Result<Vec<Pair>, RawFault>
     ensures read { IfOk result (λ pairs. IsBracketed table.now text.now pairs.items) }
     ensures in_order { IfOk result (λ pairs. All (IsInOrder table.now) pairs.items) }
     ensures rejected { IfErr result (IsBracketedRejection table.now text.now) }

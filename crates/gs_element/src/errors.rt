@@ -5,26 +5,26 @@ use gs_chars::Memory;
 
 /// Why a text gives no pairs.
 #[derive(Clone, Copy)]
-pub enum ElementsFault {
+pub enum RawFault {
     /// The text is not an element string: where, and why.
     Element(ElementFault),
     /// Out of memory.
     Memory,
 }
 
-impl From<Memory> for ElementsFault {
-    ghost use Rattle.gs_element.specs.declared.errors.ElementsFault.TheVariants.{Memory as memory};
+impl From<Memory> for RawFault {
+    ghost use Rattle.gs_element.specs.declared.errors.RawFault.TheVariants.{Memory as memory};
 
     ghost from_gives = { λ _ e. e ≡ memory };
 
-    fn from(_rejected: Memory) -> ElementsFault {
-        ElementsFault::Memory
+    fn from(_rejected: Memory) -> RawFault {
+        RawFault::Memory
     }
 }
 
 /// Returns the rejection for an error at a place.
-pub fn error_at(at: usize, why: ElementWhy) -> ElementsFault
-    ensures { result ≡ ElementsFault.Element (record { at = at; why = why }) }
+pub fn error_at(at: usize, why: ElementWhy) -> RawFault
+    ensures { result ≡ RawFault.Element (record { at = at; why = why }) }
 {
-    ElementsFault::Element(ElementFault { at, why })
+    RawFault::Element(ElementFault { at, why })
 }

@@ -30,7 +30,7 @@ mod raw;
 mod writer;
 
 pub use bracketed_text::read_bracketed;
-pub use errors::ElementsFault;
+pub use errors::RawFault;
 pub use laws::{one_error_each, one_list_each, some_answer, written_is_read};
 pub use raw::read_raw;
 pub use writer::{append_bracketed, append_raw, write_bracketed, write_raw};

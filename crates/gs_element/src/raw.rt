@@ -6,7 +6,7 @@ ghost use Rattle.gs_element.specs.Answers.{IsRawRejection};
 ghost use Rattle.gs_element.specs.Raw.{body_of, raw_value, raw_value_error, IsRaw};
 ghost use Rattle.gs_element.specs.RawSupport.{without_separator, IsCutFrom};
 
-use crate::errors::{ElementsFault, error_at};
+use crate::errors::{RawFault, error_at};
 use crate::pairs::push_pair;
 use gs_ai::{AiTable, ElementWhy, Pair, ValueFault};
 use gs_chars::Text;
@@ -94,7 +94,7 @@ fn cut_element<'a>(table: &AiTable, text: &'a [u8]) -> Result<Cut<'a>, ValueFaul
 ///
 /// Returns the first error from the left, at the place of the code: `Unknown` if no code begins the rest, otherwise that of the
 /// value. May return `Memory` instead. Scans the text once, from left to right, and allocates only the pairs.
-pub fn read_raw(alloc: Global, table: &AiTable, text: &[u8]) -> Result<Vec<Pair>, ElementsFault>
+pub fn read_raw(alloc: Global, table: &AiTable, text: &[u8]) -> Result<Vec<Pair>, RawFault>
     ensures read { IfOk result (λ pairs. IsRaw table.now text.now pairs.items) }
     ensures in_order { IfOk result (λ pairs. All (IsInOrder table.now) pairs.items) }
     ensures rejected { IfErr result (IsRawRejection table.now text.now) }

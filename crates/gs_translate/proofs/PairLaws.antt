@@ -11,8 +11,8 @@ use Rattle.gs_dlink.specs.declared.error.LinkFault.TheVariants as link
 use Rattle.gs_dlink.specs.Answers.{error_in, link_answer, link_error}
 use Rattle.gs_tables_document.specs.declared.document.Document.{Document}
 use Rattle.gs_tables_document.specs.declared.error.LoadFault.TheVariants.{Ai}
-use Rattle.gs_element.specs.declared.errors.ElementsFault.{ElementsFault}
-use Rattle.gs_element.specs.declared.errors.ElementsFault.TheVariants.{Element as WrongElement, Memory as NoMemory}
+use Rattle.gs_element.specs.declared.errors.RawFault.{RawFault}
+use Rattle.gs_element.specs.declared.errors.RawFault.TheVariants.{Element as WrongElement, Memory as NoMemory}
 use Rattle.gs_element.specs.BracketedTexts.{IsBracketed, IsBracketedElement, IsBracketedError, bracketed_error}
 use Rattle.gs_element.specs.Raw.{IsRaw, IsRawElement, IsRawError, body_of, raw_error}
 use Rattle.gs_element.proofs.BodyLemmas.{body_shorter}
@@ -108,7 +108,7 @@ some_of_pairs set Reads some = then_some Reads (IsIdentified set) some (λ pairs
 -- ---- why none are read
 
 -- a rejection of a reader of element strings is that of the text
-pub elements_rejected : (set : TableRows) (Are : List Pair → Type 0) (IsError : ElementFault → Type 0) (Rejects : ElementsFault → Type 0) (error : ElementsFault) → ((f : ElementFault) → Rejects (WrongElement f) → IsError f) → Rejects error → UnlessMemory {X = Meaning} (Err (elements_reason error)) (Then (λ answer. MatchResult answer Are (OfElement IsError)) (IsIdentified set) (Err (elements_reason error)))
+pub elements_rejected : (set : TableRows) (Are : List Pair → Type 0) (IsError : ElementFault → Type 0) (Rejects : RawFault → Type 0) (error : RawFault) → ((f : ElementFault) → Rejects (WrongElement f) → IsError f) → Rejects error → UnlessMemory {X = Meaning} (Err (elements_reason error)) (Then (λ answer. MatchResult answer Are (OfElement IsError)) (IsIdentified set) (Err (elements_reason error)))
 elements_rejected set Are IsError Rejects (WrongElement error) f r = rejects (Element error) (error, refl, f error r) refl
 elements_rejected set Are IsError Rejects NoMemory f r = tt
 

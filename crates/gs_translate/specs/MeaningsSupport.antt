@@ -3,8 +3,8 @@ use Rattle.std.specs.Prelude.{◌≡◌, ℕ, List, Result}
 use Rattle.std.specs.Result.{result_map_both}
 use Rattle.gs_ai.specs.declared.pair.Pair.{Pair}
 use Rattle.gs_dlink.specs.Answers.{link_answer}
-use Rattle.gs_element.specs.declared.errors.ElementsFault.{ElementsFault}
-use Rattle.gs_element.specs.declared.errors.ElementsFault.TheVariants.{Element as WrongElement, Memory as NoMemory}
+use Rattle.gs_element.specs.declared.errors.RawFault.{RawFault}
+use Rattle.gs_element.specs.declared.errors.RawFault.TheVariants.{Element as WrongElement, Memory as NoMemory}
 use Rattle.gs_epc.specs.declared.error.EpcFault.{EpcFault}
 use Rattle.gs_epc.specs.declared.error.EpcFault.TheVariants.{Hex, NoReading, Memory as NoRoom}
 use Rattle.gs_ident.specs.declared.errors.IdentFault.{IdentFault}
@@ -17,7 +17,7 @@ use Rattle.gs_translate.specs.Meanings.{identity_meaning, link_reason}
 use Rattle.gs_translate.specs.Steps.{reworded}
 
 -- trusted, own: the reason by which a reader of element strings rejects a text
-abbrev pub elements_reason : ElementsFault → Reason
+abbrev pub elements_reason : RawFault → Reason
 elements_reason (WrongElement error) = Element error
 elements_reason NoMemory = OutOfMemory
 

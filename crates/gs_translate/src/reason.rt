@@ -2,7 +2,7 @@ use crate::field_name::FieldName;
 use gs_ai::ElementFault;
 use gs_chars::{Memory, Text};
 use gs_dlink::LinkFault;
-use gs_element::ElementsFault;
+use gs_element::RawFault;
 use gs_epc::EpcFault;
 use gs_grammar::Why;
 use gs_ident::IdentFault;
@@ -62,16 +62,16 @@ impl From<EpcFault> for Reason {
     }
 }
 
-impl From<ElementsFault> for Reason {
+impl From<RawFault> for Reason {
     ghost use Rattle.std.specs.Prelude.{◌≡◌};
     ghost use Rattle.gs_translate.specs.MeaningsSupport.{elements_reason};
 
     ghost from_gives = { λ error reason. reason ≡ elements_reason error };
 
-    fn from(error: ElementsFault) -> Reason {
+    fn from(error: RawFault) -> Reason {
         match error {
-            ElementsFault::Element(error) => Reason::Element(error),
-            ElementsFault::Memory => Reason::Memory,
+            RawFault::Element(error) => Reason::Element(error),
+            RawFault::Memory => Reason::Memory,
         }
     }
 }

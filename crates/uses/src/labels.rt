@@ -5,7 +5,7 @@ ghost use Rattle.gs_ident.specs.Links.{canonical_link};
 
 use gs_ai::AiTable;
 use gs_chars::{Memory, Text};
-use gs_element::{ElementsFault, read_bracketed};
+use gs_element::{RawFault, read_bracketed};
 use gs_ident::{IdentFault, canonical, make};
 use std::alloc::Global;
 
@@ -13,15 +13,15 @@ use std::alloc::Global;
 #[derive(Drop)]
 pub enum LabelError {
     /// Its text is not an element string: where, and why.
-    Text(ElementsFault),
+    Text(RawFault),
     /// Its elements have no identity.
     Elements(IdentFault),
     /// Out of memory.
     Memory,
 }
 
-impl From<ElementsFault> for LabelError {
-    fn from(error: ElementsFault) -> LabelError {
+impl From<RawFault> for LabelError {
+    fn from(error: RawFault) -> LabelError {
         LabelError::Text(error)
     }
 }

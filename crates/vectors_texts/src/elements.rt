@@ -6,7 +6,7 @@
 use crate::identities::made;
 use gs_ai::{AiTable, ElementFault, Pair};
 use gs_chars::Text;
-use gs_element::{ElementsFault, read_bracketed, read_raw, write_bracketed, write_raw};
+use gs_element::{RawFault, read_bracketed, read_raw, write_bracketed, write_raw};
 use std::alloc::Global;
 use vectors_cases::{Done, Line, Rejection, bytes_at, named};
 
@@ -39,11 +39,11 @@ pub fn answer(alloc: Global, line: &mut Line, table: &AiTable, call: &[u8], args
 }
 
 /// Writes the codes and values in turn, or the error.
-fn add_read(line: &mut Line, read: Result<Vec<Pair>, ElementsFault>) {
+fn add_read(line: &mut Line, read: Result<Vec<Pair>, RawFault>) {
     match read {
         Ok(pairs) => add_listed(line, pairs.as_slice()),
-        Err(ElementsFault::Element(error)) => add_error(line, error),
-        Err(ElementsFault::Memory) => line.want_memory(),
+        Err(RawFault::Element(error)) => add_error(line, error),
+        Err(RawFault::Memory) => line.want_memory(),
     }
 }
 
