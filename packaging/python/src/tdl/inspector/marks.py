@@ -6,6 +6,7 @@ from typing import Any, Dict, Iterable, List, Optional, Tuple
 
 from .elements import Element, elements
 from .fields import Reading, read_fields
+from .filters import filters_of
 from .rows import Ai, Kind, Rows
 
 LEADS = {"01": "indicator digit", "00": "extension digit", "8006": "indicator digit"}
@@ -55,16 +56,17 @@ def label_of(role: str, key: Optional[str]) -> str:
     return REFERENCES.get(key or "", "reference") if role == "reference" else LABELS.get(role, "")
 
 
-def pieces(text: bytes, marks: Iterable[Mark], key: Optional[str] = None) -> List[Dict[str, str]]:
-    """The text in pieces, each with its role and its label. A mark in the midst of a character takes the whole of it."""
-    found, at = [], 0
+def pieces(text: bytes, marks: Iterable[Mark], key: Optional[str] = None) -> List[Dict[str, Any]]:
+    """Returns the text in pieces, each with its first byte, its role and its label. A mark takes the whole of each character."""
+    found: List[Dict[str, Any]] = []
+    at = 0
 
     def take(end: int, role: str) -> None:
         nonlocal at
         while end < len(text) and text[end] & 0xC0 == 0x80:
             end += 1
         if end > at:
-            found.append({"text": text[at:end].decode("utf-8", "replace"), "role": role, "label": label_of(role, key)})
+            found.append({"text": text[at:end].decode("utf-8", "replace"), "at": at, "role": role, "label": label_of(role, key)})
             at = end
 
     for mark in sorted(marks, key=lambda it: it.start):
@@ -171,6 +173,8 @@ def bit_rows(reading: Reading, rows: Rows) -> List[Dict[str, Any]]:
             value = f"{int(bits, 2):02X}: {reading.option.encoding}"
         elif role == "partition":
             value = str(int(bits, 2))
+        elif role == "filter":
+            value = f"{value}: {filters_of(reading.option.kind)[int(value)]}"
         elif role in ("fixed", "padding"):
             value = ""
         if bits:
