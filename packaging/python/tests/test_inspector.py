@@ -2,6 +2,7 @@
 import http.client
 import json
 import shutil
+import socket
 import struct
 import subprocess
 import sys
@@ -21,7 +22,7 @@ from tdl.inspector.fields import read_fields  # noqa: E402
 from tdl.inspector.questions import bytes_of, forms_in_order  # noqa: E402
 from tdl.inspector.reasons import COUNTED, OF_A_TARGET, OF_A_TEXT, check_digit, explain, explain_target, sentence_of  # noqa: E402
 from tdl.inspector.rows import Rows  # noqa: E402
-from tdl.inspector.server import FILES, POLICY, Server  # noqa: E402
+from tdl.inspector.server import FILES, POLICY, Server, is_served  # noqa: E402
 from tdl.inspector.sets import Sets, sets_by_code  # noqa: E402
 from tdl.inspector.values import full_year, meaning  # noqa: E402
 from tdl.program import find_program  # noqa: E402
@@ -463,6 +464,12 @@ class Serving(unittest.TestCase):
             self.assertEqual(self.reply("POST", "/compose", text, Content_Type="application/json")[0], 400)
         choices = json.loads(self.reply("GET", "/choices")[2])
         self.assertEqual((choices["sets"][0]["name"], len(choices["keys"])), ("gs1", 10))
+
+    def test_a_page_that_is_served_already(self):
+        self.assertTrue(is_served(self.server.server_port))
+        with socket.create_server(("127.0.0.1", 0)) as closed:
+            port = closed.getsockname()[1]
+        self.assertFalse(is_served(port))
 
     def test_other_sites(self):
         question = json.dumps({"text": LABEL})

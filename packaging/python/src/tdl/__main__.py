@@ -4,6 +4,7 @@ from __future__ import annotations
 import argparse
 import os
 import sys
+import webbrowser
 from typing import List, Optional
 
 from .errors import FilesRejected
@@ -54,7 +55,7 @@ def add_inspect(parser: argparse.ArgumentParser) -> None:
     sets = f"{', '.join(list(SETS)[1:-1])} and {list(SETS)[-1]}"
     parser.add_argument("--tables", metavar="FILE", help=f"a table document of your own; else tables/gs1.json, and the page offers {sets} too")
     parser.add_argument("--port", type=port, default=PORT, metavar="N", help=f"the port, {PORT} if none is given; 0 is any that is free")
-    opens = "open the page in a browser; without either option, only if a terminal and a desktop are there"
+    opens = "open the page in a browser, also one that is served at the port already; without either option, only if a terminal and a desktop are there"
     parser.add_argument("--open", action=argparse.BooleanOptionalAction, help=opens)
 
 
@@ -92,9 +93,12 @@ def run_csv(asked: argparse.Namespace) -> int:
 
 
 def run_inspect(asked: argparse.Namespace) -> int:
-    """Serves the page, and returns the status."""
-    from .inspector import serve
+    """Serves the page, or opens one that is served at the port already, and returns the status."""
+    from .inspector import address_of, is_served, serve
 
+    if asked.open and asked.port and is_served(asked.port):
+        webbrowser.open(address_of(asked.port))
+        return 0
     check(asked.tables, prefixes=asked.prefixes)
     has_desktop = sys.stdout.isatty() and any(os.environ.get(name) for name in ("DISPLAY", "WAYLAND_DISPLAY"))
     serve(asked.port, tables=asked.tables, prefixes=asked.prefixes, is_opened=has_desktop if asked.open is None else asked.open)

@@ -5,6 +5,7 @@ host and origin of a request must be its own. The page loads nothing from elsewh
 """
 from __future__ import annotations
 
+import http.client
 import json
 import webbrowser
 from http import HTTPStatus
@@ -36,7 +37,7 @@ HEADERS = {
     "Cross-Origin-Resource-Policy": "same-origin",
     "Cache-Control": "no-store",
 }
-MOST_BYTES = 8_388_608
+MOST_BYTES, PATIENCE = 8_388_608, 5
 JSON = "application/json"
 
 
@@ -113,10 +114,27 @@ class Server(ThreadingHTTPServer):
     @property
     def address(self) -> str:
         """Returns the page's address."""
-        return f"http://{HOST}:{self.server_port}/"
+        return address_of(self.server_port)
 
     def handle_error(self, request: object, client_address: object) -> None:
         """Prints nothing: a browser may go away at any time."""
+
+
+def address_of(port: int) -> str:
+    """Returns the address of the page at a port."""
+    return f"http://{HOST}:{port}/"
+
+
+def is_served(port: int) -> bool:
+    """Returns whether an inspector serves the page at a port already."""
+    connection = http.client.HTTPConnection(HOST, port, timeout=PATIENCE)
+    try:
+        connection.request("GET", "/choices")
+        return connection.getresponse().getheader("Server", "").startswith(Handler.server_version)
+    except (OSError, http.client.HTTPException):
+        return False
+    finally:
+        connection.close()
 
 
 def serve(

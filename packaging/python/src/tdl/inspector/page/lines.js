@@ -22,7 +22,7 @@ function lineRow(row, lines, forms, asked, place) {
   const link = make("a", { href: `#${new URLSearchParams({ ...asked, text })}`, title: "Show only this line" }, String(row[NUMBER]));
   const answer = row[REASON] ? `no ${row[REASON]}` : row[ANSWER];
   return make("tr", { class: row[REASON] ? "wrong" : undefined, "aria-rowindex": place + 2, "data-line": row[NUMBER] },
-    make("td", { class: "number" }, link),
+    make("td", {}, link),
     make("td", { title: text }, make("code", {}, seen(text))),
     make("td", {}, forms[row[FORM]]),
     make("td", { title: row[SENTENCE] || answer },
@@ -101,7 +101,7 @@ function widths(rows, lines) {
   const longest = (lengths) => Math.min(MOST_CHARACTERS, Math.max(12, lengths.reduce((a, b) => Math.max(a, b), 0) + 2));
   const text = longest(rows.map((row) => lines[row[NUMBER] - 1].length));
   const answer = longest(rows.map((row) => Math.max(row[ANSWER].length, row[REASON] ? MOST_CHARACTERS : 0)));
-  return ["5rem", `${text * 0.6}rem`, "9.5rem", `${answer * 0.6}rem`];
+  return ["4.5rem", `${text * 0.53 + 1}rem`, "9.5rem", `${answer * 0.53 + 1}rem`];
 }
 
 /** Returns the elements that show many lines. */

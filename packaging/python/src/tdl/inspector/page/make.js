@@ -43,11 +43,12 @@ export function table(kind, caption, heads, rows) {
   return make("div", { class: "scroll" }, made);
 }
 
-/** Says a sentence to those who see the page and to those who hear it. */
-export function say(sentence, isFailed = false) {
+/** Says a sentence to those who hear the page, and, unless the page shows it anyway, to those who see it. */
+export function say(sentence, isFailed = false, isShown = true) {
   const status = byId("status");
   status.textContent = sentence;
   status.classList.toggle("failed", isFailed);
+  status.classList.toggle("unseen", !isShown);
 }
 
 /** Returns a button that copies what `text` returns; the button itself says that it did. */

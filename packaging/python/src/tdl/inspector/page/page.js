@@ -79,7 +79,8 @@ async function ask() {
       return settle(answer.error, true);
     }
     show(answer, asked);
-    settle(isInAddress(asked.text) ? answer.sentence : `${answer.sentence} The address bar cannot hold this text.`);
+    const isKept = isInAddress(asked.text);
+    settle(isKept ? answer.sentence : `${answer.sentence} The address bar cannot hold this text.`, false, !isKept);
   } catch (error) {
     if (error.name !== "AbortError") settle("The server does not answer. Start it again by python3 -m tdl inspect.", true);
   } finally {
@@ -87,8 +88,8 @@ async function ask() {
   }
 }
 
-function settle(sentence, isFailed = false) {
-  say(sentence, isFailed);
+function settle(sentence, isFailed = false, isShown = true) {
+  say(sentence, isFailed, isShown);
   result.setAttribute("aria-busy", "false");
 }
 
