@@ -35,8 +35,8 @@ class Window {
   constructor(heads, makeRow) {
     this.makeRow = makeRow;
     this.made = new Map();
-    this.above = make("tr", { "aria-hidden": "true", class: "space" });
-    this.below = make("tr", { "aria-hidden": "true", class: "space" });
+    const space = () => make("tr", { "aria-hidden": "true", class: "space" }, make("td", { colspan: heads.length }));
+    [this.above, this.below] = [space(), space()];
     this.body = make("tbody", {}, this.above, this.below);
     this.columns = heads.map(() => make("col"));
     this.table = make("table", { class: "lines", "aria-label": "The lines" },
@@ -75,8 +75,8 @@ class Window {
       if (row === next) next = next.nextSibling;
       else this.body.insertBefore(row, next);
     }
-    this.above.style.height = `${first * HEIGHT}px`;
-    this.below.style.height = `${(this.rows.length - end) * HEIGHT}px`;
+    this.above.firstChild.style.height = `${first * HEIGHT}px`;
+    this.below.firstChild.style.height = `${(this.rows.length - end) * HEIGHT}px`;
   }
 }
 
