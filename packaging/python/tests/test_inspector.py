@@ -1,5 +1,6 @@
 """The inspector's analysis against the program, which $TDL names."""
 import http.client
+import io
 import json
 import shutil
 import socket
@@ -10,11 +11,13 @@ import tempfile
 import threading
 import unittest
 import zlib
+from contextlib import redirect_stdout
 from datetime import date
 from pathlib import Path
 
 sys.path.insert(0, str(Path(__file__).resolve().parent.parent / "src"))
 
+from tdl.__main__ import arguments  # noqa: E402
 from tdl.inspector import Inspector, Question, datamatrix, qr  # noqa: E402
 from tdl.inspector.elements import elements  # noqa: E402
 from tdl.inspector.encode import SAMPLES, compose, key_types  # noqa: E402
@@ -396,6 +399,17 @@ class Files(unittest.TestCase):
     def test_fields_of_texts_that_are_none(self):
         self.assertIsNone(read_fields("pure", "urn:epc:id:sgtin:0614141.812345.%4", ROWS))
         self.assertIsNone(read_fields("hex", "3034257BF7", ROWS))
+
+
+class Commands(unittest.TestCase):
+    def test_help_names_the_tables(self):
+        with redirect_stdout(io.StringIO()) as printed, self.assertRaises(SystemExit):
+            arguments(["inspect", "--help"])
+        told = " ".join(printed.getvalue().split())
+        self.assertIn("else tables/gs1.json, and the page offers measures, food, healthcare and logistics too", told)
+
+    def test_when_a_browser_is_opened(self):
+        self.assertEqual([arguments(["inspect", *words]).open for words in ([], ["--open"], ["--no-open"])], [None, True, False])
 
 
 class Questions(unittest.TestCase):
