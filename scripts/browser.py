@@ -11,7 +11,7 @@ import tempfile
 from pathlib import Path
 from time import monotonic, sleep
 
-SECONDS = 60
+SECONDS = 240
 NAMES = ["chromium", "chromium-browser", "google-chrome"]
 FLAGS = ["--headless=new", "--remote-debugging-port=0", "--no-first-run", "--disable-gpu", "--hide-scrollbars", "--disable-extensions"]
 FLAGS += ["--disable-background-networking", "--disable-component-update", "--disable-sync", "--disable-default-apps", "--disable-dev-shm-usage"]
@@ -134,10 +134,17 @@ class Browser:
     def wait(self, expression):
         """Waits until a JavaScript expression is true."""
         end = monotonic() + SECONDS
-        while not self.value(expression):
+        while not self._holds(expression):
             if monotonic() > end:
                 raise TimeoutError(expression)
             sleep(0.01)
+
+    def _holds(self, expression):
+        """Returns whether a JavaScript expression is true; it is not while a page goes and the next one comes."""
+        try:
+            return self.value(expression)
+        except RuntimeError:
+            return False
 
     def press(self, key, code):
         """Presses a key and lets go of it."""
@@ -147,8 +154,11 @@ class Browser:
 
     def picture(self, width, height):
         """A picture of the page, as the bytes of a PNG."""
-        told = self.call("Page.captureScreenshot", format="png", clip={"x": 0, "y": 0, "width": width, "height": height, "scale": 1})
-        return base64.b64decode(told["data"])
+        return self.clip({"x": 0, "y": 0, "width": width, "height": height, "scale": 1})
+
+    def clip(self, box):
+        """A picture of a part of the page, as the bytes of a PNG."""
+        return base64.b64decode(self.call("Page.captureScreenshot", format="png", clip=box, captureBeyondViewport=True)["data"])
 
     def _end(self):
         self._process.terminate()

@@ -64,12 +64,12 @@ class Answers(unittest.TestCase):
 
     def test_sentences(self):
         for translator, text, sentence in (
-            (tdl.Translator("link"), "https://id.gs1.org/01/09506000134353", "The check digit of the value of (01) GTIN at byte 19 is 2, not 3."),
+            (tdl.Translator("link"), "https://id.gs1.org/01/09506000134353", "At byte 35: the check digit of (01) GTIN must be 2, not 3."),
             (tdl.Translator("link", "hex"), LINK, TARGETS["missing gcp"]),
-            (tdl.Translator("bracketed", "pure", gcp=7), "(01)80614141123458(21)1(17)261231", "(17) USE BY or EXPIRY has no place in an EPC"),
-            (tdl.Translator("bracketed", tables=tdl.GS1), "(01)80614141123458(7003)26", "The value of (7003) EXPIRY TIME"),
-            (tdl.Classes("uri"), LINK, "missing element"),
-            (tdl.Dumps("read"), "30003074257BF7194E40", "words 6 64"),
+            (tdl.Translator("bracketed", "pure", gcp=7), "(01)80614141123458(21)1(17)261231", "An EPC has no place for (17) USE BY or EXPIRY."),
+            (tdl.Translator("bracketed", tables=tdl.GS1), "(01)80614141123458(7003)26", "the value of (7003) EXPIRY TIME"),
+            (tdl.Classes("uri"), LINK, "No element of this link makes a class."),
+            (tdl.Dumps("read"), "30003074257BF7194E40", "announces 6 words of 16 bits, but 64 bits follow"),
         ):
             with translator, self.assertRaises(tdl.Rejected) as caught:
                 translator.translate(text)

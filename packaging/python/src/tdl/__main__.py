@@ -4,12 +4,13 @@ from __future__ import annotations
 import argparse
 import os
 import sys
+import webbrowser
 from typing import List, Optional
 
 from .errors import FilesRejected
 from .options import FORMS, TARGETS
 from .records import Job, Wrong, translate_csv
-from .tables import check
+from .tables import SETS, check
 
 PORT = 8090
 
@@ -41,20 +42,28 @@ def arguments(words: Optional[List[str]]) -> argparse.Namespace:
     parser = argparse.ArgumentParser(prog="python3 -m tdl", description="GS1 identities, translated by the program tdl")
     commands = parser.add_subparsers(dest="command", required=True)
     files = argparse.ArgumentParser(add_help=False)
-    files.add_argument("--tables", metavar="FILE", help="a table document, such as tables/gs1.json; else the built-in tables")
     files.add_argument("--prefixes", metavar="FILE", help="a list of company prefix lengths")
     purpose = "translate a column of a CSV file: each record gets a column with the answer and one with the reason"
     add_csv(commands.add_parser("csv", parents=[files], help=purpose, description=f"{purpose.capitalize()}."))
     purpose = "serve a page on 127.0.0.1 that shows what a code says"
-    inspect = commands.add_parser("inspect", parents=[files], help=purpose, description=f"{purpose.capitalize()}.")
-    inspect.add_argument("--port", type=port, default=PORT, metavar="N", help=f"the port, {PORT} if none is given; 0 is any that is free")
+    add_inspect(commands.add_parser("inspect", parents=[files], help=purpose, description=f"{purpose.capitalize()}."))
     return parser.parse_args(words)
+
+
+def add_inspect(parser: argparse.ArgumentParser) -> None:
+    """Adds the arguments of `inspect`."""
+    sets = f"{', '.join(list(SETS)[1:-1])} and {list(SETS)[-1]}"
+    parser.add_argument("--tables", metavar="FILE", help=f"a table document of your own; else tables/gs1.json, and the page offers {sets} too")
+    parser.add_argument("--port", type=port, default=PORT, metavar="N", help=f"the port, {PORT} if none is given; 0 is any that is free")
+    opens = "open the page in a browser, also one that is served at the port already; without either option, only if a terminal and a desktop are there"
+    parser.add_argument("--open", action=argparse.BooleanOptionalAction, help=opens)
 
 
 def add_csv(parser: argparse.ArgumentParser) -> None:
     """Adds the arguments of `csv`."""
     parser.epilog = "The status is 1 if a record was rejected. Written files appear when all is done."
     parser.add_argument("file", nargs="?", default="-", help="the CSV file in UTF-8; else, or for -, the standard input")
+    parser.add_argument("--tables", metavar="FILE", help="a table document, such as tables/gs1.json; else the built-in tables")
     parser.add_argument("-c", "--column", required=True, help="the name of the column, or its number from 1")
     parser.add_argument("--from", dest="source", required=True, choices=FORMS, help="the form of its texts")
     parser.add_argument("--to", dest="target", default="canon", choices=TARGETS, help="the form of the answers; else the canonical link")
@@ -84,11 +93,15 @@ def run_csv(asked: argparse.Namespace) -> int:
 
 
 def run_inspect(asked: argparse.Namespace) -> int:
-    """Serves the page, and returns the status."""
-    from .inspector import serve
+    """Serves the page, or opens one that is served at the port already, and returns the status."""
+    from .inspector import address_of, is_served, serve
 
+    if asked.open and asked.port and is_served(asked.port):
+        webbrowser.open(address_of(asked.port))
+        return 0
     check(asked.tables, prefixes=asked.prefixes)
-    serve(asked.port, tables=asked.tables, prefixes=asked.prefixes)
+    has_desktop = sys.stdout.isatty() and any(os.environ.get(name) for name in ("DISPLAY", "WAYLAND_DISPLAY"))
+    serve(asked.port, tables=asked.tables, prefixes=asked.prefixes, is_opened=has_desktop if asked.open is None else asked.open)
     return 0
 
 

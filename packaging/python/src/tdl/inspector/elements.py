@@ -1,6 +1,6 @@
 """The elements of an element string or a link, each with its place in the text.
 
-The program alone decides whether a text is read. This module finds places in texts that it has answered, so that they can be shown; behind
+Only the program decides whether a text is read. This module finds places in texts that it has answered, so that the page can show them; after
 the first error of a text it may find less, or nothing.
 """
 from __future__ import annotations
@@ -31,19 +31,19 @@ class Element:
 
     @property
     def length(self) -> int:
-        """The number of characters of the value."""
+        """Returns the number of characters of the value."""
         return len(self.edges) - 1
 
     def span(self, first: int, end: int) -> Tuple[int, int]:
-        """The bytes of the text that hold some characters of the value."""
+        """Returns the bytes of the text that hold some characters of the value."""
         return self.edges[first], self.edges[end]
 
     def value(self, text: bytes) -> List[bytes]:
-        """The characters of the value as they stand in the text."""
+        """Returns the characters of the value as the text spells them."""
         return [text[start:end] for start, end in zip(self.edges, self.edges[1:])]
 
     def plain(self, text: bytes) -> bytes:
-        """The value without the spelling that the form needs."""
+        """Returns the value without the spelling that the form needs."""
         return b"".join(bytes([int(it[1:], 16)]) if len(it) == 3 else it[-1:] for it in self.value(text))
 
 
@@ -54,9 +54,8 @@ def _element(form: str, text: bytes, code: Tuple[int, int], value: Tuple[int, in
 
 def _raw(text: bytes, rows: Rows) -> Iterator[Element]:
     at = next((len(it) for it in IDENTIFIERS if text.startswith(it)), 0)
-    codes = {code.encode() for code in rows.ais}
     while at < len(text):
-        size = next((size for size in (2, 3, 4) if text[at : at + size] in codes), None)
+        size = next((size for size in (2, 3, 4) if text[at : at + size] in rows.codes), None)
         if size is None:
             return
         total = PREDEFINED.get(text[at : at + 2])
@@ -74,7 +73,7 @@ def _bracketed(text: bytes, _: Rows) -> Iterator[Element]:
 
 
 def _spans(text: bytes, start: int, end: int, separators: bytes) -> Iterator[Tuple[int, int]]:
-    """The parts of a text between separators."""
+    """Yields the parts of a text between separators."""
     at = start
     for place in [*(it for it in range(start, end) if text[it : it + 1] in separators), end]:
         yield at, place
@@ -82,7 +81,7 @@ def _spans(text: bytes, start: int, end: int, separators: bytes) -> Iterator[Tup
 
 
 def _path(text: bytes, start: int, end: int, rows: Rows) -> List[Element]:
-    """The elements at the end of a path: the last key, and its qualifiers."""
+    """Returns the elements at the end of a path: the last key, and its qualifiers."""
     segments = list(_spans(text, start, end, b"/"))
     found: List[Element] = []
     for code, value in zip(segments[-2::-2], segments[-1::-2]):
@@ -110,10 +109,10 @@ FINDERS = {"raw": _raw, "bracketed": _bracketed, "link": _link}
 
 
 def elements(form: str, text: bytes, rows: Rows) -> List[Element]:
-    """The elements of a text of the form `raw`, `bracketed` or `link`, up to the first place where none begins."""
+    """Returns the elements of a text of the form `raw`, `bracketed` or `link`, up to the first place where none begins."""
     return list(FINDERS[form](text, rows))
 
 
 def element_at(form: str, text: bytes, place: int, rows: Rows) -> Optional[Element]:
-    """The element whose code stands at this place, or None."""
-    return next((it for it in elements(form, text, rows) if it.place == place), None)
+    """Returns the element whose code begins at this place, or None."""
+    return next((it for it in FINDERS[form](text, rows) if it.place == place), None)

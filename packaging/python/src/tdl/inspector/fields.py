@@ -30,17 +30,17 @@ class Reading:
     fields: Tuple[Field, ...]
 
     def field(self, name: str) -> Optional[Field]:
-        """The field of this name, or None."""
+        """Returns the field of this name, or None."""
         return next((field for field in self.fields if field.name == name), None)
 
 
 def bits_of(text: str) -> str:
-    """The bits of hexadecimal digits."""
+    """Returns the bits of hexadecimal digits."""
     return "".join(f"{int(digit, 16):04b}" for digit in text)
 
 
 def _pattern(item: Tuple[Any, ...]) -> str:
-    """The words of an item, or more than them: `_value` has the last word."""
+    """Returns a pattern of the words of an item, and maybe of others, which `_value` rejects."""
     name, *rest = item
     if name == "lit":
         return re.escape(str(rest[0]))
@@ -58,7 +58,7 @@ def _compiled(option: Option) -> "re.Pattern[str]":
 
 
 def _value(item: Tuple[Any, ...], word: str) -> Optional[str]:
-    """The value that a word of an item stands for, or None where it is no word of it."""
+    """Returns the value of a word of an item, or None if the item does not have this word."""
     name, *rest = item
     if name in ("lit", "fill"):
         return word
@@ -81,7 +81,7 @@ def _value(item: Tuple[Any, ...], word: str) -> Optional[str]:
 
 
 def _names(option: Option) -> List[str]:
-    """The name of each item: that of its field, and of the literals what they are by their place."""
+    """Returns the name of each item: that of its field, or that of a literal by its place."""
     names: List[str] = []
     for place, (sort, *rest) in enumerate(option.items):
         if sort == "lit":
@@ -96,7 +96,7 @@ def _begins(option: Option, symbols: str) -> bool:
 
 
 def read_fields(form: str, text: str, rows: Rows) -> Optional[Reading]:
-    """The fields of a text of the form `hex`, `tag` or `pure` that the program reads, or None."""
+    """Returns the fields of a text of the form `hex`, `tag` or `pure` that the program reads, or None."""
     symbols = bits_of(text) if form == "hex" else text
     for option in rows.options[form]:
         found = _compiled(option).fullmatch(symbols) if _begins(option, symbols) else None

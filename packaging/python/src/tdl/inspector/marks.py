@@ -1,4 +1,4 @@
-"""What the bytes of a text are: the marks of its fields, by which the page gives them a colour and a label."""
+"""The marks of a text's fields, by which the page gives them a colour and a label."""
 from __future__ import annotations
 
 from dataclasses import dataclass
@@ -6,6 +6,7 @@ from typing import Any, Dict, Iterable, List, Optional, Tuple
 
 from .elements import Element, elements
 from .fields import Reading, read_fields
+from .filters import filters_of
 from .rows import Ai, Kind, Rows
 
 LEADS = {"01": "indicator digit", "00": "extension digit", "8006": "indicator digit"}
@@ -41,7 +42,7 @@ LABELS = {
 
 @dataclass(frozen=True)
 class Mark:
-    """Some bytes of a text, and what they are: a name of `LABELS`, `lead`, `reference` or `error`."""
+    """Some bytes of a text, and their role: a name of `LABELS`, `lead`, `reference` or `error`."""
 
     start: int
     end: int
@@ -49,22 +50,23 @@ class Mark:
 
 
 def label_of(role: str, key: Optional[str]) -> str:
-    """The words for a role, by the key of the identity that a text names."""
+    """Returns the words for a role, by the key of the identity that a text names."""
     if role == "lead":
         return LEADS.get(key or "", "leading digit")
     return REFERENCES.get(key or "", "reference") if role == "reference" else LABELS.get(role, "")
 
 
-def pieces(text: bytes, marks: Iterable[Mark], key: Optional[str] = None) -> List[Dict[str, str]]:
-    """The text in pieces, each with its role and its label. A mark in the midst of a character takes the whole of it."""
-    found, at = [], 0
+def pieces(text: bytes, marks: Iterable[Mark], key: Optional[str] = None) -> List[Dict[str, Any]]:
+    """Returns the text in pieces, each with its first byte, its role and its label. A mark takes the whole of each character."""
+    found: List[Dict[str, Any]] = []
+    at = 0
 
     def take(end: int, role: str) -> None:
         nonlocal at
         while end < len(text) and text[end] & 0xC0 == 0x80:
             end += 1
         if end > at:
-            found.append({"text": text[at:end].decode("utf-8", "replace"), "role": role, "label": label_of(role, key)})
+            found.append({"text": text[at:end].decode("utf-8", "replace"), "at": at, "role": role, "label": label_of(role, key)})
             at = end
 
     for mark in sorted(marks, key=lambda it: it.start):
@@ -78,7 +80,7 @@ def pieces(text: bytes, marks: Iterable[Mark], key: Optional[str] = None) -> Lis
 
 
 def _key_marks(ai: Ai, kind: Kind, gcp: Optional[int], length: int) -> List[Tuple[int, int, str]]:
-    """The fields of a key by the characters of its value."""
+    """Returns the fields of a key by the characters of its value."""
     found: List[Tuple[int, int, str]] = []
     behind = [ROLES.get(name, name) for name in kind.fields] or ["serial"]
     checked = False
@@ -97,14 +99,14 @@ def _key_marks(ai: Ai, kind: Kind, gcp: Optional[int], length: int) -> List[Tupl
 
 
 def _body(start: int, end: int, gcp: Optional[int]) -> List[Tuple[int, int, str]]:
-    """Prefix and reference, which nothing tells apart where the length of the prefix is not known."""
+    """Returns prefix and reference, which are undivided if the company prefix length is unknown."""
     if gcp is None:
         return [(start, end, "undivided")]
     return [(start, start + gcp, "prefix"), (start + gcp, end, "reference")]
 
 
 def value_marks(element: Element, rows: Rows, key: Optional[str], gcp: Optional[int]) -> List[Mark]:
-    """The marks of an element's value, of an identity with this key and this length of the company prefix."""
+    """Returns the marks of an element's value, of an identity with this key and this company prefix length."""
     ai, kind = rows.ais.get(element.code), rows.kinds.get(key or "")
     if ai is None:
         return []
@@ -121,12 +123,12 @@ def value_marks(element: Element, rows: Rows, key: Optional[str], gcp: Optional[
 
 
 def key_of(found: List[Element], rows: Rows) -> Optional[str]:
-    """The code of the key among elements, or None."""
+    """Returns the code of the key among elements, or None."""
     return next((it.code for it in found if it.code in rows.ais and rows.ais[it.code].role == "key"), None)
 
 
 def element_marks(form: str, text: bytes, rows: Rows, gcp: Optional[int]) -> List[Mark]:
-    """The marks of a text of elements: of each its code and its value."""
+    """Returns the marks of a text of elements: of each its code and its value."""
     found = elements(form, text, rows)
     key = key_of(found, rows)
     marks = []
@@ -136,7 +138,7 @@ def element_marks(form: str, text: bytes, rows: Rows, gcp: Optional[int]) -> Lis
 
 
 def field_marks(reading: Reading, lead: int) -> List[Mark]:
-    """The marks of an EPC URI."""
+    """Returns the marks of an EPC URI."""
     marks: List[Mark] = []
     for field in reading.fields:
         if field.name == "rest":
@@ -148,7 +150,7 @@ def field_marks(reading: Reading, lead: int) -> List[Mark]:
 
 
 def marks_of(form: str, text: bytes, rows: Rows, gcp: Optional[int]) -> List[Mark]:
-    """The marks of a text that the program reads or has written. Those of tag bits stand in `bit_rows`."""
+    """Returns the marks of a text that the program reads or has written. `bit_rows` has those of tag bits."""
     if form == "hex":
         return []
     if form in ("tag", "pure"):
@@ -159,7 +161,7 @@ def marks_of(form: str, text: bytes, rows: Rows, gcp: Optional[int]) -> List[Mar
 
 
 def bit_rows(reading: Reading, rows: Rows) -> List[Dict[str, Any]]:
-    """The fields of tag bits: name, role, bits, their number, and what they stand for."""
+    """Returns the fields of tag bits: name, role, bits, their number, and their value."""
     kind = next((it for it in rows.kinds.values() if it.name == reading.option.kind), None)
     key, found = kind.key if kind else None, []
     for field in reading.fields:
@@ -171,6 +173,8 @@ def bit_rows(reading: Reading, rows: Rows) -> List[Dict[str, Any]]:
             value = f"{int(bits, 2):02X}: {reading.option.encoding}"
         elif role == "partition":
             value = str(int(bits, 2))
+        elif role == "filter":
+            value = f"{value}: {filters_of(reading.option.kind)[int(value)]}"
         elif role in ("fixed", "padding"):
             value = ""
         if bits:

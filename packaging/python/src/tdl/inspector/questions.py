@@ -15,7 +15,7 @@ FORMS = {
     "canon": "canonical link",
 }
 STEM = re.compile(r"https?://[!\"$-.0->@-~][!\"$->@-~]*(?<!/)")
-MEMBERS = {"text", "gcp", "filter", "encoding", "stem", "keys_only", "target"}
+MEMBERS = {"text", "gcp", "filter", "encoding", "stem", "keys_only", "target", "tables"}
 
 
 def _number(name: str, value: Any, least: int, most: int) -> Optional[int]:
@@ -23,7 +23,7 @@ def _number(name: str, value: Any, least: int, most: int) -> Optional[int]:
         return None
     if re.fullmatch("[0-9]{1,2}", str(value)) and least <= int(value) <= most:
         return int(value)
-    raise ValueError(f"{name} is a number from {least} to {most}")
+    raise ValueError(f"The {name} must be a number from {least} to {most}.")
 
 
 def _word(name: str, value: Any, pattern: str, sort: str) -> Optional[str]:
@@ -31,47 +31,50 @@ def _word(name: str, value: Any, pattern: str, sort: str) -> Optional[str]:
         return None
     if isinstance(value, str) and re.fullmatch(pattern, value):
         return value
-    raise ValueError(f"{name} is {sort}")
+    raise ValueError(f"The {name} must be {sort}.")
 
 
 @dataclass(frozen=True)
 class Question:
-    """A text, and the options of `Translator` that the page has controls for. `target` is the form in which many lines are answered."""
+    """A text, and the options of `Translator` that the page has controls for. `target` is the form in which many lines are answered, and
+    `tables` the name of a table document, or nothing for the first that is offered."""
 
     text: str
     options: Dict[str, Any] = field(default_factory=dict)
     target: str = "canon"
+    tables: str = ""
 
     @classmethod
     def of(cls, asked: Mapping[str, Any]) -> "Question":
-        """The question of a JSON object of the page. Raises `ValueError` with a sentence for the user where a member is not in order."""
+        """Returns the question of a JSON object of the page. Raises `ValueError` with a sentence for the user if a member is invalid."""
         if not isinstance(asked, Mapping) or set(asked) - MEMBERS or not isinstance(asked.get("text"), str):
-            raise ValueError("this is no question of the page")
+            raise ValueError("This is not a question of the page.")
         target = asked.get("target") or "canon"
         if target not in FORMS:
-            raise ValueError("the form of the answers is none")
-        stem = _word("the stem", asked.get("stem"), STEM.pattern, "http:// or https:// and a host, without ?, # and a slash at its end")
+            raise ValueError("Choose a form for the answers.")
+        stem = _word("link domain", asked.get("stem"), STEM.pattern, "http:// or https:// and a host, without ?, # or a slash at its end")
         if stem and len(stem) > 1_024:
-            raise ValueError("the stem has at most 1,024 characters")
+            raise ValueError("The link domain must have at most 1,024 characters.")
         options = {
-            "gcp": _number("the length of the prefix", asked.get("gcp"), 1, 12),
-            "filter": _number("the filter value", asked.get("filter"), 0, 7),
-            "encoding": _word("the encoding", asked.get("encoding"), "[!-~]{1,64}", "a name of the tables"),
+            "gcp": _number("company prefix length", asked.get("gcp"), 1, 12),
+            "filter": _number("filter value", asked.get("filter"), 0, 7),
+            "encoding": _word("encoding", asked.get("encoding"), "[!-~]{1,64}", "a name of the tables"),
             "stem": stem,
             "keys_only": True if asked.get("keys_only") is True else None,
         }
-        return cls(asked["text"], {name: value for name, value in options.items() if value is not None}, target)
+        tables = _word("set of tables", asked.get("tables"), "[a-z0-9-]{1,64}", "one that is offered")
+        return cls(asked["text"], {name: value for name, value in options.items() if value is not None}, target, tables or "")
 
 
 def bytes_of(form: str, text: str) -> bytes:
-    """The bytes of a text that was typed as a text of this form: in scanner output `^` and `<GS>` stand for FNC1, the byte 29."""
+    """Returns the bytes of a text that was typed as a text of this form: in scanner output `^` and `<GS>` are FNC1, the byte 29."""
     if form == "raw":
         text = text.replace("<GS>", "\x1d").replace("^", "\x1d")
     return text.encode("utf-8", "replace")
 
 
 def forms_in_order(text: str, headers: Iterable[str]) -> List[str]:
-    """The six forms, first the one that a text looks like."""
+    """Returns the six forms, the one that a text looks like first."""
     likely = "raw"
     if re.match(r"\w+://", text):
         likely = "link"

@@ -24,7 +24,7 @@ class Part:
 
     @classmethod
     def of(cls, word: str) -> "Part":
-        """The part that a word of the tables stands for, such as `n14c`."""
+        """Returns the part of a word of the tables, such as `n14c`."""
         if word == "zero":
             return cls(1, 1, "zero")
         if word == "date":
@@ -47,16 +47,16 @@ class Ai:
 
     @property
     def least(self) -> int:
-        """The least number of characters of its value."""
+        """Returns the least number of characters of its value."""
         return sum(part.least for part in self.parts)
 
     @property
     def most(self) -> int:
-        """The greatest number of characters of its value."""
+        """Returns the greatest number of characters of its value."""
         return sum(part.most for part in self.parts)
 
     def places(self, length: int) -> List[Tuple[Part, int, int]]:
-        """The parts of a value of this length, each with its first character and the one behind its last."""
+        """Returns the parts of a value of this length, each with its first character and the one after its last."""
         found, start = [], 0
         for part in self.parts:
             end = min(start + part.most, length)
@@ -102,16 +102,17 @@ class Rows:
             form: [Option(row["kind"], row["encoding"], row["gcp"], tuple(map(tuple, row["items"]))) for row in document[level]]
             for form, level in LEVELS.items()
         }
+        self.codes = frozenset(code.encode("ascii") for code in self.ais)
         self.titles: Dict[str, str] = json.loads(TITLES.read_text("utf-8"))
 
     def title(self, code: str) -> str:
-        """The data title of a code, or nothing where none is known."""
+        """Returns the data title of a code, or nothing if none is known."""
         return self.titles.get(code, "")
 
     def encodings(self, kind: Optional[str] = None) -> List[str]:
-        """The names of the encodings of tags, of one kind or of all."""
+        """Returns the names of the encodings of tags, of one kind or of all."""
         return list(dict.fromkeys(option.encoding for option in self.options["hex"] if kind in (None, option.kind)))
 
     def headers(self) -> Tuple[str, ...]:
-        """The bits with which tags begin."""
+        """Returns the bits with which tags begin."""
         return tuple({option.items[0][1][:8] for option in self.options["hex"] if option.items[0][0] == "lit"})

@@ -1,11 +1,13 @@
-"""The server of the page, at 127.0.0.1 and for this machine alone.
+"""The server of the page, at 127.0.0.1 and only for this machine.
 
-It gives the files of page/ and answers questions, each a JSON object that the page posts. Another site that a browser shows can ask
-nothing: the host of a request has to be this server's own, and so has its origin. The page may load nothing from elsewhere.
+It serves the files of page/ and answers questions, each a JSON object that the page posts. It answers no other site that a browser shows:
+host and origin of a request must be its own. The page loads nothing from elsewhere.
 """
 from __future__ import annotations
 
+import http.client
 import json
+import webbrowser
 from http import HTTPStatus
 from http.server import BaseHTTPRequestHandler, ThreadingHTTPServer
 from pathlib import Path
@@ -20,7 +22,7 @@ PAGE = Path(__file__).resolve().parent / "page"
 FILES = {
     "/": ("page.html", "text/html; charset=utf-8"),
     "/page.css": ("page.css", "text/css; charset=utf-8"),
-    "/page.js": ("page.js", "text/javascript; charset=utf-8"),
+    **{f"/{name}.js": (f"{name}.js", "text/javascript; charset=utf-8") for name in ("page", "make", "text", "lines", "compose")},
     "/icon.svg": ("icon.svg", "image/svg+xml"),
 }
 POLICY = (
@@ -35,7 +37,7 @@ HEADERS = {
     "Cross-Origin-Resource-Policy": "same-origin",
     "Cache-Control": "no-store",
 }
-MOST_BYTES = 8_388_608
+MOST_BYTES, PATIENCE = 8_388_608, 5
 JSON = "application/json"
 
 
@@ -48,36 +50,39 @@ class Handler(BaseHTTPRequestHandler):
     server: "Server"
 
     def do_GET(self) -> None:
-        """A file of the page."""
+        """Replies with a file of the page, or with the choices of its controls."""
         name, sort = FILES.get(self.path, ("", ""))
-        if not self._is_own() or not name:
+        if self._is_own() and self.path == "/choices":
+            self._tell(HTTPStatus.OK, self.server.inspector.choices())
+        elif not self._is_own() or not name:
             self._reply(HTTPStatus.NOT_FOUND, b"", "text/plain")
         else:
             self._reply(HTTPStatus.OK, (PAGE / name).read_bytes(), sort)
 
     def do_POST(self) -> None:
-        """The answer to a question."""
+        """Replies with the answer to a question."""
         length = self.headers.get("Content-Length", "")
         is_json = self.headers.get_content_type() == JSON
-        if not self._is_own() or self.path != "/inspect" or not is_json or not (length.isascii() and length.isdigit()):
+        if not self._is_own() or self.path not in ("/inspect", "/compose") or not is_json or not (length.isascii() and length.isdigit()):
             self.close_connection = True
             self._reply(HTTPStatus.FORBIDDEN, b"", "text/plain")
         elif int(length) > MOST_BYTES:
             self.close_connection = True
-            self._tell(HTTPStatus.REQUEST_ENTITY_TOO_LARGE, {"error": "this is more than the page takes: give it to the program itself"})
+            self._tell(HTTPStatus.REQUEST_ENTITY_TOO_LARGE, {"error": "This is more than the page takes. Use python3 -m tdl csv."})
         else:
             self._answer(self.rfile.read(int(length)))
 
     def _answer(self, body: bytes) -> None:
         try:
-            self._tell(HTTPStatus.OK, self.server.inspector.inspect(Question.of(json.loads(body))))
+            asked, inspector = json.loads(body), self.server.inspector
+            self._tell(HTTPStatus.OK, inspector.inspect(Question.of(asked)) if self.path == "/inspect" else inspector.compose(dict(asked)))
         except (FilesRejected, ProgramError, OSError, MemoryError) as error:
             self._tell(HTTPStatus.INTERNAL_SERVER_ERROR, {"error": str(error)})
-        except (ValueError, RecursionError) as error:
+        except (ValueError, TypeError, RecursionError) as error:
             self._tell(HTTPStatus.BAD_REQUEST, {"error": str(error)})
 
     def _is_own(self) -> bool:
-        """Whether a request is meant for this server and comes from its page."""
+        """Returns whether a request is for this server and comes from its page."""
         hosts = [f"{name}:{self.server.server_port}" for name in (HOST, "localhost")]
         origin = self.headers.get("Origin")
         return self.headers.get("Host") in hosts and (origin is None or origin in [f"http://{host}" for host in hosts])
@@ -94,7 +99,7 @@ class Handler(BaseHTTPRequestHandler):
         self.wfile.write(body)
 
     def log_message(self, format: str, *words: object) -> None:
-        """Nothing: what is inspected is nobody else's."""
+        """Logs nothing: what is inspected stays with the user."""
 
 
 class Server(ThreadingHTTPServer):
@@ -108,19 +113,40 @@ class Server(ThreadingHTTPServer):
 
     @property
     def address(self) -> str:
-        """The page's address."""
-        return f"http://{HOST}:{self.server_port}/"
+        """Returns the page's address."""
+        return address_of(self.server_port)
 
     def handle_error(self, request: object, client_address: object) -> None:
-        """Nothing: a browser that goes away is no error of the server."""
+        """Prints nothing: a browser may go away at any time."""
 
 
-def serve(port: int, *, tables: Optional[str] = None, prefixes: Optional[str] = None, program: Optional[str] = None) -> None:
-    """Serves the page until it is interrupted. Port 0 is any that is free; the page's address is printed."""
+def address_of(port: int) -> str:
+    """Returns the address of the page at a port."""
+    return f"http://{HOST}:{port}/"
+
+
+def is_served(port: int) -> bool:
+    """Returns whether an inspector serves the page at a port already."""
+    connection = http.client.HTTPConnection(HOST, port, timeout=PATIENCE)
+    try:
+        connection.request("GET", "/choices")
+        return connection.getresponse().getheader("Server", "").startswith(Handler.server_version)
+    except (OSError, http.client.HTTPException):
+        return False
+    finally:
+        connection.close()
+
+
+def serve(
+    port: int, *, tables: Optional[str] = None, prefixes: Optional[str] = None, program: Optional[str] = None, is_opened: bool = False
+) -> None:
+    """Serves the page until it is interrupted, and prints its address. Port 0 is any that is free. Opens a browser if `is_opened`."""
     inspector = Inspector(tables=tables, prefixes=prefixes, program=program)
     try:
         with Server(port, inspector) as server:
             print(f"{server.address} shows what a code says; Ctrl-C ends it", flush=True)
+            if is_opened:
+                webbrowser.open(server.address)
             server.serve_forever()
     except KeyboardInterrupt:
         print()
