@@ -25,7 +25,7 @@ from tdl.inspector.fields import read_fields  # noqa: E402
 from tdl.inspector.questions import bytes_of, forms_in_order  # noqa: E402
 from tdl.inspector.reasons import COUNTED, OF_A_TARGET, OF_A_TEXT, check_digit, explain, explain_target, sentence_of  # noqa: E402
 from tdl.inspector.rows import Rows  # noqa: E402
-from tdl.inspector.server import FILES, POLICY, Server, is_served  # noqa: E402
+from tdl.inspector.server import FILES, POLICY, Server, is_served, serve  # noqa: E402
 from tdl.inspector.sets import Sets, sets_by_code  # noqa: E402
 from tdl.inspector.values import full_year, meaning  # noqa: E402
 from tdl.program import find_program  # noqa: E402
@@ -484,6 +484,8 @@ class Serving(unittest.TestCase):
         with socket.create_server(("127.0.0.1", 0)) as closed:
             port = closed.getsockname()[1]
         self.assertFalse(is_served(port))
+        with self.assertRaisesRegex(OSError, "name another by --port"):
+            serve(self.server.server_port)
 
     def test_other_sites(self):
         question = json.dumps({"text": LABEL})

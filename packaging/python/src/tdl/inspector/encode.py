@@ -143,5 +143,6 @@ def compose(asked: Mapping[str, Any], rows: Rows) -> Dict[str, Any]:
     serial, has_tail = _serial(asked, key), key.kind.serial == "tail"
     found = [(key.kind.key, value + serial if has_tail else value), *([(key.kind.serial, serial)] if serial and not has_tail else [])]
     text = "".join("({}){}".format(code, part.replace("(", "\\(")) for code, part in found)
-    told = f"The check digit is {check}." if check else "This key has no check digit."
-    return {"text": text, "gcp": len(str(asked["prefix"]).strip()), "sentence": told}
+    gcp = len(str(asked["prefix"]).strip())
+    told = f"the check digit is {check}" if check else "this key has no check digit"
+    return {"text": text, "gcp": gcp, "sentence": f"The company prefix has {gcp} digits; {told}."}

@@ -137,13 +137,21 @@ def is_served(port: int) -> bool:
         connection.close()
 
 
+def _server_at(port: int, inspector: Inspector) -> Server:
+    """Returns a server at a port. Raises `OSError` with a remedy if the port cannot be used."""
+    try:
+        return Server(port, inspector)
+    except OSError as error:
+        raise OSError(f"port {port} cannot be used ({error.strerror}): name another by --port") from error
+
+
 def serve(
     port: int, *, tables: Optional[str] = None, prefixes: Optional[str] = None, program: Optional[str] = None, is_opened: bool = False
 ) -> None:
     """Serves the page until it is interrupted, and prints its address. Port 0 is any that is free. Opens a browser if `is_opened`."""
     inspector = Inspector(tables=tables, prefixes=prefixes, program=program)
     try:
-        with Server(port, inspector) as server:
+        with _server_at(port, inspector) as server:
             print(f"{server.address} shows what a code says; Ctrl-C ends it", flush=True)
             if is_opened:
                 webbrowser.open(server.address)
