@@ -5,6 +5,8 @@ import re
 from dataclasses import dataclass, field
 from typing import Any, Dict, Iterable, List, Mapping, Optional
 
+from ..options import MOST_OF_STEM, STEM
+
 FORMS = {
     "raw": "scanner output",
     "bracketed": "label text",
@@ -14,7 +16,6 @@ FORMS = {
     "link": "GS1 Digital Link",
     "canon": "canonical link",
 }
-STEM = re.compile(r"https?://[!\"$-.0->@-~][!\"$->@-~]*(?<!/)")
 MEMBERS = {"text", "gcp", "filter", "encoding", "stem", "keys_only", "target", "tables"}
 
 
@@ -53,8 +54,8 @@ class Question:
         if target not in FORMS:
             raise ValueError("Choose a form for the answers.")
         stem = _word("link domain", asked.get("stem"), STEM.pattern, "http:// or https:// and a host, without ?, # or a slash at its end")
-        if stem and len(stem) > 1_024:
-            raise ValueError("The link domain must have at most 1,024 characters.")
+        if stem and len(stem) > MOST_OF_STEM:
+            raise ValueError(f"The link domain must have at most {MOST_OF_STEM:,} characters.")
         options = {
             "gcp": _number("company prefix length", asked.get("gcp"), 1, 12),
             "filter": _number("filter value", asked.get("filter"), 0, 7),
