@@ -3,8 +3,8 @@ use Rattle.std.proofs.Common.{◌≡◌, ℕ, ◌<◌, ◌≤◌, ◌+◌, List,
 use Rattle.std.specs.List.{slice_get}
 use Rattle.std.proofs.lemmas.Bool.{cases_eq, cases_lt}
 use Rattle.gs_chars.proofs.TruthsAndLists.{read_at, within}
-use Rattle.gs_grammar_machine.specs.Machines.{AutoForm}
-use Rattle.gs_grammar_machine.specs.MachinesSupport.{start_of}
+use Rattle.gs_ambig.specs.Machines.{AutoForm}
+use Rattle.gs_ambig.specs.MachinesSupport.{start_of}
 use Rattle.gs_ambig.specs.Shares.{Share, SharesNone, IsFirstFrom, IsFirstDouble}
 use Rattle.gs_ambig.specs.Searches.{Leads, IsDead, HasTwoWalks, IsSingle}
 

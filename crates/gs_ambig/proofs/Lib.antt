@@ -1,3 +1,5 @@
+pub mod Pieces
+pub mod Onward
 pub mod SetBits
 pub mod Steps
 pub mod Pairs

@@ -1,10 +1,10 @@
 -- The findings of the search over pairs of states. These definitions are the search's own.
 use Rattle.std.specs.Prelude.{◌≡◌, ℕ, ◌<◌, ◌≤◌, ◌/◌, ◌%◌, List, ◌∷◌, Option, Result, IfOk, IfSome, IfNone}
 use Rattle.std.specs.List.{Contains}
-use Rattle.gs_grammar_machine.specs.declared.edge.Edge.{Edge}
-use Rattle.gs_grammar_machine.specs.Walks.{Fits, edges_at, Walk}
-use Rattle.gs_grammar_machine.specs.Machines.{AutoForm, states_of, accept_of}
-use Rattle.gs_grammar_machine.specs.MachinesSupport.{start_of}
+use Rattle.gs_ambig.specs.declared.machine.Edge.{Edge}
+use Rattle.gs_ambig.specs.Walks.{Fits, edges_at, Walk}
+use Rattle.gs_ambig.specs.Machines.{AutoForm, states_of, accept_of}
+use Rattle.gs_ambig.specs.MachinesSupport.{start_of}
 
 -- trusted, own: holds if the search has found something with this property
 abbrev pub IfFound : {X E : Type 0} → Result (Option X) E → (X → Type 0) → Type 0

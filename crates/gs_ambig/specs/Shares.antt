@@ -1,9 +1,9 @@
 -- Lists of symbols that machines share, and the answer of the check.
 use Rattle.std.specs.Prelude.{◌≡◌, ℕ, ◌<◌, ◌≤◌, ◌⊎◌, List, Some, slice_get}
-use Rattle.gs_grammar_machine.specs.Machines.{AutoForm}
-use Rattle.gs_grammar_machine.specs.MachinesSupport.{Accepts}
-use Rattle.gs_ambig.specs.declared.verdict.Verdict.{Verdict}
-use Rattle.gs_ambig.specs.declared.verdict.Verdict.TheVariants.{Clear, Double}
+use Rattle.gs_ambig.specs.Machines.{AutoForm}
+use Rattle.gs_ambig.specs.MachinesSupport.{Accepts}
+use Rattle.gs_ambig.specs.declared.pair_search.Verdict.{Verdict}
+use Rattle.gs_ambig.specs.declared.pair_search.Verdict.TheVariants.{Clear, Double}
 
 -- trusted, own: Machine i and machine j share the list of symbols: it has an accepting run of i and a different one of j. Runs
 -- of two machines are different.

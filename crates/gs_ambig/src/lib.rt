@@ -1,32 +1,23 @@
-//! The search for a list of symbols with two different accepting runs, in one machine or in two.
+//! Machines, which are finite automata without circles, and the search for a list of symbols with two accepting runs.
 //!
+//! - `Auto` is a machine: a table of edges, whose states ascend on each walk, and its borders, the states between two items.
 //! - `check` answers `Clear` if and only if no list of symbols has two different accepting runs. Otherwise it answers the first
 //!   pair of machines with such a list, and the list.
 //! - `PairSearch` searches one machine or two, for a caller that goes through the pairs itself.
 //!
 //! # Example
 //!
-//! The first machine reads `ab`, the second `ab` and `ac`, so they share `ab`. The gate runs this case, for which
-//! crates/vectors_values/src/machines.rt makes the calls.
-//!
-//! ```text
-//! gs_ambig::check 0,2/97-97>1/98-98>2/ 0,2/97-97>1/98-99>2/
-//! 0 1 ab
-//! ```
+//! EXAMPLE
 //!
 //! # Differences from the standards
 //!
-//! - No standard has this search. It stands for the care of whoever writes tables for GS1 EPC Tag Data Translation.
+//! - No standard has these machines or this search. They are textbook automata whose edges each lead to a later state, so that each
+//!   walk ends. The search stands for the care of whoever writes tables for GS1 EPC Tag Data Translation.
 #![tactic(auto)]
 
-mod bits;
-mod forks;
-mod marks;
-mod pair_check;
+mod machine;
 mod pair_search;
 mod search;
-mod verdict;
 
-pub use pair_check::check;
-pub use pair_search::PairSearch;
-pub use verdict::Verdict;
+pub use machine::{Auto, Edge, Table};
+pub use pair_search::{PairSearch, Verdict, check};

@@ -1,7 +1,7 @@
 -- The states of characters that were added to a table.
 use Rattle.std.proofs.Common.{◌≡◌, ℕ, ◌<◌, ◌≤◌, ◌+◌, ◌-◌, ◌*◌, List, [], ◌∷◌, ◌++◌, length, get_or, drop, zero, suc, refl, sym, ◌∙◌, ap, arith, length-append}
 use Rattle.std.proofs.lemmas.List.{append_assoc, append-nil, drop_more, drop_all}
-use Rattle.gs_grammar_machine.specs.declared.edge.Edge.{Edge}
+use Rattle.gs_ambig.specs.declared.machine.Edge.{Edge}
 use Rattle.gs_grammar_compile.specs.Tables.{edge, run_table}
 use Rattle.gs_grammar_compile.specs.EscapeTables.{plain_ranges, two_ranges, three_ranges, last_or_next, esc_table}
 use Rattle.gs_grammar_compile.specs.CodeTables.{code_target, code_edge, code_row, code_block, code_states, root_edges, next_character, code_rows, characters_table, ascii_table}

@@ -9,8 +9,8 @@ use Rattle.gs_grammar.proofs.WordLaws.{int_bounds, numstr_bounds, numstr_some}
 use Rattle.std.proofs.Math.Nat.{mul-le-mul_right}
 use Rattle.std.proofs.lemmas.Fmt.{decimal_nonempty}
 use Rattle.gs_grammar_compile.proofs.InsideItems.{ascii_bounds}
-use Rattle.gs_grammar_machine.specs.declared.edge.Edge.{Edge}
-use Rattle.gs_grammar_machine.specs.Machines.{AutoForm, IsMachine, states_of}
+use Rattle.gs_ambig.specs.declared.machine.Edge.{Edge}
+use Rattle.gs_ambig.specs.Machines.{AutoForm, IsMachine, states_of}
 use Rattle.gs_grammar_compile.specs.Readers.{ReadsItems, most_states}
 use Rattle.gs_grammar_compile.specs.OnesTables.{layer_states}
 use Rattle.gs_grammar_compile.specs.ItemTables.{item_states, item_table, items_table, items_borders, machine_of}

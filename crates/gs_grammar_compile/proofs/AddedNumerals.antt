@@ -5,7 +5,7 @@ use Rattle.std.proofs.Math.Nat.{one-le-pow}
 use Rattle.std.proofs.lemmas.Fmt.{decimal_nonempty}
 use Rattle.gs_grammar.specs.declared.item.Item.{Item}
 use Rattle.gs_grammar.specs.declared.item.Item.TheVariants.{Int}
-use Rattle.gs_grammar_machine.specs.declared.edge.Edge.{Edge}
+use Rattle.gs_ambig.specs.declared.machine.Edge.{Edge}
 use Rattle.gs_grammar_compile.specs.ItemTables.{item_table}
 use Rattle.gs_grammar_compile.specs.NumeralTables.{free_edges, free_table, tight_edges, tight_table, numeral_table}
 use Rattle.gs_grammar_compile.proofs.AddedRows.{one_more, next_row}

@@ -2,7 +2,7 @@
 use Rattle.std.proofs.Common.{◌≡◌, ℕ, ◌<◌, ◌≤◌, ◌+◌, ◌-◌, ◌^◌, List, [], ◌∷◌, ◌++◌, length, zero, suc, sym, ◌∙◌, ap, arith, length-append}
 use Rattle.std.proofs.Math.Nat.{one-le-pow, pow-le-pow_right}
 use Rattle.std.proofs.lemmas.List.{append_assoc, append-nil}
-use Rattle.gs_grammar_machine.specs.declared.edge.Edge.{Edge}
+use Rattle.gs_ambig.specs.declared.machine.Edge.{Edge}
 use Rattle.gs_grammar_compile.specs.Tables.{run_table}
 use Rattle.gs_grammar_compile.specs.NumeralTables.{free_table, digits_table}
 use Rattle.gs_grammar_compile.specs.OnesTables.{layer_states, lead_edges, leads_edges, count_rows, counts_rows, layer_rows, ones_table}

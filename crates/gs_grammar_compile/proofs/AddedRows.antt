@@ -1,7 +1,7 @@
 -- Rows that were added to a table one at a time.
 use Rattle.std.proofs.Common.{◌≡◌, ℕ, ◌<◌, ◌+◌, ◌-◌, List, [], ◌∷◌, ◌++◌, length, zero, suc, Result, Ok, Err, IfOk, refl, sym, ◌∙◌, ap, arith, length-append, ◌≤◌, drop, get_or}
 use Rattle.std.proofs.lemmas.List.{append_assoc, append-nil, drop_more, drop_all}
-use Rattle.gs_grammar_machine.specs.declared.edge.Edge.{Edge}
+use Rattle.gs_ambig.specs.declared.machine.Edge.{Edge}
 use Rattle.gs_grammar_compile.specs.EscapeTables.{with_ranges}
 use Rattle.gs_grammar_compile.specs.Tables.{edge, lit_table, run_table, fill_table, lower_state, bound_rest, bound_edges, bound_table}
 

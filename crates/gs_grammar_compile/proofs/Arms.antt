@@ -1,7 +1,7 @@
 -- A state reads the lists that its edges read.
 use Rattle.std.proofs.Common.{◌≡◌, ◌⊎◌, ℕ, ◌<◌, ◌≤◌, List, [], ◌∷◌, refl, sym, ◌∙◌, inl, inr, arith}
-use Rattle.gs_grammar_machine.specs.declared.edge.Edge.{Edge}
-use Rattle.gs_grammar_machine.specs.Walks.{Fits, edges_at, Walk}
+use Rattle.gs_ambig.specs.declared.machine.Edge.{Edge}
+use Rattle.gs_ambig.specs.Walks.{Fits, edges_at, Walk}
 use Rattle.gs_grammar_compile.specs.Readers.{Reads}
 use Rattle.gs_grammar_compile.proofs.WalkLemmas.{Ascends, walk_nil}
 

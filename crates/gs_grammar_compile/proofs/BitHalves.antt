@@ -4,8 +4,8 @@ use Rattle.std.proofs.Math.Nat.{one-le-pow, mod-lt}
 use Rattle.std.proofs.lemmas.Nat.{mod-pow-add}
 use Rattle.std.proofs.lemmas.Bool.Decides.{nat_tests}
 use Rattle.gs_bits.specs.Bits.{number_of}
-use Rattle.gs_grammar_machine.specs.declared.edge.Edge.{Edge}
-use Rattle.gs_grammar_machine.specs.Walks.{edges_at}
+use Rattle.gs_ambig.specs.declared.machine.Edge.{Edge}
+use Rattle.gs_ambig.specs.Walks.{edges_at}
 use Rattle.gs_grammar_compile.specs.Readers.{Reads}
 use Rattle.gs_grammar_compile.specs.Tables.{edge}
 use Rattle.gs_grammar_compile.specs.CodeTables.{edge_where}

@@ -1,7 +1,7 @@
 -- A block of rows that is in a table.
 use Rattle.std.proofs.Common.{◌≡◌, ℕ, ◌<◌, ◌+◌, List, [], ◌∷◌, ◌++◌, length, zero, suc, refl, ◌∙◌, ap, arith, length-append}
-use Rattle.gs_grammar_machine.specs.declared.edge.Edge.{Edge}
-use Rattle.gs_grammar_machine.specs.Walks.{edges_at}
+use Rattle.gs_ambig.specs.declared.machine.Edge.{Edge}
+use Rattle.gs_ambig.specs.Walks.{edges_at}
 
 -- the rows from a state on are those of the block
 pub record Has (table : List (List Edge)) (base : ℕ) (block : List (List Edge)) : Type 0 where

@@ -6,8 +6,8 @@ use Rattle.std.proofs.lemmas.Bool.Decides.{nat_tests}
 use Rattle.std.proofs.lemmas.List.Elements.{All-cons, All-nil, All-head, All-tail}
 use Rattle.gs_bits.specs.Bits.{AreBits, number_of}
 use Rattle.gs_bits.specs.BitLaws.{number_of-below}
-use Rattle.gs_grammar_machine.specs.declared.edge.Edge.{Edge}
-use Rattle.gs_grammar_machine.specs.Walks.{edges_at}
+use Rattle.gs_ambig.specs.declared.machine.Edge.{Edge}
+use Rattle.gs_ambig.specs.Walks.{edges_at}
 use Rattle.gs_grammar_compile.specs.Readers.{Reads}
 use Rattle.gs_grammar_compile.specs.Tables.{edge, lower_state, bound_rest, bound_edges, bound_table}
 use Rattle.gs_grammar_compile.proofs.WalkLemmas.{Ascends}

@@ -7,8 +7,8 @@ use Rattle.std.proofs.lemmas.List.Elements.{All-cons, All-nil, All-head, All-tai
 use Rattle.gs_chars.specs.Characters.{is_in_set82}
 use Rattle.gs_chars.proofs.TruthsAndLists.{and_first, and_second, and_parts}
 use Rattle.gs_bits.specs.Bits.{AreBits, number_of}
-use Rattle.gs_grammar_machine.specs.declared.edge.Edge.{Edge}
-use Rattle.gs_grammar_machine.specs.Walks.{edges_at}
+use Rattle.gs_ambig.specs.declared.machine.Edge.{Edge}
+use Rattle.gs_ambig.specs.Walks.{edges_at}
 use Rattle.gs_grammar_compile.specs.Readers.{Reads}
 use Rattle.gs_grammar_compile.specs.Tables.{edge}
 use Rattle.gs_grammar_compile.specs.CodeTables.{code_edge, code_row, code_block, code_states}

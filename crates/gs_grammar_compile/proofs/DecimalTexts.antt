@@ -8,8 +8,8 @@ use Rattle.gs_grammar.specs.declared.item.Item.TheVariants.{Int}
 use Rattle.gs_grammar.specs.Words.{IsWord, IsNumeral, decimal_value}
 use Rattle.gs_grammar.proofs.Numbers.{own, value_below, value_decimal, digits_of_decimal, count_order, no_leading_zero}
 use Rattle.gs_grammar.proofs.ItemWords.{int_word}
-use Rattle.gs_grammar_machine.specs.declared.edge.Edge.{Edge}
-use Rattle.gs_grammar_machine.specs.Walks.{edges_at}
+use Rattle.gs_ambig.specs.declared.machine.Edge.{Edge}
+use Rattle.gs_ambig.specs.Walks.{edges_at}
 use Rattle.gs_grammar_compile.specs.Readers.{Reads}
 use Rattle.gs_grammar_compile.specs.Tables.{edge}
 use Rattle.gs_grammar_compile.specs.NumeralTables.{free_table, tight_edges, tight_table, numeral_table}

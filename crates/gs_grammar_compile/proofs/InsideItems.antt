@@ -9,7 +9,7 @@ use Rattle.gs_grammar.specs.declared.item.Item.TheVariants.{Lit, Pad, Digits, In
 use Rattle.gs_grammar.specs.Items.{IsItem}
 use Rattle.gs_grammar.specs.Words.{IsWord}
 use Rattle.gs_grammar.proofs.WordLaws.{int_bounds, digits_bounds, numstr_some, fill_bounds}
-use Rattle.gs_grammar_machine.specs.declared.edge.Edge.{Edge}
+use Rattle.gs_ambig.specs.declared.machine.Edge.{Edge}
 use Rattle.gs_grammar_compile.specs.Readers.{Reads}
 use Rattle.gs_grammar_compile.specs.Tables.{edge, lit_table, run_table, fill_table, lower_state, bound_rest, bound_edges, bound_table, digits_greatest}
 use Rattle.gs_grammar_compile.specs.NumeralTables.{free_edges, free_table, digits_table, tight_edges, tight_table, numeral_table}

@@ -9,7 +9,7 @@ use Rattle.gs_grammar.specs.Words.{IsWord, WritesNumber}
 use Rattle.gs_grammar.specs.Languages.{IsNumberWithin, IsOneBehind}
 use Rattle.gs_grammar.proofs.ItemWords.{lit_word, pad_word, digits_word, numstr_word, numpad_word, num_word, fill_word}
 use Rattle.gs_grammar.proofs.Packs.{writes_length, writes_bits, writes_number, written_number}
-use Rattle.gs_grammar_machine.specs.declared.edge.Edge.{Edge}
+use Rattle.gs_ambig.specs.declared.machine.Edge.{Edge}
 use Rattle.gs_grammar_compile.specs.Readers.{Reads}
 use Rattle.gs_grammar_compile.specs.NumeralTables.{free_table, digits_table}
 use Rattle.gs_grammar_compile.specs.OnesTables.{layer_states, ones_table}

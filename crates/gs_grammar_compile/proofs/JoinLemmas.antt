@@ -10,10 +10,10 @@ use Rattle.gs_grammar.specs.declared.item.Item.{Item}
 use Rattle.gs_grammar.specs.Words.{IsWord}
 use Rattle.gs_grammar.specs.Derivations.{Derives, no_item}
 use Rattle.gs_grammar.proofs.Cuts.{derives_cons, derives_uncons, derives_nil}
-use Rattle.gs_grammar_machine.specs.declared.edge.Edge.{Edge}
-use Rattle.gs_grammar_machine.specs.Walks.{Fits, edges_at, Walk}
-use Rattle.gs_grammar_machine.specs.Machines.{AutoForm, IsMachine, is_onward}
-use Rattle.gs_grammar_machine.proofs.Onward.{goes_on}
+use Rattle.gs_ambig.specs.declared.machine.Edge.{Edge}
+use Rattle.gs_ambig.specs.Walks.{Fits, edges_at, Walk}
+use Rattle.gs_ambig.specs.Machines.{AutoForm, IsMachine, is_onward}
+use Rattle.gs_ambig.proofs.Onward.{goes_on}
 use Rattle.gs_grammar_compile.specs.Readers.{Reads, ReadsItems}
 use Rattle.gs_grammar_compile.specs.Places.{cuts_from, stands_from, CutsAreThoseOfDerivations}
 use Rattle.gs_grammar_compile.proofs.WalkLemmas.{Ascends, Uncrossed, walk_nil, walk_length, walk_append, walk_split}

@@ -12,8 +12,8 @@ use Rattle.gs_grammar.specs.Words.{IsWord, IsPacked}
 use Rattle.gs_grammar.specs.Languages.{PacksWithin}
 use Rattle.gs_grammar.proofs.ItemWords.{ascii_word}
 use Rattle.gs_grammar.proofs.Packs.{pack_cons, packed_fixes, packed_nil, set82_bounds, writes_number}
-use Rattle.gs_grammar_machine.specs.declared.edge.Edge.{Edge}
-use Rattle.gs_grammar_machine.specs.Walks.{edges_at}
+use Rattle.gs_ambig.specs.declared.machine.Edge.{Edge}
+use Rattle.gs_ambig.specs.Walks.{edges_at}
 use Rattle.gs_grammar_compile.specs.Readers.{Reads}
 use Rattle.gs_grammar_compile.specs.Tables.{edge, run_table}
 use Rattle.gs_grammar_compile.specs.CodeTables.{code_block, code_states, root_edges, next_character, characters_table, ascii_table}

@@ -2,8 +2,8 @@
 use Rattle.std.proofs.Common.{◌≡◌, ℕ, ◌<◌, ◌≤◌, ◌+◌, eqb, Bool, true, false, if◌then◌else◌, List, [], ◌∷◌, ◌++◌, length, refl, ◌∙◌, ap, inl, inr, arith}
 use Rattle.std.proofs.lemmas.Bool.{cases_eq}
 use Rattle.std.proofs.lemmas.Bool.Decides.{nat_tests}
-use Rattle.gs_grammar_machine.specs.declared.edge.Edge.{Edge}
-use Rattle.gs_grammar_machine.specs.Walks.{Walk}
+use Rattle.gs_ambig.specs.declared.machine.Edge.{Edge}
+use Rattle.gs_ambig.specs.Walks.{Walk}
 use Rattle.gs_grammar_compile.specs.Places.{is_border, stands_from}
 use Rattle.gs_grammar_compile.proofs.WalkLemmas.{Ascends, walk_low, walk_nil}
 

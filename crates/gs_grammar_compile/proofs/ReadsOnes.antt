@@ -6,8 +6,8 @@ use Rattle.std.proofs.lemmas.Nat.{mod-mul-add}
 use Rattle.std.proofs.lemmas.Bool.{cases_eq, cases_lt}
 use Rattle.std.proofs.lemmas.Bool.Decides.{nat_tests}
 use Rattle.gs_bits.specs.Bits.{number_of}
-use Rattle.gs_grammar_machine.specs.declared.edge.Edge.{Edge}
-use Rattle.gs_grammar_machine.specs.Walks.{edges_at}
+use Rattle.gs_ambig.specs.declared.machine.Edge.{Edge}
+use Rattle.gs_ambig.specs.Walks.{edges_at}
 use Rattle.gs_grammar_compile.specs.Readers.{Reads}
 use Rattle.gs_grammar_compile.specs.CodeTables.{edge_where}
 use Rattle.gs_grammar_compile.specs.OnesTables.{layer_states, layer_state, has_bit, is_highest, lead_edges, leads_edges, zeros_edges, free_bits_edges, from_edges, up_to_edges, counts_rows, layer_rows, ones_table}

@@ -7,8 +7,8 @@ use Rattle.gs_chars.specs.Escapes.{Spells}
 use Rattle.gs_grammar.specs.declared.item.Item.TheVariants.{Esc}
 use Rattle.gs_grammar.specs.Words.{IsWord, SpellsEach, no_more, one_more}
 use Rattle.gs_grammar.proofs.ItemWords.{esc_word}
-use Rattle.gs_grammar_machine.specs.declared.edge.Edge.{Edge}
-use Rattle.gs_grammar_machine.specs.Walks.{edges_at}
+use Rattle.gs_ambig.specs.declared.machine.Edge.{Edge}
+use Rattle.gs_ambig.specs.Walks.{edges_at}
 use Rattle.gs_grammar_compile.specs.Readers.{Reads}
 use Rattle.gs_grammar_compile.specs.Tables.{edge}
 use Rattle.gs_grammar_compile.specs.EscapeTables.{with_ranges, plain_ranges, two_ranges, three_ranges, last_or_next, esc_table}

@@ -1,7 +1,7 @@
 -- Many edges with one target, and two lists of edges.
 use Rattle.std.proofs.Common.{◌≡◌, ◌⊎◌, ℕ, ◌≤◌, List, [], ◌∷◌, ◌++◌, refl, inl, inr}
-use Rattle.gs_grammar_machine.specs.declared.edge.Edge.{Edge}
-use Rattle.gs_grammar_machine.specs.Walks.{Fits, Walk}
+use Rattle.gs_ambig.specs.declared.machine.Edge.{Edge}
+use Rattle.gs_ambig.specs.Walks.{Fits, Walk}
 use Rattle.gs_grammar_compile.specs.Readers.{Reads}
 use Rattle.gs_grammar_compile.specs.EscapeTables.{with_ranges}
 use Rattle.gs_grammar_compile.proofs.Arms.{Arms, Either, same_target}

@@ -1,8 +1,8 @@
 -- Walks over edges that lead to higher states, and over no border.
 use Rattle.std.proofs.Common.{◌≡◌, ℕ, ◌<◌, ◌≤◌, List, [], ◌∷◌, ◌++◌, length, refl, ap, inl, inr, suc, arith}
 use Rattle.std.proofs.lemmas.Bool.{cases_eq}
-use Rattle.gs_grammar_machine.specs.declared.edge.Edge.{Edge}
-use Rattle.gs_grammar_machine.specs.Walks.{Fits, edges_at, Walk}
+use Rattle.gs_ambig.specs.declared.machine.Edge.{Edge}
+use Rattle.gs_ambig.specs.Walks.{Fits, edges_at, Walk}
 
 abbrev pub Ascends : List (List Edge) → Type 0
 Ascends table = (state symbol next : ℕ) → Fits (edges_at table state) symbol next → state < next

@@ -13,10 +13,10 @@ use Rattle.gs_grammar.specs.declared.item.Item.TheVariants.{Lit, Pad, Digits, In
 use Rattle.gs_grammar.specs.Items.{IsItem}
 use Rattle.gs_grammar.specs.Words.{IsWord}
 use Rattle.gs_grammar.proofs.WordLaws.{digits_bounds, numstr_some, numpad_bounds, num_bounds, fill_bounds}
-use Rattle.gs_grammar_machine.specs.declared.edge.Edge.{Edge}
-use Rattle.gs_grammar_machine.specs.Walks.{edges_at}
-use Rattle.gs_grammar_machine.specs.Machines.{IsMachine, is_onward}
-use Rattle.gs_grammar_machine.proofs.Onward.{goes_on}
+use Rattle.gs_ambig.specs.declared.machine.Edge.{Edge}
+use Rattle.gs_ambig.specs.Walks.{edges_at}
+use Rattle.gs_ambig.specs.Machines.{IsMachine, is_onward}
+use Rattle.gs_ambig.proofs.Onward.{goes_on}
 use Rattle.gs_grammar_compile.specs.Readers.{Reads, ReadsItems}
 use Rattle.gs_grammar_compile.specs.Places.{is_border}
 use Rattle.gs_grammar_compile.specs.Tables.{lit_table, run_table, fill_table, bound_table, bound_rest, digits_greatest}

@@ -1,7 +1,7 @@
 -- The states of characters in the spellings of EPC URIs, four for each: before it, after a percent sign, and after the first
 -- digit of its code, which is 2 or 3.
 use Rattle.std.specs.Prelude.{ℕ, ◌+◌, ◌-◌, nat_le, if◌then◌else◌, List, [], ◌∷◌, ◌++◌, zero, suc}
-use Rattle.gs_grammar_machine.specs.declared.edge.Edge.{Edge}
+use Rattle.gs_ambig.specs.declared.machine.Edge.{Edge}
 use Rattle.gs_grammar_compile.specs.Tables.{edge}
 
 -- an edge to one state for each of the ranges

@@ -2,8 +2,8 @@
 use Rattle.std.specs.Prelude.{ℕ, ◌+◌, ◌-◌, ◌*◌, List, [], ◌∷◌, ◌++◌, length, decimal}
 use Rattle.gs_grammar.specs.declared.item.Item.{Item}
 use Rattle.gs_grammar.specs.declared.item.Item.TheVariants.{Lit, Pad, Digits, Int, Esc, NumPad, Num, NumStr, Ascii7, Fill}
-use Rattle.gs_grammar_machine.specs.declared.edge.Edge.{Edge}
-use Rattle.gs_grammar_machine.specs.Machines.{AutoForm}
+use Rattle.gs_ambig.specs.declared.machine.Edge.{Edge}
+use Rattle.gs_ambig.specs.Machines.{AutoForm}
 use Rattle.gs_grammar_compile.specs.Tables.{lit_table, run_table, fill_table, bound_table, digits_greatest}
 use Rattle.gs_grammar_compile.specs.NumeralTables.{digits_table, numeral_table}
 use Rattle.gs_grammar_compile.specs.EscapeTables.{esc_table}

@@ -1,7 +1,7 @@
 -- The states of decimal texts up to a greatest number, without leading zeros. That many digits may follow at most; at the states
 -- of the first kind the digits so far are those of the greatest, at those of the second any digits may follow.
 use Rattle.std.specs.Prelude.{ℕ, ◌+◌, ◌-◌, ◌/◌, ◌%◌, ◌^◌, List, [], ◌∷◌, ◌++◌, zero, suc}
-use Rattle.gs_grammar_machine.specs.declared.edge.Edge.{Edge}
+use Rattle.gs_ambig.specs.declared.machine.Edge.{Edge}
 use Rattle.gs_grammar_compile.specs.Tables.{edge, run_table}
 
 -- the edges of a state at which from one digit up to n more than one may follow: to the next such state, and

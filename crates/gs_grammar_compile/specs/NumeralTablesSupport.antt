@@ -1,6 +1,6 @@
 -- Definitions for proofs and private functions, in addition to those of NumeralTables.antt.
 use Rattle.std.specs.Prelude.{◌≡◌, ℕ, ◌+◌, List, ◌++◌, decimal, length}
-use Rattle.gs_grammar_machine.specs.declared.edge.Edge.{Edge}
+use Rattle.gs_ambig.specs.declared.machine.Edge.{Edge}
 use Rattle.gs_grammar_compile.specs.NumeralTables.{numeral_table}
 
 -- the second table is the first, and after it the states of a decimal text up to the greatest

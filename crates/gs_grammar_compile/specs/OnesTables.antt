@@ -3,7 +3,7 @@
 -- one the bits so far are those of the least such number, which is a power of ten. At the other they are those of the greatest,
 -- which is one less than twice that power.
 use Rattle.std.specs.Prelude.{ℕ, ◌+◌, ◌-◌, ◌*◌, ◌/◌, ◌%◌, ◌^◌, ◌==◌, ◌&&◌, nat_lt, nat_le, Bool, true, false, List, [], ◌∷◌, ◌++◌, zero, suc}
-use Rattle.gs_grammar_machine.specs.declared.edge.Edge.{Edge}
+use Rattle.gs_ambig.specs.declared.machine.Edge.{Edge}
 use Rattle.gs_grammar_compile.specs.Tables.{edge}
 use Rattle.gs_grammar_compile.specs.CodeTables.{edge_where}
 

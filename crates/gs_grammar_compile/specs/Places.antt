@@ -3,8 +3,8 @@ use Rattle.std.specs.Prelude.{◌≡◌, ◌==◌, ℕ, ◌+◌, Bool, if◌then
 use Rattle.std.specs.List.{list_any}
 use Rattle.gs_grammar.specs.declared.item.Item.{Item}
 use Rattle.gs_grammar.specs.Derivations.{Derives}
-use Rattle.gs_grammar_machine.specs.Machines.{AutoForm, IsMachine}
-use Rattle.gs_grammar_machine.specs.MachinesSupport.{start_of, Accepts}
+use Rattle.gs_ambig.specs.Machines.{AutoForm, IsMachine}
+use Rattle.gs_ambig.specs.MachinesSupport.{start_of, Accepts}
 use Rattle.gs_grammar_compile.specs.Readers.{ReadsItems}
 
 -- trusted, own: a place, and the place after each of the words

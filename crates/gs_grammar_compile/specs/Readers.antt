@@ -3,9 +3,9 @@ use Rattle.std.specs.Prelude.{◌≡◌, ℕ, ◌+◌, ◌*◌, List, [], ◌∷
 use Rattle.gs_grammar.specs.declared.item.Item.{Item}
 use Rattle.gs_grammar.specs.Items.{size_of_all}
 use Rattle.gs_grammar.specs.Words.{IsWord}
-use Rattle.gs_grammar_machine.specs.declared.edge.Edge.{Edge}
-use Rattle.gs_grammar_machine.specs.Walks.{Walk}
-use Rattle.gs_grammar_machine.specs.Machines.{AutoForm}
+use Rattle.gs_ambig.specs.declared.machine.Edge.{Edge}
+use Rattle.gs_ambig.specs.Walks.{Walk}
+use Rattle.gs_ambig.specs.Machines.{AutoForm}
 
 -- trusted, own: exactly one walk leads from one state to the other on each list of the language, and none on any other list
 pub record Reads (table : List (List Edge)) (first last : ℕ) (language : List ℕ → Type 0) : Type 0 where

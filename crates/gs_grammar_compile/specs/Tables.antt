@@ -1,6 +1,6 @@
 -- The states of each item, with the edges that leave them, if the first state has a given number.
 use Rattle.std.specs.Prelude.{ℕ, ◌+◌, ◌-◌, ◌^◌, min, nat_le, if◌then◌else◌, List, [], ◌∷◌, zero, suc}
-use Rattle.gs_grammar_machine.specs.declared.edge.Edge.{Edge}
+use Rattle.gs_ambig.specs.declared.machine.Edge.{Edge}
 
 -- an edge with each symbol from one to another
 abbrev pub edge : ℕ → ℕ → ℕ → Edge

@@ -2,7 +2,7 @@ ghost use Rattle.std.specs.Prelude.{◌≡◌, ◌+◌, ◌-◌, ◌^◌, ◌<�
 ghost use Rattle.gs_grammar_compile.specs.Tables.{edge, lit_table, run_table, fork_edges, fill_table, lower_edges, bound_rest, bound_edges, bound_table};
 
 use gs_chars::Memory;
-use gs_grammar_machine::{Edge, Table};
+use gs_ambig::{Edge, Table};
 
 /// Returns the state `steps` after the last. A number that overflows is too great for memory.
 pub fn state_ahead(table: &Table, steps: usize) -> Result<usize, Memory>

@@ -3,7 +3,7 @@ ghost use Rattle.gs_grammar_compile.specs.CodeTables.{edge_where, code_target, c
 
 use crate::additions::{add_run, state_ahead};
 use gs_chars::Memory;
-use gs_grammar_machine::{Edge, Table};
+use gs_ambig::{Edge, Table};
 
 /// Makes an edge with one bit.
 pub fn bit_edge(bit: u8, to: usize) -> Edge

@@ -1,6 +1,6 @@
 ghost use Rattle.std.specs.Prelude.{◌≡◌, ◌≤◌, All, IfOk};
 ghost use Rattle.gs_grammar.specs.Items.{IsItem};
-ghost use Rattle.gs_grammar_machine.specs.Machines.{IsMachine, states_of};
+ghost use Rattle.gs_ambig.specs.Machines.{IsMachine, states_of};
 ghost use Rattle.gs_grammar_compile.specs.Readers.{ReadsItems, most_states};
 ghost use Rattle.gs_grammar_compile.specs.ItemTables.{machine_of};
 
@@ -8,7 +8,7 @@ use crate::items::add_item;
 use crate::rooms::room_of_all;
 use gs_chars::Memory;
 use gs_grammar::{Item, Opt};
-use gs_grammar_machine::{Auto, Table};
+use gs_ambig::{Auto, Table};
 use std::alloc::Global;
 
 /// Makes the machine of a list of items.

@@ -10,7 +10,7 @@ use crate::ones::add_ones;
 use crate::spelling_states::add_spelled;
 use gs_chars::Memory;
 use gs_grammar::Item;
-use gs_grammar_machine::Table;
+use gs_ambig::Table;
 use std::alloc::Global;
 
 /// Returns the greatest number of at most n digits that fits in the bits.

@@ -5,7 +5,7 @@ ghost use Rattle.gs_grammar_compile.specs.NumeralTablesSupport.{AddsNumeral};
 use crate::additions::{add_run, state_ahead};
 use gs_chars::Memory;
 use gs_grammar::digits_behind;
-use gs_grammar_machine::{Edge, Table};
+use gs_ambig::{Edge, Table};
 
 /// Makes an edge with each digit from one to another, as bytes.
 fn digits(lo: u8, hi: u8, to: usize) -> Edge

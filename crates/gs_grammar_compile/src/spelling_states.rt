@@ -3,7 +3,7 @@ ghost use Rattle.gs_grammar_compile.specs.EscapeTables.{with_ranges, last_or_nex
 
 use crate::additions::state_ahead;
 use gs_chars::Memory;
-use gs_grammar_machine::{Edge, Table};
+use gs_ambig::{Edge, Table};
 use std::alloc::Global;
 
 /// Appends an edge to one state for each of the ranges.

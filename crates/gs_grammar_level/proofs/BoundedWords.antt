@@ -3,11 +3,11 @@ use Rattle.std.proofs.Common.{ℕ, ◌<◌, ◌≤◌, ◌+◌, zero, suc, All, 
 use Rattle.gs_grammar.specs.declared.item.Item.{Item}
 use Rattle.gs_grammar.specs.Items.{IsItem}
 use Rattle.gs_grammar.specs.Derivations.{Derives}
-use Rattle.gs_grammar_machine.specs.declared.edge.Edge.{Edge}
-use Rattle.gs_grammar_machine.specs.Walks.{Fits, edges_at, Walk}
-use Rattle.gs_grammar_machine.specs.Machines.{accept_of}
-use Rattle.gs_grammar_machine.specs.MachinesSupport.{start_of}
-use Rattle.gs_grammar_machine.proofs.Onward.{goes_on}
+use Rattle.gs_ambig.specs.declared.machine.Edge.{Edge}
+use Rattle.gs_ambig.specs.Walks.{Fits, edges_at, Walk}
+use Rattle.gs_ambig.specs.Machines.{accept_of}
+use Rattle.gs_ambig.specs.MachinesSupport.{start_of}
+use Rattle.gs_ambig.proofs.Onward.{goes_on}
 use Rattle.gs_grammar_compile.specs.ItemTables.{machine_of}
 use Rattle.gs_grammar_compile.proofs.WalkLemmas.{Ascends}
 use Rattle.gs_grammar_compile.proofs.JoinLemmas.{cuts_law}

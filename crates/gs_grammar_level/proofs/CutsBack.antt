@@ -1,9 +1,9 @@
 -- The cuts of a run, from its last entry back.
 use Rattle.std.proofs.Common.{◌≡◌, ℕ, ◌<◌, ◌≤◌, ◌+◌, ◌-◌, if◌then◌else◌, List, [], ◌∷◌, length, get_or, drop, zero, suc, refl, sym, ◌∙◌, ap, subst, arith}
 use Rattle.std.proofs.Math.Seq.{drop-cons}
-use Rattle.gs_grammar_machine.specs.Walks.{Fits, edges_at, Walk}
-use Rattle.gs_grammar_machine.specs.Machines.{AutoForm, accept_of}
-use Rattle.gs_grammar_machine.specs.MachinesSupport.{start_of}
+use Rattle.gs_ambig.specs.Walks.{Fits, edges_at, Walk}
+use Rattle.gs_ambig.specs.Machines.{AutoForm, accept_of}
+use Rattle.gs_ambig.specs.MachinesSupport.{start_of}
 use Rattle.gs_grammar_compile.specs.Places.{is_border, stands_from}
 use Rattle.gs_grammar_level.specs.declared.trail.Entry.{Entry}
 use Rattle.gs_grammar_level.specs.Trails.{entry_at, Came, IsTrail, with_cut, AreCuts}

@@ -2,8 +2,8 @@
 use Rattle.std.proofs.Common.{◌≡◌, ℕ, ◌<◌, ◌≤◌, ◌+◌, true, false, List, [], ◌∷◌, ◌++◌, length, get_or, drop, suc, refl, sym, ◌∙◌, ap, arith, length-append, add-one}
 use Rattle.std.proofs.lemmas.List.{get_or_append_left, append-nil, append_assoc, get_or_default}
 use Rattle.std.proofs.Math.Seq.{drop-cons}
-use Rattle.gs_grammar_machine.specs.declared.edge.Edge.{Edge}
-use Rattle.gs_grammar_machine.specs.Walks.{edges_at}
+use Rattle.gs_ambig.specs.declared.machine.Edge.{Edge}
+use Rattle.gs_ambig.specs.Walks.{edges_at}
 use Rattle.gs_grammar_level.specs.declared.trail.Entry.{Entry}
 use Rattle.gs_grammar_level.specs.Trails.{leads_with, successors, layer, entry_at}
 use Rattle.gs_grammar_level.proofs.DropLemmas.{none_left}

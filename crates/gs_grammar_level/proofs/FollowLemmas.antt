@@ -3,10 +3,10 @@ use Rattle.std.proofs.Common.{◌≡◌, ℕ, ◌<◌, ◌≤◌, ◌+◌, ◌-�
 use Rattle.std.specs.Prelude.{IfSome, IfNone}
 use Rattle.std.proofs.lemmas.Bool.{cases_lt}
 use Rattle.std.proofs.lemmas.List.{get_or_append_left, get_or-append_right}
-use Rattle.gs_grammar_machine.specs.Walks.{Fits, edges_at, Walk}
-use Rattle.gs_grammar_machine.specs.Machines.{AutoForm, IsMachine, states_of, accept_of}
-use Rattle.gs_grammar_machine.specs.MachinesSupport.{start_of, Accepts}
-use Rattle.gs_grammar_machine.proofs.Onward.{goes_on}
+use Rattle.gs_ambig.specs.Walks.{Fits, edges_at, Walk}
+use Rattle.gs_ambig.specs.Machines.{AutoForm, IsMachine, states_of, accept_of}
+use Rattle.gs_ambig.specs.MachinesSupport.{start_of, Accepts}
+use Rattle.gs_ambig.proofs.Onward.{goes_on}
 use Rattle.gs_grammar_level.specs.declared.trail.Entry.{Entry}
 use Rattle.gs_grammar_level.specs.Trails.{layer, entry_at, Came, IsTrail, HasNoRun}
 use Rattle.gs_grammar_level.proofs.WalksOn.{next_state, ends_at}

@@ -4,8 +4,8 @@ use Rattle.std.proofs.lemmas.Bool.{cases_eq}
 use Rattle.std.proofs.lemmas.Bool.Decides.{nat_tests}
 use Rattle.std.proofs.lemmas.List.{length-drop}
 use Rattle.gs_chars.proofs.TruthsAndLists.{true_or_false}
-use Rattle.gs_grammar_machine.specs.declared.edge.Edge.{Edge}
-use Rattle.gs_grammar_machine.specs.Walks.{Fits, edges_at}
+use Rattle.gs_ambig.specs.declared.machine.Edge.{Edge}
+use Rattle.gs_ambig.specs.Walks.{Fits, edges_at}
 use Rattle.gs_grammar_level.specs.declared.trail.Entry.{Entry}
 use Rattle.gs_grammar_level.specs.Trails.{leads_with, successors, layer, entry_at}
 use Rattle.gs_grammar_level.proofs.DropLemmas.{part_at}

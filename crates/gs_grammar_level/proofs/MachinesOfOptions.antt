@@ -7,7 +7,7 @@ use Rattle.gs_grammar.specs.declared.item.Item.{Item}
 use Rattle.gs_grammar.specs.Levels.{OptionForm, AreOfKind, KeepBounds, item_lists}
 use Rattle.gs_grammar.specs.Ambiguity.{ShareList}
 use Rattle.gs_bits.specs.Bits.{AreBits}
-use Rattle.gs_grammar_machine.specs.Machines.{AutoForm}
+use Rattle.gs_ambig.specs.Machines.{AutoForm}
 use Rattle.gs_grammar_compile.specs.Places.{CutsAreThoseOfDerivations}
 use Rattle.gs_grammar_compile.proofs.JoinLemmas.{cuts_law}
 use Rattle.gs_grammar_level.specs.OptionMachines.{IsMachineOf, AreMachinesOf}

@@ -11,7 +11,7 @@ use Rattle.gs_grammar.specs.Derivations.{IsDerived, Derivation, OneDerivation}
 use Rattle.gs_grammar.specs.Ambiguity.{IsUnambiguous}
 use Rattle.gs_grammar.specs.Levels.{OptionForm, item_lists}
 use Rattle.gs_grammar.proofs.OneReading.{only_derivation}
-use Rattle.gs_grammar_machine.specs.Machines.{AutoForm, IsMachine}
+use Rattle.gs_ambig.specs.Machines.{AutoForm, IsMachine}
 use Rattle.gs_grammar_compile.specs.Readers.{ReadsItems}
 use Rattle.gs_grammar_compile.proofs.JoinLemmas.{cuts_law}
 use Rattle.gs_grammar_level.specs.declared.guides.Group.{Group}

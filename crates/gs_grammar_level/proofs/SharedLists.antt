@@ -4,8 +4,8 @@ use Rattle.std.specs.List.{concat, slice_get}
 use Rattle.std.proofs.lemmas.List.{take_at, drop_at}
 use Rattle.gs_grammar.specs.declared.item.Item.{Item}
 use Rattle.gs_grammar.specs.Ambiguity.{ShareList}
-use Rattle.gs_grammar_machine.specs.Machines.{AutoForm}
-use Rattle.gs_grammar_machine.specs.MachinesSupport.{Accepts, start_of}
+use Rattle.gs_ambig.specs.Machines.{AutoForm}
+use Rattle.gs_ambig.specs.MachinesSupport.{Accepts, start_of}
 use Rattle.gs_ambig.specs.Searches.{BothAccept, NoneInCommon, HasTwoWalks, IsSingle}
 use Rattle.gs_grammar_level.specs.ShareSearches.{ShareNoList}
 use Rattle.gs_grammar_level.proofs.DecidedShares.{derives_at}

@@ -1,8 +1,8 @@
 -- How a walk goes on over the rest of some symbols, and its end.
 use Rattle.std.proofs.Common.{◌≡◌, ℕ, ◌<◌, ◌≤◌, List, [], ◌∷◌, length, get_or, drop, suc, sym, ◌∙◌, ap}
 use Rattle.std.proofs.Math.Seq.{drop-cons}
-use Rattle.gs_grammar_machine.specs.Walks.{Fits, edges_at, Walk}
-use Rattle.gs_grammar_machine.specs.Machines.{AutoForm, accept_of}
+use Rattle.gs_ambig.specs.Walks.{Fits, edges_at, Walk}
+use Rattle.gs_ambig.specs.Machines.{AutoForm, accept_of}
 use Rattle.gs_grammar_level.proofs.DropLemmas.{none_left}
 
 -- the next state of a walk, and the walk from there

@@ -1,7 +1,7 @@
 -- The machines of options, and lists with one for each option.
 use Rattle.std.specs.Prelude.{◌≡◌, ◌≤◌, ℕ, List, Some, length, slice_get}
 use Rattle.gs_grammar.specs.Levels.{OptionForm}
-use Rattle.gs_grammar_machine.specs.Machines.{AutoForm, IsMachine, states_of}
+use Rattle.gs_ambig.specs.Machines.{AutoForm, IsMachine, states_of}
 use Rattle.gs_grammar_compile.specs.Readers.{ReadsItems, most_states}
 
 -- trusted, own: the machine is one of the option: it satisfies the rules of machines and reads the option's items one by one.

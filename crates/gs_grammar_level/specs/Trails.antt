@@ -2,10 +2,10 @@
 use Rattle.std.specs.Prelude.{◌≡◌, ℕ, ◌+◌, ◌<◌, ◌&&◌, ◌≤◌, nat_le, Bool, if◌then◌else◌, List, [], ◌∷◌, ◌++◌, length, drop, slice_index, slice_index_or, zero, suc}
 use Rattle.gs_grammar.specs.declared.item.Item.{Item}
 use Rattle.gs_grammar.specs.Derivations.{Derives}
-use Rattle.gs_grammar_machine.specs.declared.edge.Edge.{Edge}
-use Rattle.gs_grammar_machine.specs.Walks.{Fits, edges_at}
-use Rattle.gs_grammar_machine.specs.Machines.{AutoForm, states_of, accept_of}
-use Rattle.gs_grammar_machine.specs.MachinesSupport.{start_of, Accepts}
+use Rattle.gs_ambig.specs.declared.machine.Edge.{Edge}
+use Rattle.gs_ambig.specs.Walks.{Fits, edges_at}
+use Rattle.gs_ambig.specs.Machines.{AutoForm, states_of, accept_of}
+use Rattle.gs_ambig.specs.MachinesSupport.{start_of, Accepts}
 use Rattle.gs_grammar_compile.specs.Places.{is_border, run_cuts, word_cuts}
 use Rattle.gs_grammar_level.specs.declared.trail.Entry.{Entry}
 

@@ -1,7 +1,7 @@
 -- The facts that a level keeps in addition to its options.
 use Rattle.std.specs.Prelude.{Bool, List}
 use Rattle.gs_grammar.specs.Levels.{OptionForm, AreOfKind}
-use Rattle.gs_grammar_machine.specs.Machines.{AutoForm}
+use Rattle.gs_ambig.specs.Machines.{AutoForm}
 use Rattle.gs_grammar_level.specs.declared.guides.Probe.{Probe}
 use Rattle.gs_grammar_level.specs.declared.guides.Group.{Group}
 use Rattle.gs_grammar_level.specs.declared.front_places.Front.{Front}

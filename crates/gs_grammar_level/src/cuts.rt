@@ -4,7 +4,7 @@ ghost use Rattle.gs_grammar_level.specs.Trails.{IsTrail, AreCuts, with_cut};
 
 use crate::trail::Entry;
 use gs_chars::Memory;
-use gs_grammar_machine::Auto;
+use gs_ambig::Auto;
 
 /// Returns whether the state is one of the borders.
 fn is_border(borders: &[usize], state: usize) -> bool

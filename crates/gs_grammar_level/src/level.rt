@@ -13,7 +13,7 @@ use crate::machines::machines_of;
 use crate::probe_groups::{groups_of, probes_of};
 use gs_chars::{List, Memory};
 use gs_grammar::Opt;
-use gs_grammar_machine::Auto;
+use gs_ambig::Auto;
 use std::alloc::Global;
 use std::marker::Model;
 

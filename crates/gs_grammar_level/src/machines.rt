@@ -4,7 +4,7 @@ ghost use Rattle.gs_grammar_level.specs.OptionMachines.{AreMachinesOf};
 use gs_chars::{List, Memory};
 use gs_grammar::Opt;
 use gs_grammar_compile::compile;
-use gs_grammar_machine::Auto;
+use gs_ambig::Auto;
 use std::alloc::Global;
 
 /// Makes the machine of each option, in their order.

@@ -2,7 +2,7 @@ ghost use Rattle.std.specs.Prelude.{All, IfOk, IfSome, IfNone};
 ghost use Rattle.gs_grammar.specs.Items.{IsItem};
 ghost use Rattle.gs_grammar.specs.Derivations.{IsDerived};
 ghost use Rattle.gs_grammar.specs.DerivationsSupport.{HasValues};
-ghost use Rattle.gs_grammar_machine.specs.Machines.{IsMachine};
+ghost use Rattle.gs_ambig.specs.Machines.{IsMachine};
 ghost use Rattle.gs_grammar_compile.specs.Readers.{ReadsItems};
 
 use crate::cuts::cut_back;
@@ -10,7 +10,7 @@ use crate::trail::{Entry, follow};
 use crate::values::values_of;
 use gs_chars::{List, Memory, Text};
 use gs_grammar::Item;
-use gs_grammar_machine::Auto;
+use gs_ambig::Auto;
 use std::alloc::Global;
 
 /// Room that readings of options write to, one at a time.

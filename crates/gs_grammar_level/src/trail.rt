@@ -1,9 +1,9 @@
 ghost use Rattle.std.specs.Prelude.{◌≡◌, ◌++◌, OnOk, IfOk, IfSome, IfNone};
-ghost use Rattle.gs_grammar_machine.specs.Machines.{IsMachine};
+ghost use Rattle.gs_ambig.specs.Machines.{IsMachine};
 ghost use Rattle.gs_grammar_level.specs.Trails.{leads_with, successors, with_layer, AreInside, IsEntryOf, HasNoEntryOf, IsTrail, HasNoRun};
 
 use gs_chars::Memory;
-use gs_grammar_machine::{Auto, Edge};
+use gs_ambig::{Auto, Edge};
 
 /// A state that a machine can be at after a symbol, and the number of the entry that it was reached from.
 #[derive(Clone, Copy)]

@@ -1,6 +1,6 @@
 use Rattle.std.proofs.Common.{◌+◌, ◌-◌, ◌*◌, take}
-use Rattle.gs_grammar_machine.specs.Walks.{edges_at}
-use Rattle.gs_grammar_machine.specs.Machines.{states_of}
+use Rattle.gs_ambig.specs.Walks.{edges_at}
+use Rattle.gs_ambig.specs.Machines.{states_of}
 use Rattle.gs_ambig.specs.Searches.{MarksDead, IsDeadBehind}
 use Rattle.gs_ambig.proofs.Pairs.{DeadBy}
 use Rattle.gs_ambig.proofs.search.+search.Given as goal

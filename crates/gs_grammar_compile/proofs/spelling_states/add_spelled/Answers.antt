@@ -1,5 +1,5 @@
 use Rattle.std.proofs.Common.{◌≡◌, ℕ, ◌+◌, ◌*◌, ◌≤◌, List, ◌++◌, length, append-nil, refl, sym, ◌∙◌, arith}
-use Rattle.gs_grammar_machine.specs.declared.edge.Edge.{Edge}
+use Rattle.gs_ambig.specs.declared.machine.Edge.{Edge}
 use Rattle.gs_grammar_compile.specs.EscapeTables.{esc_table}
 use Rattle.gs_grammar_compile.proofs.AddedCodes.{character_step}
 use Rattle.gs_grammar_compile.proofs.spelling_states.add_spelled.Goals as goal

@@ -1,5 +1,5 @@
 use Rattle.std.proofs.Common.{◌+◌, List, [], ◌∷◌, ◌++◌, ap, ◌∙◌}
-use Rattle.gs_grammar_machine.specs.declared.edge.Edge.{Edge}
+use Rattle.gs_ambig.specs.declared.machine.Edge.{Edge}
 use Rattle.gs_grammar_compile.specs.Tables.{edge}
 use Rattle.gs_grammar_compile.proofs.spelling_states.first_row.Goals as goal
 

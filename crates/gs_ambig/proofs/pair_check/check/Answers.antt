@@ -1,4 +1,0 @@
-use Rattle.gs_ambig.proofs.pair_check.check.Goals as goal
-
-pub returns : goal.returns
-returns c = c.verdict_of.ensures

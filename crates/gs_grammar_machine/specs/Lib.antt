@@ -1,4 +1,0 @@
-pub mod Walks
-pub mod Cuts
-pub mod Machines
-pub mod MachinesSupport
