@@ -20,7 +20,6 @@
 //!   items, each with the words of its values, so that reading and writing are one relation.
 #![tactic(auto)]
 
-mod bit_symbols;
 mod bit_words;
 mod bit_writer;
 mod error;
@@ -28,16 +27,13 @@ mod item;
 mod laws;
 mod numerals;
 mod opt;
-mod spellings;
-mod splits;
 mod tally;
 mod text_writer;
 mod value_test;
-mod wide;
 mod word_tests;
 mod words;
 
-pub use bit_symbols::unpack;
+pub use bit_words::unpack;
 pub use bit_writer::write_bits;
 pub use error::{OptFault, Why, WriteFault};
 pub use item::Item;

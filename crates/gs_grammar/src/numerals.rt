@@ -5,7 +5,7 @@ ghost use Rattle.gs_grammar.specs.Languages.{IsOneBehind};
 ghost use Rattle.gs_grammar.specs.Words.{decimal_value};
 ghost use Rattle.gs_grammar.specs.WrittenWords.{has_leading_zero};
 
-use crate::wide::WideNumber;
+use crate::bit_words::WideNumber;
 use gs_chars::{CharSet, Memory, Text};
 use std::alloc::Global;
 

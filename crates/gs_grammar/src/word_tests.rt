@@ -1,15 +1,14 @@
-ghost use Rattle.std.specs.Prelude.{◌≡◌, ◌↔◌, ◌==◌, ◌&&◌, ◌≤◌, ◌<◌, ◌^◌, length, take, IsTrue, IfSome, IfNone};
+ghost use Rattle.std.specs.Prelude.{◌≡◌, ◌↔◌, ◌==◌, ◌&&◌, ◌≤◌, ◌<◌, ◌^◌, length, take, IsTrue, IfSome, IfNone, ℕ, List};
 ghost use Rattle.gs_chars.specs.Characters.{are_digits};
 ghost use Rattle.gs_grammar.specs.Items.{IsItem};
 ghost use Rattle.gs_grammar.specs.Languages.{IsOneBehind};
-ghost use Rattle.gs_grammar.specs.Words.{IsWord, Word, WritesNumber};
+ghost use Rattle.gs_grammar.specs.Words.{IsWord, Word, WritesNumber, SpellsEach};
 ghost use Rattle.gs_grammar.specs.declared.item.Item.TheVariants.{Ascii7, Digits, Esc, Fill, Int, Num, NumPad, NumStr};
 
 use crate::bit_words::{are_zeros, number_in_bits, packed_count};
 use crate::item::{Item, is_within};
 use crate::numerals::{digits_behind_one, has_at_most_digits, numeral};
-use crate::spellings::spell;
-use gs_chars::are_digits;
+use gs_chars::{are_digits, read_escape};
 
 /// Returns whether the symbols are this many digits.
 pub fn are_n_digits(symbols: &[u8], n: usize) -> bool
@@ -140,4 +139,28 @@ pub fn is_word(item: &Item, symbols: &[u8]) -> bool
         Item::Ascii7 { lo, hi, bits } => is_packed(symbols, *lo, *hi, *bits),
         Item::Fill { a, b } => is_filling(symbols, *a, *b),
     }
+}
+
+/// Writes the characters that the symbols spell, each in a spelling of EPC URIs, to the start of `out`, and gives their number.
+/// `None` is returned if and only if they spell no value of at most 64 characters, which is the room of `out`. Each spelling is
+/// looked for once.
+pub fn spell(symbols: &[u8], out: &mut [u8]) -> Option<usize>
+    requires { length out.old ≡ 64 }
+    ensures within { IfSome result (λ count. count ≤ length out.new) }
+    ensures room { length out.new ≡ 64 }
+    ensures some { IfSome result (λ count. SpellsEach (take count out.new) symbols.now) }
+    ensures none { IfNone result ((value : List ℕ) → length value ≤ 64 → SpellsEach value symbols.now → ⊥) }
+{
+    let mut rest = symbols;
+    let mut count = 0;
+    while !rest.is_empty() {
+        let (character, used) = read_escape(rest)?;
+        if count == 64 {
+            return None;
+        }
+        out[count] = character;
+        rest = &rest[used..];
+        count += 1;
+    }
+    Some(count)
 }

@@ -1,5 +1,5 @@
 -- The states of digits after a 1, and of digits of variable length, that were added to a table.
-use Rattle.std.proofs.Common.{◌≡◌, ℕ, ◌<◌, ◌≤◌, ◌+◌, ◌-◌, ◌^◌, List, [], ◌∷◌, ◌++◌, length, zero, suc, sym, ◌∙◌, ap, arith, length-append}
+use Rattle.std.proofs.Common.{◌≡◌, ℕ, ◌<◌, ◌≤◌, ◌+◌, ◌-◌, ◌^◌, List, ◌++◌, length, zero, suc, sym, ◌∙◌, ap, arith, length-append}
 use Rattle.std.proofs.Math.Nat.{one-le-pow, pow-le-pow_right}
 use Rattle.std.proofs.lemmas.List.{append_assoc, append-nil}
 use Rattle.gs_ambig.specs.declared.machine.Edge.{Edge}

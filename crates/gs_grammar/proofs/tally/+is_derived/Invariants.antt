@@ -1,6 +1,6 @@
 use Rattle.std.proofs.Common.{ℕ, ◌<◌, length}
 use Rattle.gs_grammar.specs.Searches.{AtCut}
-use Rattle.gs_grammar.proofs.splits.+is_derived.Given as goal
+use Rattle.gs_grammar.proofs.tally.+is_derived.Given as goal
 
 abbrev pub decreases-is_derived : goal.decreases-is_derived
 decreases-is_derived l = length l.items.now

@@ -1,6 +1,6 @@
 use Rattle.std.proofs.Common.{◌≡◌, ◌≤◌, length, take}
 use Rattle.gs_grammar.proofs.SpellingLemmas.{Gathers}
-use Rattle.gs_grammar.proofs.spellings.spell.Given as goal
+use Rattle.gs_grammar.proofs.word_tests.spell.Given as goal
 
 abbrev pub invariant-loop-rest : goal.invariant-loop-rest
 invariant-loop-rest l = record {

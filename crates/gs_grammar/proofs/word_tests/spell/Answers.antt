@@ -2,7 +2,7 @@ use Rattle.std.proofs.Common.{arith, ◌<◌, length, length-set}
 use Rattle.std.proofs.lemmas.List.{take_rest}
 use Rattle.gs_grammar.proofs.Cuts.{tally_take}
 use Rattle.gs_grammar.proofs.SpellingLemmas.{gathers_step, gathers_end, gathers_none, gathers_more}
-use Rattle.gs_grammar.proofs.spellings.spell.Goals as goal
+use Rattle.gs_grammar.proofs.word_tests.spell.Goals as goal
 
 pub returns-in_err-character-clause-none : goal.returns-in_err-character-clause-none
 returns-in_err-character-clause-none c =

@@ -1,6 +1,6 @@
 use Rattle.std.proofs.Common.{refl, arith, rules}
 use Rattle.gs_grammar.proofs.Cuts.{nil_derived, last_found, cut_derived, no_split, none_below, not_derived, never_derived, none_first, first_item, other_items}
-use Rattle.gs_grammar.proofs.splits.+is_derived.Goals as goal
+use Rattle.gs_grammar.proofs.tally.+is_derived.Goals as goal
 
 pub returns-in_default : goal.returns-in_default
 returns-in_default t c = nil_derived _ _ _ c.in_default.ensures.cases c.is_empty.ensures

@@ -1,6 +1,6 @@
 use Rattle.std.proofs.Common.{arith}
 use Rattle.gs_grammar.proofs.Cuts.{at_cut, fixed_cut, none_first, none_below, no_split, not_derived, some_cut}
-use Rattle.gs_grammar.proofs.splits.first_cut.Goals as goal
+use Rattle.gs_grammar.proofs.tally.first_cut.Goals as goal
 
 pub returns-then-shortest-longest : goal.returns-then-shortest-longest
 returns-then-shortest-longest c = fixed_cut _ _ _ _ c.requires.item c.requires.derived c.shortest-shortest.ensures (grind arith)
