@@ -1,8 +1,8 @@
 ghost use Rattle.std.specs.Prelude.{◌≡◌, ◌+◌, ◌-◌, ◌^◌, ◌<◌, ◌≤◌, ◌++◌, ◌∷◌, [], IfOk, OnOk, length};
 ghost use Rattle.gs_grammar_compile.specs.Tables.{edge, lit_table, run_table, fork_edges, fill_table, lower_edges, bound_rest, bound_edges, bound_table};
 
-use gs_chars::Memory;
 use gs_ambig::{Edge, Table};
+use gs_chars::Memory;
 
 /// Returns the state `steps` after the last. A number that overflows is too great for memory.
 pub fn state_ahead(table: &Table, steps: usize) -> Result<usize, Memory>

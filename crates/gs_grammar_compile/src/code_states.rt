@@ -2,8 +2,8 @@ ghost use Rattle.std.specs.Prelude.{◌≡◌, ◌+◌, ◌-◌, ◌*◌, ◌^�
 ghost use Rattle.gs_grammar_compile.specs.CodeTables.{edge_where, code_target, code_edge, code_row, code_block, code_states, root_edges, next_character, code_rows, characters_table, ascii_table};
 
 use crate::additions::{add_run, state_ahead};
-use gs_chars::Memory;
 use gs_ambig::{Edge, Table};
+use gs_chars::Memory;
 
 /// Makes an edge with one bit.
 pub fn bit_edge(bit: u8, to: usize) -> Edge

@@ -22,11 +22,9 @@
 mod additions;
 mod code_states;
 mod compiler;
-mod items;
 mod laws;
 mod numeral;
 mod ones;
-mod rooms;
 mod spelling_states;
 
 pub use compiler::compile;

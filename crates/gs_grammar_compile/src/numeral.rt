@@ -3,9 +3,9 @@ ghost use Rattle.gs_grammar_compile.specs.NumeralTables.{digits_table, free_edge
 ghost use Rattle.gs_grammar_compile.specs.NumeralTablesSupport.{AddsNumeral};
 
 use crate::additions::{add_run, state_ahead};
+use gs_ambig::{Edge, Table};
 use gs_chars::Memory;
 use gs_grammar::digits_behind;
-use gs_ambig::{Edge, Table};
 
 /// Makes an edge with each digit from one to another, as bytes.
 fn digits(lo: u8, hi: u8, to: usize) -> Edge

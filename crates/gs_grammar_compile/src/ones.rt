@@ -3,8 +3,8 @@ ghost use Rattle.gs_grammar_compile.specs.OnesTables.{count_rows, counts_rows, f
 
 use crate::additions::state_ahead;
 use crate::code_states::{bit_edge, push_where};
-use gs_chars::Memory;
 use gs_ambig::{Edge, Table};
+use gs_chars::Memory;
 use std::alloc::Global;
 
 /// Returns the state at this place of the layer with `left` bits left, and the end if no bits are left.

@@ -2,8 +2,8 @@ ghost use Rattle.std.specs.Prelude.{◌≡◌, ◌+◌, ◌-◌, ◌*◌, ◌++�
 ghost use Rattle.gs_grammar_compile.specs.EscapeTables.{with_ranges, last_or_next, front_edges, four_states, character_states, esc_table};
 
 use crate::additions::state_ahead;
-use gs_chars::Memory;
 use gs_ambig::{Edge, Table};
+use gs_chars::Memory;
 use std::alloc::Global;
 
 /// Appends an edge to one state for each of the ranges.

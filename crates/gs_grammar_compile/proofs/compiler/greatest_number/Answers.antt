@@ -2,7 +2,7 @@ use Rattle.std.proofs.Common.{◌≡◌, ℕ, ◌-◌, ◌*◌, ◌%◌, ◌^◌
 use Rattle.std.proofs.lemmas.Nat.{shl_whole}
 use Rattle.gs_grammar_compile.specs.Tables.{digits_greatest}
 use Rattle.gs_grammar_compile.proofs.AddedNumerals.{some_power}
-use Rattle.gs_grammar_compile.proofs.items.greatest_number.Goals as goal
+use Rattle.gs_grammar_compile.proofs.compiler.greatest_number.Goals as goal
 
 least_of_both : (bits n power least : ℕ) → bits < 64 → power ≡ 10 ^ n → least ≡ min (power - 1) ((1 * 2 ^ bits) % 18446744073709551616 - 1) → least ≡ digits_greatest bits n
 least_of_both bits n power least narrow p e =

@@ -1,7 +1,7 @@
 use Rattle.std.proofs.Common.{arith, ◌<◌, ◌^◌}
 use Rattle.gs_grammar_compile.proofs.AddedRows.{ok_follows}
 use Rattle.gs_grammar_compile.proofs.AddedNumerals.{int_added}
-use Rattle.gs_grammar_compile.proofs.items.add_item.Goals as goal
+use Rattle.gs_grammar_compile.proofs.compiler.add_item.Goals as goal
 
 pub returns-in-Int : goal.returns-in-Int
 returns-in-Int c =
