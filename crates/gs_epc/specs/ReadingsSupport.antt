@@ -1,7 +1,7 @@
 -- Definitions for proofs and private functions, in addition to Readings.antt.
 use Rattle.std.specs.Prelude.{ℕ, List, Result}
 use Rattle.gs_grammar_level.specs.Readings.{Reads}
-use Rattle.gs_grammar_level.specs.declared.readings.Reading.{Reading}
+use Rattle.gs_grammar_level.specs.declared.read.Reading.{Reading}
 use Rattle.gs_tables_document.specs.declared.level_name.LevelName.{LevelName}
 use Rattle.gs_tables.specs.Tables.{TableRows}
 use Rattle.gs_epc.specs.declared.epc.Epc.{Epc}

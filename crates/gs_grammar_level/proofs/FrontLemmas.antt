@@ -18,8 +18,8 @@ use Rattle.gs_grammar.proofs.Cuts.{derives_uncons}
 use Rattle.gs_grammar.proofs.Numbers.{digits_of_decimal}
 use Rattle.gs_grammar.proofs.Packs.{writes_bits}
 use Rattle.gs_grammar.proofs.WordLaws.{word_length, int_bounds}
-use Rattle.gs_grammar_level.specs.declared.front_places.Place.{Place}
-use Rattle.gs_grammar_level.specs.declared.front_places.Front.{Front}
+use Rattle.gs_grammar_level.specs.declared.fronts.Place.{Place}
+use Rattle.gs_grammar_level.specs.declared.fronts.Front.{Front}
 use Rattle.gs_grammar_level.specs.Fronts.{place_of, places_of, MayStand, StandWithin, HavePlaces, AreFrontsOf, AreApart}
 use Rattle.gs_grammar_level.specs.ShareSearches.{ShareNoList}
 use Rattle.gs_grammar_level.proofs.BitSymbols.{packed_bits}

@@ -14,7 +14,7 @@ use Rattle.gs_grammar.specs.Derivations.{IsDerived}
 use Rattle.gs_grammar.specs.Levels.{OptionForm}
 use Rattle.gs_grammar.proofs.Cuts.{derives_uncons}
 use Rattle.gs_grammar.proofs.WordLaws.{word_length}
-use Rattle.gs_grammar_level.specs.declared.guides.Group.{Group}
+use Rattle.gs_grammar_level.specs.declared.fronts.Group.{Group}
 use Rattle.gs_grammar_level.specs.Guides.{StandsAt, HasLiteral, BeginAll, AreGroupsFrom}
 
 -- the items to come derive the rest from the place on

@@ -14,7 +14,7 @@ use Rattle.gs_grammar.proofs.OneReading.{only_derivation}
 use Rattle.gs_ambig.specs.Machines.{AutoForm, IsMachine}
 use Rattle.gs_grammar_compile.specs.Readers.{ReadsItems}
 use Rattle.gs_grammar_compile.proofs.JoinLemmas.{cuts_law}
-use Rattle.gs_grammar_level.specs.declared.guides.Group.{Group}
+use Rattle.gs_grammar_level.specs.declared.fronts.Group.{Group}
 use Rattle.gs_grammar_level.specs.Trails.{AreCuts, HasCuts, HasNoRun}
 use Rattle.gs_grammar_level.specs.Guides.{StandsAt, HasLiteral, BeginAll, AreGroupsFrom}
 use Rattle.gs_grammar_level.specs.Finders.{ReadBy, NoneReads}

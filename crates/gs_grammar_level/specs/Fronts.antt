@@ -5,8 +5,8 @@ use Rattle.gs_grammar.specs.declared.item.Item.TheVariants.{Lit, Pad, Digits, In
 use Rattle.gs_grammar.specs.Items.{size_of, shortest_of}
 use Rattle.gs_grammar.specs.Derivations.{Derives, IsDerived}
 use Rattle.gs_grammar.specs.Levels.{OptionForm}
-use Rattle.gs_grammar_level.specs.declared.front_places.Place.{Place}
-use Rattle.gs_grammar_level.specs.declared.front_places.Front.{Front}
+use Rattle.gs_grammar_level.specs.declared.fronts.Place.{Place}
+use Rattle.gs_grammar_level.specs.declared.fronts.Front.{Front}
 use Rattle.gs_grammar_level.specs.OptionMachines.{FitEach}
 
 -- the place of the symbols from the least to the most

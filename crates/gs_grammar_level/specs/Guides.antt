@@ -3,8 +3,8 @@ use Rattle.std.specs.Prelude.{◌≡◌, ◌≤◌, ◌<◌, ℕ, List, [], ◌�
 use Rattle.gs_grammar.specs.declared.item.Item.{Item}
 use Rattle.gs_grammar.specs.Derivations.{IsDerived}
 use Rattle.gs_grammar.specs.Levels.{OptionForm}
-use Rattle.gs_grammar_level.specs.declared.guides.Probe.{Probe}
-use Rattle.gs_grammar_level.specs.declared.guides.Group.{Group}
+use Rattle.gs_grammar_level.specs.declared.fronts.Probe.{Probe}
+use Rattle.gs_grammar_level.specs.declared.fronts.Group.{Group}
 use Rattle.gs_grammar_level.specs.OptionMachines.{FitEach}
 
 -- the literal is in the list at this place

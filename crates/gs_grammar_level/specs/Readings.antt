@@ -1,8 +1,8 @@
 -- The reading of a list of symbols.
 use Rattle.std.specs.Prelude.{ℕ, List}
 use Rattle.gs_grammar.specs.declared.item.Item.{Item}
-use Rattle.gs_grammar_level.specs.declared.readings.Reading.{Reading}
-use Rattle.gs_grammar_level.specs.declared.readings.Reading.TheVariants.{One, Nothing, Memory}
+use Rattle.gs_grammar_level.specs.declared.read.Reading.{Reading}
+use Rattle.gs_grammar_level.specs.declared.read.Reading.TheVariants.{One, Nothing, Memory}
 use Rattle.gs_grammar.specs.Derivations.{Derivation, OneDerivation}
 
 -- trusted, own: The answer for the list of symbols in the level: the option and the values of the only derivation, or that

@@ -2,9 +2,9 @@
 use Rattle.std.specs.Prelude.{Bool, List}
 use Rattle.gs_grammar.specs.Levels.{OptionForm, AreOfKind}
 use Rattle.gs_ambig.specs.Machines.{AutoForm}
-use Rattle.gs_grammar_level.specs.declared.guides.Probe.{Probe}
-use Rattle.gs_grammar_level.specs.declared.guides.Group.{Group}
-use Rattle.gs_grammar_level.specs.declared.front_places.Front.{Front}
+use Rattle.gs_grammar_level.specs.declared.fronts.Probe.{Probe}
+use Rattle.gs_grammar_level.specs.declared.fronts.Group.{Group}
+use Rattle.gs_grammar_level.specs.declared.fronts.Front.{Front}
 use Rattle.gs_grammar_level.specs.Fronts.{AreFrontsOf}
 use Rattle.gs_grammar_level.specs.declared.cuttings.Cutting.{Cutting}
 use Rattle.gs_grammar_level.specs.Cuttings.{AreCuttingsOf}

@@ -2,11 +2,10 @@ ghost use Rattle.std.specs.Prelude.{◌≡◌, ◌↔◌, ◌≤◌, ◌<◌, �
 ghost use Rattle.gs_grammar_level.specs.Guides.{StandsAt, BeginAll};
 ghost use Rattle.gs_grammar_level.specs.Finders.{IsFound, NoneFound, NoneReads, NothingFound};
 
-use crate::cuttings::Cutting;
-use crate::guides::Group;
+use crate::cuttings::{Cutting, read_by_widths};
+use crate::fronts::Group;
 use crate::level::Level;
-use crate::one::{Scratch, read_by_machine};
-use crate::widths::read_by_widths;
+use crate::read::{Scratch, read_by_machine};
 use gs_chars::{List, Memory, Text};
 use std::alloc::Global;
 

@@ -1,10 +1,10 @@
 ghost use Rattle.std.specs.Prelude.{◌≡◌, ◌↔◌, ◌++◌, All, IfOk, IsTrue, OnOk, map, replicate};
 ghost use Rattle.gs_grammar.specs.Items.{IsItem, size_of};
-ghost use Rattle.gs_grammar_level.specs.Fronts.{place_of, places_of, AreApart, ArePlacesApart, AreFrontsOf, HavePlaces, IsFrontOf};
+ghost use Rattle.gs_grammar_level.specs.Fronts.{place_of, places_of, AreApart, ArePlacesApart, AreFrontsOf, HavePlaces};
+ghost use Rattle.gs_grammar_level.specs.Fronts.{IsFrontOf};
 
-use crate::front_places::{Front, Place};
-use crate::widths::has_one_length;
-use gs_chars::{List, Memory};
+use crate::cuttings::has_one_length;
+use gs_chars::{List, Memory, Text};
 use gs_grammar::{Item, Opt};
 use std::alloc::Global;
 
@@ -108,4 +108,31 @@ pub fn are_apart(places: &[Place], others: &[Place]) -> bool
         }
     }
     false
+}
+
+/// The symbols that may be at a place: from the least to the most.
+#[derive(Clone, Copy)]
+pub struct Place {
+    pub least: u8,
+    pub most: u8,
+}
+
+/// The symbols at the first places of an option's texts, up to the first item whose words have several lengths.
+#[derive(Drop)]
+pub struct Front {
+    pub places: List<Place>,
+}
+
+/// A literal that is at a place in every text of an option. An empty one is at every place.
+#[derive(Drop)]
+pub struct Probe {
+    pub place: usize,
+    pub literal: Text,
+}
+
+/// Consecutive options whose texts all begin with a literal: those before the number `end`.
+#[derive(Drop)]
+pub struct Group {
+    pub literal: Text,
+    pub end: usize,
 }

@@ -6,14 +6,12 @@ ghost use Rattle.gs_grammar_level.specs.Cuttings.{AreCuttingsOf};
 ghost use Rattle.gs_grammar_level.specs.OptionMachines.{AreMachinesOf};
 
 use crate::cuttings::{Cutting, cuttings_of};
-use crate::front_places::Front;
-use crate::fronts::fronts_of;
-use crate::guides::{Group, Probe};
-use crate::machines::machines_of;
+use crate::fronts::{Front, Group, Probe, fronts_of};
 use crate::probe_groups::{groups_of, probes_of};
+use gs_ambig::Auto;
 use gs_chars::{List, Memory};
 use gs_grammar::Opt;
-use gs_ambig::Auto;
+use gs_grammar_compile::compile;
 use std::alloc::Global;
 use std::marker::Model;
 
@@ -129,4 +127,15 @@ impl Level {
     {
         self.groups.items()
     }
+}
+
+/// Makes the machine of each option, in their order.
+pub fn machines_of(alloc: Global, options: &[Opt]) -> Result<List<Auto>, Memory>
+    ensures { IfOk result (λ machines. AreMachinesOf machines options.now) }
+{
+    let mut machines = Vec::with_capacity(alloc, options.len())?;
+    for option in options {
+        machines.push(compile(alloc, option)?)?;
+    }
+    Ok(List::from_vec(machines))
 }

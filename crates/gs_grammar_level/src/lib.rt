@@ -26,29 +26,19 @@
 //!   `Level::first_share` decides it of all texts and bits, once, when tables are loaded.
 #![tactic(auto)]
 
-mod cuts;
 mod cuttings;
 mod finder;
-mod front_places;
 mod fronts;
-mod guides;
 mod laws;
 mod level;
-mod machines;
-mod one;
 mod probe_groups;
 mod read;
-mod readings;
 mod share;
-mod share_search;
 mod trail;
-mod values;
-mod widths;
 
 pub use laws::{
     ambiguous_exactly_where_options_share, each_level_has_an_answer, no_list_has_two_readings,
 };
 pub use level::Level;
-pub use read::{read_bits, read_text};
-pub use readings::Reading;
+pub use read::{Reading, read_bits, read_text};
 pub use share::Shared;

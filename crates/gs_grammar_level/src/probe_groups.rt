@@ -3,7 +3,7 @@ ghost use Rattle.gs_grammar.specs.Items.{IsItem, size_of_all};
 ghost use Rattle.gs_grammar.specs.Limits.{most_symbols};
 ghost use Rattle.gs_grammar_level.specs.Guides.{HasLiteral, BeginAll, AreGroupsFrom, AreProbesOf};
 
-use crate::guides::{Group, Probe};
+use crate::fronts::{Group, Probe};
 use gs_chars::{List, Memory, Text};
 use gs_grammar::{Item, Opt};
 use std::alloc::Global;

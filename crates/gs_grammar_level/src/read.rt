@@ -1,12 +1,22 @@
 ghost use Rattle.gs_grammar.specs.Levels.{item_lists};
 ghost use Rattle.gs_grammar.specs.Ambiguity.{IsUnambiguous};
 ghost use Rattle.gs_grammar_level.specs.Readings.{Reads};
+ghost use Rattle.std.specs.Prelude.{All, IfOk, IfSome, IfNone};
+ghost use Rattle.gs_grammar.specs.Items.{IsItem};
+ghost use Rattle.gs_grammar.specs.Derivations.{IsDerived};
+ghost use Rattle.gs_grammar.specs.DerivationsSupport.{HasValues};
+ghost use Rattle.gs_ambig.specs.Machines.{IsMachine};
+ghost use Rattle.gs_grammar_compile.specs.Readers.{ReadsItems};
+ghost use Rattle.gs_grammar_level.specs.Trails.{HasCuts};
 
+use crate::cuttings::cut_back;
 use crate::finder::find;
 use crate::level::Level;
-use crate::readings::Reading;
+use crate::trail::{Entry, follow};
+use gs_ambig::Auto;
 use gs_bits::BitBuf;
-use gs_grammar::{MOST_SYMBOLS, unpack};
+use gs_chars::{List, Memory, Text};
+use gs_grammar::{Item, MOST_SYMBOLS, unpack, value_of};
 use std::alloc::Global;
 
 /// Reads the symbols by the options.
@@ -41,4 +51,86 @@ pub fn read_bits<const N: usize>(alloc: Global, level: &Level, bits: &BitBuf<N>)
     let mut symbols = [0; MOST_SYMBOLS];
     let count = unpack(bits, &mut symbols);
     read_symbols(alloc, level, &symbols[..count])
+}
+
+/// The meaning of a list of symbols in a level that is not ambiguous.
+#[derive(Drop)]
+pub enum Reading {
+    /// The list has a derivation, and no other: the number of its option, and the value of each of its items.
+    One { option: usize, values: List<Text> },
+    /// The list has no derivation.
+    Nothing,
+    /// Memory ran out.
+    Memory,
+}
+
+/// Room that readings of options write to, one at a time.
+#[derive(Drop)]
+pub struct Scratch {
+    trail: Vec<Entry>,
+    cuts: Vec<usize>,
+}
+
+impl Scratch {
+    /// Makes room for readings. Does not allocate.
+    pub fn new(alloc: Global) -> Scratch {
+        Scratch {
+            trail: Vec::new(alloc),
+            cuts: Vec::new(alloc),
+        }
+    }
+}
+
+/// Returns the values of a derivation of the symbols by the items, whose machine this is. Returns `None` if and only if there is
+/// no derivation.
+pub fn read_by_machine(
+    alloc: Global,
+    machine: &Auto,
+    items: &[Item],
+    symbols: &[u8],
+    scratch: &mut Scratch,
+) -> Result<Option<List<Text>>, Memory>
+    requires rules { IsMachine machine.now }
+    requires reads { ReadsItems machine.now items.now }
+    requires each { All IsItem items.now }
+    ensures found { IfOk result (λ found. IfSome found (λ values. HasValues items.now symbols.now values)) }
+    ensures none { IfOk result (λ found. IfNone found (IsDerived items.now symbols.now → ⊥)) }
+{
+    let Some(number) = follow(machine, symbols, &mut scratch.trail)? else {
+        return Ok(None);
+    };
+    let trail = scratch.trail.as_slice();
+    cut_back(machine, trail, number, symbols, &mut scratch.cuts)?;
+    let values = values_of(alloc, items, symbols, scratch.cuts.as_slice())?;
+    Ok(Some(values))
+}
+
+/// Returns the values of the words between the cuts.
+pub fn values_of(
+    alloc: Global,
+    items: &[Item],
+    symbols: &[u8],
+    cuts: &[usize],
+) -> Result<List<Text>, Memory>
+    requires items { All IsItem items.now }
+    requires derived { HasCuts items.now symbols.now cuts.now }
+    ensures { IfOk result (λ values. HasValues items.now symbols.now values) }
+{
+    let mut values = Vec::with_capacity(alloc, items.len())?;
+    let mut left = items;
+    let mut rest = symbols;
+    let mut number = 0;
+    let mut place = 0;
+    // Its contract bounds the number of the cuts.
+    let _count = cuts.len();
+    while let Some((item, others)) = left.split_first() {
+        number += 1;
+        let next = cuts[number];
+        let (word, behind) = rest.split_at(next - place);
+        values.push(value_of(alloc, item, word)?)?;
+        place = next;
+        left = others;
+        rest = behind;
+    }
+    Ok(List::from_vec(values))
 }

@@ -2,8 +2,8 @@ ghost use Rattle.std.specs.Prelude.{◌≡◌, ◌++◌, OnOk, IfOk, IfSome, IfN
 ghost use Rattle.gs_ambig.specs.Machines.{IsMachine};
 ghost use Rattle.gs_grammar_level.specs.Trails.{leads_with, successors, with_layer, AreInside, IsEntryOf, HasNoEntryOf, IsTrail, HasNoRun};
 
-use gs_chars::Memory;
 use gs_ambig::{Auto, Edge};
+use gs_chars::Memory;
 
 /// A state that a machine can be at after a symbol, and the number of the entry that it was reached from.
 #[derive(Clone, Copy)]
