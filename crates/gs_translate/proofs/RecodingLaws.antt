@@ -1,5 +1,5 @@
 -- An EPC that is written in another level: the identity that it names, taken apart, gives its fields back.
-use Rattle.std.proofs.Common.{◌≡◌, ℕ, ◌==◌, ◌+◌, ◌<◌, ◌≤◌, ◌&&◌, ◌||◌, Bool, true, false, not, length, List, [], ◌∷◌, ◌++◌, Option, Some, None, find, map, position, slice_get, take, refl, sym, ap, subst, ◌∙◌, arith}
+use Rattle.std.proofs.Common.{◌≡◌, ℕ, ◌==◌, ◌+◌, ◌<◌, ◌≤◌, ◌&&◌, ◌||◌, Bool, true, false, not, length, List, [], ◌∷◌, ◌++◌, Some, None, find, map, position, slice_get, take, refl, sym, ap, subst, ◌∙◌, arith}
 use Rattle.std.specs.Prelude.{Result, Ok, Err, if◌then◌else◌}
 use Rattle.std.specs.List.{list_any}
 use Rattle.std.specs.Option.{option_map_or}
@@ -16,7 +16,6 @@ use Rattle.gs_ident.specs.Elements.{Elements}
 use Rattle.gs_ident.specs.Identities.{stands_for_none}
 use Rattle.gs_ident.proofs.MovedPairs.{any_at}
 use Rattle.gs_prefix.specs.declared.entry.PrefixEntry.{PrefixEntry}
-use Rattle.gs_tables_document.specs.declared.document.Document.{Document}
 use Rattle.gs_tables_document.specs.declared.document.KindRow.{KindRow}
 use Rattle.gs_tables_document.specs.declared.error.LoadFault.{LoadFault}
 use Rattle.gs_tables_document.specs.declared.error.LoadFault.TheVariants.{BadKind}
@@ -32,8 +31,8 @@ use Rattle.gs_tables.specs.Tables.{IsShaped, TableRows, kind_of, kind_rejections
 use Rattle.gs_epc.specs.declared.epc.Epc.{Epc}
 use Rattle.gs_epc.specs.declared.error.EpcFault.{EpcFault}
 use Rattle.gs_epc.specs.declared.write_error.EpcWriteFault.TheVariants as write
-use Rattle.gs_epc.specs.Epcs.{IsOfSet, epc_of}
-use Rattle.gs_epc.specs.Layout.{IsLaidOut, fields_in, lay, serial_elements, unless_none}
+use Rattle.gs_epc.specs.Epcs.{IsOfSet}
+use Rattle.gs_epc.specs.Layout.{IsLaidOut, fields_in, lay, serial_elements}
 use Rattle.gs_epc.specs.Writes.{ReadsText, WritesAs}
 use Rattle.gs_epc.proofs.KeptLaws.{fit_kind}
 use Rattle.gs_epc.proofs.LaidLaws.{no_kinds}
@@ -42,12 +41,11 @@ use Rattle.gs_translate.specs.declared.meaning.Meaning.{Meaning}
 use Rattle.gs_translate.specs.declared.options.Options.{Options}
 use Rattle.gs_translate.specs.declared.reason.Reason.{Reason}
 use Rattle.gs_translate.specs.declared.reason.Reason.TheVariants.{Long}
-use Rattle.gs_translate.specs.declared.target.Target.{Target}
-use Rattle.gs_translate.specs.Meanings.{IsRead, epc_meaning, short, too_long}
+use Rattle.gs_translate.specs.Meanings.{epc_meaning, short, too_long}
 use Rattle.gs_translate.specs.MeaningsSupport.{epc_reason}
 use Rattle.gs_translate.specs.Recodings.{form_at, target_at}
 use Rattle.gs_translate.specs.Steps.{Reworded, Then, UnlessMemory, goes_on, rejects}
-use Rattle.gs_translate.specs.Targets.{epc_for, extra_pair, has_option, is_option_of, is_serial, kept, kind_for, length_for, with_tag}
+use Rattle.gs_translate.specs.Targets.{epc_for, has_option, is_option_of, is_serial, kind_for, length_for, with_tag}
 use Rattle.gs_translate.specs.Targets as targets
 use Rattle.gs_translate.specs.Translations.{IsOfLevel, IsSpelling, IsTranslation, write_reason}
 use Rattle.gs_translate.proofs.EpcTexts.{means_at, none_read}
