@@ -32,7 +32,7 @@ use Rattle.gs_ident.proofs.MovedPairs.{row_distinct}
 
 -- ---- the kinds of a set satisfy the rules
 
-no_kinds : (document : Document) → row_rejections document ≡ [] → kinds_rejections document.ais document.kinds ≡ []
+pub no_kinds : (document : Document) → row_rejections document ≡ [] → kinds_rejections document.ais document.kinds ≡ []
 unfolding row_rejections
 no_kinds document none =
     let levels = level_rejections document.ais document.kinds Binary document.binary ++ (level_rejections document.ais document.kinds Tag document.tag ++ level_rejections document.ais document.kinds Pure document.pure) in

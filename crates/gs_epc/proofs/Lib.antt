@@ -9,7 +9,6 @@ pub mod LayoutLaws
 pub mod LayoutParts
 pub mod LayoutValues
 pub mod ReadingFacts
-pub mod NamingFacts
 pub mod TakenKeys
 pub mod TakenSets
 pub mod WrittenSizes

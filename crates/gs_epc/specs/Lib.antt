@@ -1,12 +1,10 @@
 pub mod Candidates
 pub mod Epcs
-pub mod EpcsSupport
 pub mod FieldTexts
 pub mod Filters
 pub mod KeptFields
 pub mod Layout
 pub mod LayoutSupport
-pub mod Namings
 pub mod Readings
 pub mod ReadingsSupport
 pub mod KeyParts

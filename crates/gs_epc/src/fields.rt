@@ -1,18 +1,14 @@
-ghost use Rattle.std.specs.Prelude.{◌≡◌, IfOk, IfSome, position};
+ghost use Rattle.std.specs.Prelude.{◌≡◌, IfSome, position};
 ghost use Rattle.gs_grammar.specs.Words.{decimal_value};
 ghost use Rattle.gs_tables_document.specs.declared.field.Field.{Field};
 ghost use Rattle.gs_tables.specs.Rules.{is_field};
-ghost use Rattle.gs_epc.specs.Epcs.{epc_of, filter_of, value_at, value_of};
-ghost use Rattle.gs_epc.specs.EpcsSupport.{KeepsOthers};
+ghost use Rattle.gs_epc.specs.Epcs.{filter_of, value_at};
 ghost use Rattle.gs_epc.specs.FieldTexts.{texts_of, with_text};
 ghost use Rattle.gs_epc.specs.Filters.{IsFilter};
 
-use crate::epc::Epc;
 use crate::key_texts::KeyTexts;
-use gs_chars::{List, Memory, Text};
-use gs_tables::{Field, OptInfo};
-use std::alloc::Global;
-use std::mem;
+use gs_chars::Text;
+use gs_tables::Field;
 
 /// Returns the place of the first item that stands for a field.
 fn place_of(field: Field, fields: &[Option<Field>]) -> Option<usize>
@@ -36,48 +32,6 @@ pub(crate) fn filter_of(fields: &[Option<Field>], values: &[Text]) -> Option<u8>
 {
     let value = values.get(place_of(Field::Filter, fields)?)?;
     Some(filter_number(value))
-}
-
-/// Moves the value of a field out, the empty one if no item has the field, and leaves the other values unchanged.
-fn take_value(alloc: Global, field: Field, fields: &[Option<Field>], values: &mut [Text]) -> Text
-    ensures value { result ≡ value_of field fields.now values.old }
-    ensures others { KeepsOthers field fields.now values.old values.new }
-{
-    let empty = Text::new(alloc);
-    match place_of(field, fields) {
-        Some(place) if place < values.len() => mem::replace(&mut values[place], empty),
-        _ => empty,
-    }
-}
-
-/// Returns the EPC of an option by the values of its items. It moves the values out and copies the name of the encoding.
-fn taken(alloc: Global, info: &OptInfo, encoding: Text, values: &mut [Text]) -> Epc
-    requires encoding { encoding ≡ info.now.encoding }
-    requires filter { IfSome (value_at Field.Filter info.now.fields values.now) IsFilter }
-    ensures { result ≡ epc_of info.now values.old }
-{
-    let fields = info.fields.items();
-    Epc {
-        kind: info.kind,
-        encoding,
-        filter: filter_of(fields, values),
-        gcp: info.gcp,
-        prefix: take_value(alloc, Field::Gcp, fields, values),
-        rest: take_value(alloc, Field::Rest, fields, values),
-        piece: take_value(alloc, Field::Piece, fields, values),
-        total: take_value(alloc, Field::Total, fields, values),
-        serial: take_value(alloc, Field::Serial, fields, values),
-    }
-}
-
-/// Returns the EPC of an option by the values of its items. Fails only with `Memory`.
-pub(crate) fn epc_of(alloc: Global, info: &OptInfo, values: List<Text>) -> Result<Epc, Memory>
-    requires { IfSome (value_at Field.Filter info.now.fields values) IsFilter }
-    ensures { IfOk result (λ epc. epc ≡ epc_of info.now values) }
-{
-    let mut values = values.into_vec();
-    let encoding = info.encoding.copy(alloc)?;
-    Ok(taken(alloc, info, encoding, &mut values))
 }
 
 /// Puts the value of an item instead of its field.

@@ -205,7 +205,7 @@ pub fn value_from_prefix<'a>(set: &TableSet, kind: usize, value: &'a [u8]) -> &'
 }
 
 /// Returns the EPC with a copy of each text.
-fn copied(alloc: Global, lent: &EpcRef<'_>) -> Result<Epc, Memory>
+pub(crate) fn copied(alloc: Global, lent: &EpcRef<'_>) -> Result<Epc, Memory>
     ensures { IfOk result (λ epc. epc ≡ lent.now) }
 {
     Ok(Epc {

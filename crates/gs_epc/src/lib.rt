@@ -1,7 +1,7 @@
 //! EPCs: the EPC that tag bits and EPC URIs give by the tables, the identity that it names, and the texts of an identity.
 //!
 //! - `read_hex`, `read_tag` and `read_pure` give the fields of an EPC; `write_hex`, `write_tag` and `write_pure` its text.
-//! - `name_hex`, `name_tag` and `name_pure` give at once the identity that a text names, its filter value and its encoding.
+//! - `reading_of` reads a text of any level; an `EpcReading` lends its fields, and gives the identity that it names.
 //! - `identity_of` lays the fields out as a key and its serial number; `fields_of` takes an identity apart. `push_checked` writes
 //!   the digits of a key, for gs_class too.
 //! - `lent_fields_of` and `write_lent` are `fields_of` and `write_level` over lent texts, without copies.
@@ -34,9 +34,8 @@ mod key_parts;
 mod key_texts;
 mod laws;
 mod layout;
-mod named;
-mod naming;
 mod read;
+mod reading;
 mod write_error;
 mod writer;
 
@@ -48,8 +47,7 @@ pub use laws::{
     laying_out_undoes_taking_apart, taking_apart_undoes_laying_out, what_is_written_is_read,
 };
 pub use layout::{identity_of, push_checked};
-pub use named::Named;
-pub use naming::{name_hex, name_pure, name_tag};
 pub use read::{read_hex, read_pure, read_tag};
+pub use reading::{EpcReading, reading_of};
 pub use write_error::{EpcWriteFault, FieldsFault};
 pub use writer::{write_hex, write_lent, write_level, write_pure, write_tag};

@@ -1,33 +1,22 @@
-ghost use Rattle.std.specs.Prelude.{IfOk, List, ℕ};
-ghost use Rattle.gs_grammar_level.specs.Readings.{Reads};
-ghost use Rattle.gs_epc.specs.Epcs.{IsOfSet, options_of};
+ghost use Rattle.std.specs.Prelude.{IfOk};
+ghost use Rattle.gs_epc.specs.Epcs.{IsOfSet};
 ghost use Rattle.gs_epc.specs.Readings.{ReadsAs, ReadsHex};
-ghost use Rattle.gs_epc.specs.ReadingsSupport.{AnswersReading};
+ghost use Rattle.gs_epc.specs.Writes.{ReadsText};
 
 use crate::epc::Epc;
 use crate::error::EpcFault;
-use crate::fields::epc_of;
-use gs_bits::BitBuf;
-use gs_grammar_level::{Reading, read_bits, read_text};
+use crate::key_parts::copied;
+use crate::reading::reading_of;
 use gs_tables::{LevelName, TableSet};
 use std::alloc::Global;
 
-/// Returns the EPC of a reading of symbols in a level.
-fn answer(
-    alloc: Global,
-    set: &TableSet,
-    level: LevelName,
-    reading: Reading,
-) -> Result<Epc, EpcFault>
-    requires { (symbols : List ℕ) × Reads (options_of level set.now) symbols reading }
-    ensures says { AnswersReading set.now level reading result }
+/// Reads a text of a level, and copies the fields.
+fn read_level(alloc: Global, set: &TableSet, level: LevelName, text: &[u8]) -> Result<Epc, EpcFault>
+    ensures answer { ReadsText set.now level text.now result }
     ensures of_set { IfOk result (IsOfSet set.now) }
 {
-    match reading {
-        Reading::One { option, values } => Ok(epc_of(alloc, &set.info(level)[option], values)?),
-        Reading::Nothing => Err(EpcFault::NoReading),
-        Reading::Memory => Err(EpcFault::Memory),
-    }
+    let reading = reading_of(alloc, set, level, text)?;
+    Ok(copied(alloc, &reading.epc())?)
 }
 
 /// Reads the bits of a tag, a text of at most 128 hexadecimal digits in either case (TDS 2.0, section 14). The errors are tried
@@ -36,19 +25,7 @@ pub fn read_hex(alloc: Global, set: &TableSet, text: &[u8]) -> Result<Epc, EpcFa
     ensures answer { ReadsHex set.now text.now result }
     ensures of_set { IfOk result (IsOfSet set.now) }
 {
-    let level = LevelName::Binary;
-    match BitBuf::<64>::from_hex(text) {
-        Ok(bits) => answer(alloc, set, level, read_bits(alloc, set.level(level), &bits)),
-        Err(error) => Err(EpcFault::Hex(error)),
-    }
-}
-
-/// Reads a text of a level.
-fn read_level(alloc: Global, set: &TableSet, level: LevelName, text: &[u8]) -> Result<Epc, EpcFault>
-    ensures answer { ReadsAs set.now level text.now result }
-    ensures of_set { IfOk result (IsOfSet set.now) }
-{
-    answer(alloc, set, level, read_text(alloc, set.level(level), text))
+    read_level(alloc, set, LevelName::Binary, text)
 }
 
 /// Reads an EPC tag URI (TDS 2.0, section 12). Returns `NoReading` if and only if the text has no derivation in the level of tag

@@ -26,13 +26,16 @@ impl From<Memory> for FieldsFault {
 }
 
 /// Why an EPC is not written.
-#[derive(Clone, Copy, Debug)]
+#[derive(Clone, Copy, Debug, Error)]
 pub enum EpcWriteFault {
     /// The level has no option of this kind, company prefix length and requested encoding.
+    #[error("no option has the kind, the company prefix length and the encoding")]
     NoOption,
     /// No such option holds every field. The last one does not hold this field, for this reason.
+    #[error("no option of the kind, the company prefix length and the encoding holds every field")]
     CannotHold(Field, Why),
     /// Out of memory.
+    #[error("out of memory")]
     Memory,
 }
 

@@ -41,7 +41,7 @@ value_fits : (value : Option (List ℕ)) → IfSome value IsFilter → FitsFilte
 value_fits None fits = tt
 value_fits (Some value) fits = subst (λ (v : List ℕ). decimal_value v ≤ 7) (sym fits.text) (digit_fits fits.number fits.small)
 
-said_fits : (set : TableRows) (level : LevelName) (symbols : List ℕ) (epc : Epc) → IsShaped set → Says set level symbols epc → FitsFilter epc.filter
+pub said_fits : (set : TableRows) (level : LevelName) (symbols : List ℕ) (epc : Epc) → IsShaped set → Says set level symbols epc → FitsFilter epc.filter
 said_fits set level symbols epc shaped says =
     let d = says.read.derivation in
     let is : IsSaid set level says.option says.values says.info = record {

@@ -1,13 +1,14 @@
 pub mod StepLaws
-pub mod NamingLaws
 pub mod PairLaws
 pub mod AnswerLaws
 pub mod NarrowedLaws
 pub mod FilterLaws
+pub mod EpcTexts
 pub mod MadeLaws
 pub mod SameLinks
 pub mod ReadAgain
 pub mod TaggedLaws
+pub mod RecodingLaws
 pub mod OneWriting
 pub mod SomeWriting
 pub mod OneTranslation

@@ -7,5 +7,6 @@ pub mod Reasons
 pub mod Targets
 pub mod TargetsSupport
 pub mod Translations
+pub mod Recodings
 pub mod Conditions
 pub mod MigratedTables

@@ -1,5 +1,5 @@
 /// The facts of an EPC that an identity may not have.
-#[derive(Clone, Copy)]
+#[derive(Clone, Copy, Debug, PartialEq)]
 pub enum FieldName {
     /// The length of the GS1 Company Prefix.
     Gcp,

@@ -38,6 +38,7 @@ mod options;
 mod reader;
 mod reason;
 mod reason_texts;
+mod recoding;
 mod spelling;
 mod tag_fields;
 mod target;

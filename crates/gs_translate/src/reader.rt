@@ -1,11 +1,8 @@
 ghost use Rattle.std.specs.Prelude.{◌≡◌, IfOk, Ok};
-ghost use Rattle.gs_epc.specs.declared.epc.Epc.{Epc};
 ghost use Rattle.gs_epc.specs.declared.error.EpcFault.TheVariants.{Memory as NoRoom};
-ghost use Rattle.gs_epc.specs.Namings.{IsNamed};
-ghost use Rattle.gs_epc.specs.Readings.{ReadsAs, ReadsHex};
+ghost use Rattle.gs_epc.specs.Epcs.{IsOfSet};
+ghost use Rattle.gs_epc.specs.Writes.{ReadsText};
 ghost use Rattle.gs_ident.specs.Identities.{IsMadeWith};
-ghost use Rattle.gs_tables.specs.Tables.{TableRows};
-ghost use Rattle.gs_tables_document.specs.declared.level_name.LevelName.{LevelName};
 ghost use Rattle.gs_translate.specs.declared.reason.Reason.TheVariants.{Epc as NoEpc};
 ghost use Rattle.gs_translate.specs.Meanings.{IsRead, MeansEpc};
 ghost use Rattle.gs_translate.specs.Steps.{Reworded, Then, UnlessMemory};
@@ -14,58 +11,40 @@ use crate::elements::{bracketed_meaning, link_meaning, raw_meaning};
 use crate::form::Form;
 use crate::meaning::Meaning;
 use crate::reason::Reason;
-use gs_chars::LONGEST_TEXT;
-use gs_epc::{Named, name_hex, name_pure, name_tag};
-use gs_tables::TableSet;
+use gs_chars::{LONGEST_TEXT, Memory, Text};
+use gs_epc::{EpcReading, reading_of};
+use gs_tables::{LevelName, TableSet};
 use std::alloc::Global;
 
-/// Returns the meaning of an identity that a tag or an EPC URI names.
-fn meaning_of(named: Named) -> Meaning
-    ensures meaning { (set : TableRows) → (epc : Epc) → IsNamed set epc named → MeansEpc set epc (Ok result) }
-    ensures identity { result.identity ≡ named.identity }
+/// Returns the meaning of an EPC of the set.
+fn meaning_of(alloc: Global, set: &TableSet, reading: &EpcReading<'_>) -> Result<Meaning, Memory>
+    requires { IsOfSet set.now reading.now }
+    ensures meaning { IfOk result (λ meaning. MeansEpc set.now reading.now (Ok meaning)) }
+    ensures with_table { IfOk result (λ meaning. IsMadeWith set.now.ais meaning.identity) }
 {
-    let Named {
+    let identity = reading.identity(alloc, set)?;
+    let lent = reading.epc();
+    Ok(Meaning {
         identity,
-        gcp,
-        filter,
-        encoding,
-    } = named;
-    Meaning {
-        identity,
-        gcp: Some(gcp),
-        filter,
-        encoding,
-    }
+        gcp: Some(lent.gcp),
+        filter: lent.filter,
+        encoding: Text::from_bytes(alloc, lent.encoding)?,
+    })
 }
 
-/// Returns the meaning of the bits of a tag.
-fn hex_meaning(alloc: Global, set: &TableSet, text: &[u8]) -> Result<Meaning, Reason>
+/// Returns the meaning of a text of a level: the bits of a tag, or an EPC URI.
+fn level_meaning(
+    alloc: Global,
+    set: &TableSet,
+    level: LevelName,
+    text: &[u8],
+) -> Result<Meaning, Reason>
     ensures meaning { UnlessMemory result
-        (Then (Reworded NoRoom NoEpc (ReadsHex set.now text.now)) (MeansEpc set.now) result) }
+        (Then (Reworded NoRoom NoEpc (ReadsText set.now level text.now)) (MeansEpc set.now) result) }
     ensures with_table { IfOk result (λ meaning. IsMadeWith set.now.ais meaning.identity) }
 {
-    let named = name_hex(alloc, set, text)?;
-    Ok(meaning_of(named))
-}
-
-/// Returns the meaning of an EPC tag URI.
-fn tag_meaning(alloc: Global, set: &TableSet, text: &[u8]) -> Result<Meaning, Reason>
-    ensures meaning { UnlessMemory result
-        (Then (Reworded NoRoom NoEpc (ReadsAs set.now LevelName.Tag text.now)) (MeansEpc set.now) result) }
-    ensures with_table { IfOk result (λ meaning. IsMadeWith set.now.ais meaning.identity) }
-{
-    let named = name_tag(alloc, set, text)?;
-    Ok(meaning_of(named))
-}
-
-/// Returns the meaning of an EPC pure identity URI.
-fn pure_meaning(alloc: Global, set: &TableSet, text: &[u8]) -> Result<Meaning, Reason>
-    ensures meaning { UnlessMemory result
-        (Then (Reworded NoRoom NoEpc (ReadsAs set.now LevelName.Pure text.now)) (MeansEpc set.now) result) }
-    ensures with_table { IfOk result (λ meaning. IsMadeWith set.now.ais meaning.identity) }
-{
-    let named = name_pure(alloc, set, text)?;
-    Ok(meaning_of(named))
+    let reading = reading_of(alloc, set, level, text)?;
+    Ok(meaning_of(alloc, set, &reading)?)
 }
 
 /// Returns the meaning of a text of a form, or why it is rejected. Returns `Long` if and only if the text has more than 2,048
@@ -81,9 +60,9 @@ pub fn read(alloc: Global, set: &TableSet, form: Form, text: &[u8]) -> Result<Me
         return Err(Reason::Long);
     }
     match form {
-        Form::Hex => hex_meaning(alloc, set, text),
-        Form::Tag => tag_meaning(alloc, set, text),
-        Form::Pure => pure_meaning(alloc, set, text),
+        Form::Hex => level_meaning(alloc, set, LevelName::Binary, text),
+        Form::Tag => level_meaning(alloc, set, LevelName::Tag, text),
+        Form::Pure => level_meaning(alloc, set, LevelName::Pure, text),
         Form::Raw => raw_meaning(alloc, set, text),
         Form::Bracketed => bracketed_meaning(alloc, set, text),
         Form::Link => link_meaning(alloc, set, text),

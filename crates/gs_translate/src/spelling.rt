@@ -23,7 +23,7 @@ use gs_tables::{LevelName, TableSet};
 use std::alloc::Global;
 
 /// Returns the text of an EPC in a level, or why there is none.
-fn write_epc(
+pub(crate) fn write_epc(
     alloc: Global,
     set: &TableSet,
     level: LevelName,

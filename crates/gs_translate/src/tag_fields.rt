@@ -1,9 +1,12 @@
-ghost use Rattle.std.specs.Prelude.{◌≡◌, ◌<◌, IfOk, find, length, not, position};
+ghost use Rattle.std.specs.Prelude.{◌≡◌, ◌<◌, IfOk, find, if◌then◌else◌, length, not, position};
 ghost use Rattle.std.specs.List.{list_any};
-ghost use Rattle.std.specs.Option.{option_copied};
+ghost use Rattle.std.specs.Option.{option_copied, option_or};
+ghost use Rattle.gs_ai.specs.Tables.{is_empty};
 ghost use Rattle.gs_epc.specs.Candidates.{HasFilterOn};
+ghost use Rattle.gs_ident.specs.Elements.{Elements};
+ghost use Rattle.gs_translate.specs.Meanings.{epc_meaning};
 ghost use Rattle.gs_translate.specs.Steps.{UnlessMemory};
-ghost use Rattle.gs_translate.specs.Targets.{FitsFilter, digits_from_prefix, encoding_for, epc_for, extra_pair, filter_for, has_key, has_option, is_option_of, is_serial, kind_for, known_length, lacks_filter, length_for, with_tag};
+ghost use Rattle.gs_translate.specs.Targets.{FitsFilter, digits_from_prefix, epc_for, extra_pair, has_key, has_option, is_option_of, is_serial, kind_for, known_length, lacks_filter, length_for, with_tag};
 
 use crate::field_name::FieldName;
 use crate::meaning::Meaning;
@@ -132,10 +135,10 @@ fn length_for(
 }
 
 /// Returns the filter value that the text gives, otherwise that of the options.
-fn filter_for(options: &Options, meaning: &Meaning) -> Option<u8>
-    ensures { result ≡ filter_for options.now meaning.now }
+fn filter_for(options: &Options, given: Option<u8>) -> Option<u8>
+    ensures { result ≡ option_or given options.now.filter }
 {
-    meaning.filter.or(options.filter)
+    given.or(options.filter)
 }
 
 /// Returns whether a filter value is missing, which a pure identity does not need.
@@ -149,15 +152,33 @@ fn lacks_filter(level: LevelName, filter: Option<u8>) -> bool
 }
 
 /// Returns the encoding of the options, otherwise that of the text.
-fn encoding_for<'a>(options: &'a Options, meaning: &'a Meaning) -> &'a [u8]
-    ensures { result.now ≡ encoding_for options.now meaning.now }
+fn encoding_for<'a>(options: &'a Options, given: &'a [u8]) -> &'a [u8]
+    ensures { result.now ≡ (if is_empty options.now.encoding then given.now else options.now.encoding) }
 {
     let encoding = options.encoding.as_bytes();
-    if encoding.is_empty() {
-        meaning.encoding.as_bytes()
-    } else {
-        encoding
+    if encoding.is_empty() { given } else { encoding }
+}
+
+/// Returns the EPC of a text with the encoding and the filter value of a tag.
+pub(crate) fn retagged<'a>(
+    options: &'a Options,
+    level: LevelName,
+    epc: EpcRef<'a>,
+) -> Result<EpcRef<'a>, Reason>
+    requires options { FitsFilter options.now.filter }
+    requires given { FitsFilter epc.filter }
+    ensures tagged { (identity : Elements) → UnlessMemory result
+        (result ≡ with_tag options.now level (epc_meaning epc.entry identity) epc.entry) }
+    ensures filter { IfOk result (λ epc. HasFilterOn level epc.filter) }
+{
+    let filter = filter_for(options, epc.filter);
+    if lacks_filter(level, filter) {
+        return Err(Reason::Missing(FieldName::Filter));
     }
+    let mut epc = epc;
+    epc.encoding = encoding_for(options, epc.encoding);
+    epc.filter = filter;
+    Ok(epc)
 }
 
 /// Returns the EPC with the encoding and the filter value of a tag.
@@ -172,12 +193,12 @@ fn with_tag<'a>(
     ensures tagged { UnlessMemory result (result ≡ with_tag options.now level meaning.now epc.entry) }
     ensures filter { IfOk result (λ epc. HasFilterOn level epc.filter) }
 {
-    let filter = filter_for(options, meaning);
+    let filter = filter_for(options, meaning.filter);
     if lacks_filter(level, filter) {
         return Err(Reason::Missing(FieldName::Filter));
     }
     let mut epc = epc;
-    epc.encoding = encoding_for(options, meaning);
+    epc.encoding = encoding_for(options, meaning.encoding.as_bytes());
     epc.filter = filter;
     Ok(epc)
 }

@@ -6,6 +6,7 @@ use crate::form::Form;
 use crate::options::Options;
 use crate::reader::read;
 use crate::reason::Reason;
+use crate::recoding::{append_recoded, levels_of};
 use crate::spelling::append_spelling;
 use crate::target::Target;
 use gs_chars::{Memory, Text};
@@ -57,6 +58,17 @@ impl Translator<'_> {
     /// Appends the translation of a text, or gives why it is rejected, as `translate` says. After a rejection `out` is unchanged;
     /// after out of memory it may have a part of the translation more.
     pub fn append(&self, alloc: Global, text: &[u8], out: &mut Vec<u8>) -> Result<(), Reason>
+        ensures { UnlessMemory result (AppendsText
+            (IsTranslated self.now text.now) out.old.items out.new.items result) }
+    {
+        let Some((from, to)) = levels_of(self.options, self.from, self.to) else {
+            return self.append_named(alloc, text, out);
+        };
+        append_recoded(alloc, self.set, self.options, from, to, text, out)
+    }
+
+    /// Appends the translation of a text by the identity that it names, or gives why it is rejected.
+    fn append_named(&self, alloc: Global, text: &[u8], out: &mut Vec<u8>) -> Result<(), Reason>
         ensures { UnlessMemory result (AppendsText
             (IsTranslated self.now text.now) out.old.items out.new.items result) }
     {

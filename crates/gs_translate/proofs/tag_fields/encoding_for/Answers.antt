@@ -10,7 +10,7 @@ none_there (x ∷ text) = first_of (search rules, grind (arith, common_steps))
 pub returns-then-is_empty : goal.returns-then-is_empty
 returns-then-is_empty c =
     let test = rw c.as_bytes-encoding.ensures at (sym c.is_empty.ensures ∙ c.if-is_empty.true) in
-    rw (sym (none_there c.args.options.now.encoding) ∙ test) c.as_bytes.ensures
+    rw (sym (none_there c.args.options.now.encoding) ∙ test) refl
 
 pub returns-else-is_empty : goal.returns-else-is_empty
 returns-else-is_empty c =

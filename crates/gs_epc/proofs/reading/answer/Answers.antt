@@ -1,7 +1,6 @@
 use Rattle.std.proofs.Common.{arith}
-use Rattle.std.proofs.lemmas.Result.{err_from_is_err_and}
 use Rattle.gs_epc.proofs.ReadingFacts.{said_of, filter_of_said, of_set, option_low, says}
-use Rattle.gs_epc.proofs.read.answer.Goals as goal
+use Rattle.gs_epc.proofs.reading.answer.Goals as goal
 
 pub offset_bounds-info-option : goal.offset_bounds-info-option
 offset_bounds-info-option c =
@@ -14,30 +13,20 @@ bounds-info-option c =
     let one = rw c.in-One.is at c.requires.1 in
     option_low _ _ _ _ _ c.info.result.now c.info.ensures.shaped one c.info.ensures.rows
 
-pub epc_of-requires : goal.epc_of-requires
-epc_of-requires c =
+pub reading_by-requires : goal.reading_by-requires
+reading_by-requires c =
     let one = rw c.in-One.is at c.requires.1 in
     filter_of_said _ _ _ _ _ c.info.ensures.shaped (said_of _ _ _ _ _ _ _ c.info.ensures.shaped one c.info.ensures.rows c.index-info-option.is)
 
-pub returns-in_ok-epc_of-in-One-clause-says : goal.returns-in_ok-epc_of-in-One-clause-says
-returns-in_ok-epc_of-in-One-clause-says c = λ symbols reads.
+pub returns-in-One-clause-says : goal.returns-in-One-clause-says
+returns-in-One-clause-says c = λ symbols reads.
     let one = rw c.in-One.is at reads in
-    says _ _ _ _ _ _ _ (said_of _ _ _ _ _ _ _ c.info.ensures.shaped one c.info.ensures.rows c.index-info-option.is) one c.in_ok-epc_of-in-One.ensures
+    says _ _ _ _ _ _ _ (said_of _ _ _ _ _ _ _ c.info.ensures.shaped one c.info.ensures.rows c.index-info-option.is) one c.reading_by.ensures
 
-pub returns-in_ok-epc_of-in-One-clause-of_set : goal.returns-in_ok-epc_of-in-One-clause-of_set
-returns-in_ok-epc_of-in-One-clause-of_set c =
+pub returns-in-One-clause-of_set : goal.returns-in-One-clause-of_set
+returns-in-One-clause-of_set c =
     let one = rw c.in-One.is at c.requires.1 in
-    of_set _ _ _ _ _ _ (said_of _ _ _ _ _ _ _ c.info.ensures.shaped one c.info.ensures.rows c.index-info-option.is) c.in_ok-epc_of-in-One.ensures
-
-pub returns-in_err-epc_of-in-One-clause-says : goal.returns-in_err-epc_of-in-One-clause-says
-returns-in_err-epc_of-in-One-clause-says c = λ symbols reads.
-    let p = err_from_is_err_and c.from_residual.result c.from_residual.ensures.1 in
-    rw (p.1, p.2) tt
-
-pub returns-in_err-epc_of-in-One-clause-of_set : goal.returns-in_err-epc_of-in-One-clause-of_set
-returns-in_err-epc_of-in-One-clause-of_set c =
-    let p = err_from_is_err_and c.from_residual.result c.from_residual.ensures.1 in
-    rw p.1 tt
+    of_set _ _ _ _ _ _ (said_of _ _ _ _ _ _ _ c.info.ensures.shaped one c.info.ensures.rows c.index-info-option.is) c.reading_by.ensures
 
 pub returns-in-Nothing-clause-says : goal.returns-in-Nothing-clause-says
 returns-in-Nothing-clause-says c = λ symbols reads. rw c.in-Nothing.is at reads

@@ -1,4 +1,4 @@
-use Rattle.gs_epc.proofs.read.read_level.Goals as goal
+use Rattle.gs_epc.proofs.reading.reading_of_uri.Goals as goal
 
 pub answer-requires : goal.answer-requires
 answer-requires c = (c.args.text.now, rw c.level.ensures.rows at c.read_text.ensures)

@@ -1,6 +1,6 @@
 use Rattle.std.proofs.Common.{refl}
 use Rattle.gs_epc.proofs.ReadingFacts.{hex_answer, is_hex}
-use Rattle.gs_epc.proofs.read.read_hex.Goals as goal
+use Rattle.gs_epc.proofs.reading.reading_of_digits.Goals as goal
 
 pub returns-in-Ok-clause-answer : goal.returns-in-Ok-clause-answer
 returns-in-Ok-clause-answer c =

@@ -1,0 +1,150 @@
+ghost use Rattle.std.specs.Prelude.{◌≡◌, IfOk, IfSome, List, ℕ};
+ghost use Rattle.gs_grammar_level.specs.Readings.{Reads};
+ghost use Rattle.gs_ident.specs.Identities.{IsMadeWith};
+ghost use Rattle.gs_tables_document.specs.declared.field.Field.{Field};
+ghost use Rattle.gs_epc.specs.Epcs.{IsOfSet, epc_of, options_of, value_at};
+ghost use Rattle.gs_epc.specs.Filters.{IsFilter};
+ghost use Rattle.gs_epc.specs.Layout.{IsLaidOut, fields_in};
+ghost use Rattle.gs_epc.specs.Readings.{ReadsAs, ReadsHex};
+ghost use Rattle.gs_epc.specs.ReadingsSupport.{AnswersReading};
+ghost use Rattle.gs_epc.specs.Writes.{ReadsText};
+
+use crate::epc_ref::EpcRef;
+use crate::error::EpcFault;
+use crate::fields::{filter_of, texts_of};
+use crate::kept::kind_at;
+use crate::key_texts::KeyTexts;
+use crate::layout::lay_out;
+use gs_bits::BitBuf;
+use gs_chars::{List, Memory, Text};
+use gs_grammar_level::{Reading, read_bits, read_text};
+use gs_ident::Identity;
+use gs_tables::{LevelName, OptInfo, TableSet};
+use std::alloc::Global;
+use std::marker::Model;
+
+/// The reading of a text as an EPC: the facts of its option, and the value of each item. Contracts see the EPC.
+#[derive(Drop)]
+pub struct EpcReading<'a> {
+    info: &'a OptInfo,
+    values: List<Text>,
+}
+
+impl<'a> Model for EpcReading<'a> {
+    ghost use Rattle.std.specs.Prelude.{IfSome};
+    ghost use Rattle.gs_tables_document.specs.declared.field.Field.TheVariants.{Filter};
+    ghost use Rattle.gs_epc.specs.declared.epc.Epc.{Epc};
+    ghost use Rattle.gs_epc.specs.Epcs.{epc_of, value_at};
+    ghost use Rattle.gs_epc.specs.Filters.{IsFilter};
+
+    ghost Value = { Epc };
+
+    ghost view = { λ t. epc_of t.info.now t.values };
+
+    ghost invariant = { λ t. IfSome (value_at Filter t.info.now.fields t.values) IsFilter };
+}
+
+impl EpcReading<'_> {
+    /// Returns the EPC, each text lent.
+    pub fn epc(&self) -> EpcRef<'_>
+        ensures { result ≡ self.now }
+    {
+        let texts = self.texts();
+        EpcRef {
+            kind: self.info.kind,
+            encoding: self.info.encoding.as_bytes(),
+            filter: filter_of(self.info.fields.items(), self.values.items()),
+            gcp: self.info.gcp,
+            prefix: texts.prefix,
+            lead: &[],
+            behind: texts.rest,
+            piece: texts.piece,
+            total: texts.total,
+            serial: texts.serial,
+        }
+    }
+
+    /// Returns the fields of the key, lent.
+    fn texts(&self) -> KeyTexts<'_>
+        ensures { result ≡ fields_in self.now }
+    {
+        texts_of(self.info.fields.items(), self.values.items())
+    }
+
+    /// Returns the identity that the EPC names, as `identity_of` does, without copies of the fields. The EPC is one of the set.
+    pub fn identity(&self, alloc: Global, set: &TableSet) -> Result<Identity, Memory>
+        requires { IsOfSet set.now self.now }
+        ensures laid { IfOk result (IsLaidOut set.now self.now) }
+        ensures with_table { IfOk result (IsMadeWith set.now.ais) }
+    {
+        let kind = kind_at(set, self.info.kind);
+        lay_out(alloc, set.ais(), kind, &self.texts())
+    }
+}
+
+/// Returns the reading by an option and the values of its items.
+fn reading_by(info: &OptInfo, values: List<Text>) -> EpcReading<'_>
+    requires { IfSome (value_at Field.Filter info.now.fields values) IsFilter }
+    ensures { result ≡ epc_of info.now values }
+{
+    EpcReading { info, values }
+}
+
+/// Returns the EPC of a reading of symbols in a level.
+fn answer(set: &TableSet, level: LevelName, reading: Reading) -> Result<EpcReading<'_>, EpcFault>
+    requires { (symbols : List ℕ) × Reads (options_of level set.now) symbols reading }
+    ensures says { AnswersReading set.now level reading result }
+    ensures of_set { IfOk result (IsOfSet set.now) }
+{
+    match reading {
+        Reading::One { option, values } => Ok(reading_by(&set.info(level)[option], values)),
+        Reading::Nothing => Err(EpcFault::NoReading),
+        Reading::Memory => Err(EpcFault::Memory),
+    }
+}
+
+/// Reads the bits of a tag, a text of hexadecimal digits.
+fn reading_of_digits<'a>(
+    alloc: Global,
+    set: &'a TableSet,
+    text: &[u8],
+) -> Result<EpcReading<'a>, EpcFault>
+    ensures answer { ReadsHex set.now text.now result }
+    ensures of_set { IfOk result (IsOfSet set.now) }
+{
+    let level = LevelName::Binary;
+    match BitBuf::<64>::from_hex(text) {
+        Ok(bits) => answer(set, level, read_bits(alloc, set.level(level), &bits)),
+        Err(error) => Err(EpcFault::Hex(error)),
+    }
+}
+
+/// Reads an EPC URI of a level.
+fn reading_of_uri<'a>(
+    alloc: Global,
+    set: &'a TableSet,
+    level: LevelName,
+    text: &[u8],
+) -> Result<EpcReading<'a>, EpcFault>
+    ensures answer { ReadsAs set.now level text.now result }
+    ensures of_set { IfOk result (IsOfSet set.now) }
+{
+    answer(set, level, read_text(alloc, set.level(level), text))
+}
+
+/// Reads a text of a level as `read_hex`, `read_tag` and `read_pure` do, with their errors, and copies no field.
+pub fn reading_of<'a>(
+    alloc: Global,
+    set: &'a TableSet,
+    level: LevelName,
+    text: &[u8],
+) -> Result<EpcReading<'a>, EpcFault>
+    ensures answer { ReadsText set.now level text.now result }
+    ensures of_set { IfOk result (IsOfSet set.now) }
+{
+    match level {
+        LevelName::Binary => reading_of_digits(alloc, set, text),
+        LevelName::Tag => reading_of_uri(alloc, set, LevelName::Tag, text),
+        LevelName::Pure => reading_of_uri(alloc, set, LevelName::Pure, text),
+    }
+}

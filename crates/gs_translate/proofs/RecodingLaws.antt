@@ -1,0 +1,192 @@
+-- An EPC that is written in another level: the identity that it names, taken apart, gives its fields back.
+use Rattle.std.proofs.Common.{◌≡◌, ℕ, ◌==◌, ◌+◌, ◌<◌, ◌≤◌, ◌&&◌, ◌||◌, Bool, true, false, not, length, List, [], ◌∷◌, ◌++◌, Some, None, find, map, position, slice_get, take, refl, sym, ap, subst, ◌∙◌, arith}
+use Rattle.std.specs.Prelude.{Result, Ok, Err, if◌then◌else◌}
+use Rattle.std.specs.List.{list_any}
+use Rattle.std.specs.Option.{option_map_or}
+use Rattle.std.proofs.lemmas.Bool.Decides.{nat_tests}
+use Rattle.std.proofs.lemmas.Option.{slice_get-map}
+use Rattle.gs_chars.specs.Limits.{longest_text}
+use Rattle.gs_chars.proofs.TruthsAndLists.{and_parts, and_true, false_from, false_from_not, get_take, mapped_some, same_bytes}
+use Rattle.gs_ai.specs.declared.pair.Pair.{Pair}
+use Rattle.gs_ai.specs.declared.row.AiRow.{AiRow}
+use Rattle.gs_ai.specs.Values.{has_code}
+use Rattle.gs_ai.proofs.RuleLemmas.{none_at}
+use Rattle.gs_ai.proofs.Searches.{position-map, position_is}
+use Rattle.gs_ident.specs.Elements.{Elements}
+use Rattle.gs_ident.specs.Identities.{stands_for_none}
+use Rattle.gs_ident.proofs.MovedPairs.{any_at}
+use Rattle.gs_prefix.specs.declared.entry.PrefixEntry.{PrefixEntry}
+use Rattle.gs_tables_document.specs.declared.document.KindRow.{KindRow}
+use Rattle.gs_tables_document.specs.declared.error.LoadFault.{LoadFault}
+use Rattle.gs_tables_document.specs.declared.error.LoadFault.TheVariants.{BadKind}
+use Rattle.gs_tables_document.specs.declared.kind.Kind.{Kind}
+use Rattle.gs_tables_document.specs.declared.kind.SerialAt.{SerialAt}
+use Rattle.gs_tables_document.specs.declared.kind.SerialAt.TheVariants.{Nowhere, Tail, Ai}
+use Rattle.gs_tables_document.specs.declared.level_name.LevelName.{LevelName}
+use Rattle.gs_tables_document.specs.declared.level_name.LevelName.TheVariants as level
+use Rattle.gs_tables_document.specs.declared.opt_info.OptInfo.{OptInfo}
+use Rattle.gs_chars.specs.Answers.{error_if}
+use Rattle.gs_tables.specs.Rules.{fits_key, has_key, is_kind, is_new_name}
+use Rattle.gs_tables.specs.Tables.{IsShaped, TableRows, kind_of, kind_rejections, kinds_rejections, level_rows}
+use Rattle.gs_epc.specs.declared.epc.Epc.{Epc}
+use Rattle.gs_epc.specs.declared.error.EpcFault.{EpcFault}
+use Rattle.gs_epc.specs.declared.write_error.EpcWriteFault.TheVariants as write
+use Rattle.gs_epc.specs.Epcs.{IsOfSet}
+use Rattle.gs_epc.specs.Layout.{IsLaidOut, fields_in, lay, serial_elements}
+use Rattle.gs_epc.specs.Writes.{ReadsText, WritesAs}
+use Rattle.gs_epc.proofs.KeptLaws.{fit_kind}
+use Rattle.gs_epc.proofs.LaidLaws.{no_kinds}
+use Rattle.gs_epc.proofs.TakenSets.{apart}
+use Rattle.gs_translate.specs.declared.meaning.Meaning.{Meaning}
+use Rattle.gs_translate.specs.declared.options.Options.{Options}
+use Rattle.gs_translate.specs.declared.reason.Reason.{Reason}
+use Rattle.gs_translate.specs.declared.reason.Reason.TheVariants.{Long}
+use Rattle.gs_translate.specs.Meanings.{epc_meaning, short, too_long}
+use Rattle.gs_translate.specs.MeaningsSupport.{epc_reason}
+use Rattle.gs_translate.specs.Recodings.{form_at, target_at}
+use Rattle.gs_translate.specs.Steps.{Reworded, Then, UnlessMemory, goes_on, rejects}
+use Rattle.gs_translate.specs.Targets.{epc_for, has_option, is_option_of, is_serial, kind_for, length_for, with_tag}
+use Rattle.gs_translate.specs.Targets as targets
+use Rattle.gs_translate.specs.Translations.{IsOfLevel, IsSpelling, IsTranslation, write_reason}
+use Rattle.gs_translate.proofs.EpcTexts.{means_at, none_read}
+use Rattle.gs_translate.proofs.FilterLaws.{kept_whole}
+use Rattle.gs_translate.proofs.StepLaws.{unless_rejected}
+
+-- ---- a kind is the first that has its key
+
+passes_kind : (b : Bool) (error : LoadFault) → error_if (not b) error ≡ [] → b ≡ true
+passes_kind true error h = refl
+passes_kind false error h = absurd (let g : error ∷ [] ≡ [] = h in cc)
+
+new_key : (ais : List AiRow) (earlier : List KindRow) (kind : KindRow) → is_kind ais earlier kind ≡ true → list_any (has_key kind.key) earlier ≡ false
+unfolding is_kind
+new_key ais earlier kind h =
+    let parts = and_parts (is_new_name earlier kind.name && not (list_any (has_key kind.key) earlier)) (option_map_or (λ row. fits_key ais row kind) (find (has_code kind.key) ais) false) h in
+    false_from_not _ (and_parts (is_new_name earlier kind.name) (not (list_any (has_key kind.key) earlier)) parts.0).1
+
+not_earlier : (ais : List AiRow) (kinds : List KindRow) (i : ℕ) (kind : KindRow) → kinds_rejections ais kinds ≡ [] → slice_get kinds i ≡ Some kind → list_any (has_key kind.key) (take i kinds) ≡ false
+unfolding kinds_rejections
+not_earlier ais kinds i kind none at =
+    let zero_plus : 0 + i ≡ i = omega arith in
+    let here = none_at (kind_rejections ais kinds) 0 kinds none i kind at in
+    let row : kind_rejections ais kinds (i, kind) ≡ [] = rw zero_plus at here in
+    new_key ais (take i kinds) kind (passes_kind (is_kind ais (take i kinds) kind) (BadKind i) row)
+
+first_row : (kinds : List KindRow) (i : ℕ) (kind : KindRow) → slice_get kinds i ≡ Some kind → list_any (has_key kind.key) (take i kinds) ≡ false → position (has_key kind.key) kinds ≡ Some i
+first_row kinds i kind at none =
+    position_is (has_key kind.key) kinds i kind at (same_bytes kind.key) (λ j other less there.
+    false_from (has_key kind.key other) (λ same.
+    let early : slice_get (take i kinds) j ≡ Some other = get_take kinds i j less ∙ there in
+    let some = any_at (has_key kind.key) (take i kinds) j other early same in
+    let both : true ≡ false = sym some ∙ none in
+    cc))
+
+first_kind : (set : TableRows) (i : ℕ) (kind : Kind) → IsShaped set → slice_get set.kinds i ≡ Some kind → position (targets.has_key kind.key) set.kinds ≡ Some i
+first_kind set i kind shaped at =
+    let ais = shaped.document.ais in
+    let rows = shaped.document.kinds in
+    let here : slice_get (map (kind_of ais) rows) i ≡ Some kind = rw shaped.made at at in
+    let row = mapped_some (kind_of ais) (slice_get rows i) kind (sym (slice_get-map (kind_of ais) rows i) ∙ here) in
+    let first = first_row rows i row.0 row.1 (not_earlier ais rows i row.0 (no_kinds shaped.document shaped.in_order) row.1) in
+    let moved : position (targets.has_key row.0.key) (map (kind_of ais) rows) ≡ Some i = position-map (targets.has_key row.0.key) (kind_of ais) rows ∙ first in
+    rw (shaped.made, ← row.2) moved
+
+-- ---- nothing but the key and its serial
+
+own_or_none : (code : List ℕ) (pair : Pair) (none : Bool) → pair.code ≡ code → find (λ (p : Pair). not (is_serial (Ai code) p)) ((if none then [] else pair ∷ []) ++ []) ≡ None
+own_or_none code pair true same = refl
+own_or_none code pair false same = rw (same, same_bytes code) refl
+
+none_extra : (ais : List AiRow) (at : SerialAt) (serial : List ℕ) → find (λ (p : Pair). not (is_serial at p)) (serial_elements ais at serial ++ []) ≡ None
+none_extra ais Nowhere serial = refl
+none_extra ais Tail serial = refl
+none_extra ais (Ai code) serial = own_or_none code (record { code = code; value = serial }) (stands_for_none ais (record { code = code; value = serial })) refl
+
+-- ---- an option has the kind and the length
+
+same_number : (n : ℕ) → (n == n) ≡ true
+same_number n = grind (arith, nat_tests)
+
+of_info : (info : OptInfo) (kind n : ℕ) → kind ≡ info.kind → n ≡ info.gcp → is_option_of kind n info ≡ true
+of_info info kind n k g = rw (k, g) (and_true (info.kind == info.kind) (info.gcp == info.gcp) (same_number info.kind) (same_number info.gcp))
+
+in_first : (a b c : Bool) → a ≡ true → (a || b || c) ≡ true
+in_first true b c h = refl
+in_first false b c h = absurd (let g : false ≡ true = h in cc)
+
+in_second : (a b c : Bool) → b ≡ true → (a || b || c) ≡ true
+in_second true true c h = refl
+in_second false true c h = refl
+in_second a false c h = absurd (let g : false ≡ true = h in cc)
+
+in_third : (a b c : Bool) → c ≡ true → (a || b || c) ≡ true
+in_third true true true h = refl
+in_third true false true h = refl
+in_third false true true h = refl
+in_third false false true h = refl
+in_third a b false h = absurd (let g : false ≡ true = h in cc)
+
+in_a_level : (set : TableRows) (name : LevelName) (kind n : ℕ) → list_any (is_option_of kind n) (level_rows name set).info ≡ true → has_option set kind n ≡ true
+in_a_level set level.Binary kind n h = in_first (list_any (is_option_of kind n) set.binary.info) (list_any (is_option_of kind n) set.tag.info) (list_any (is_option_of kind n) set.pure.info) h
+in_a_level set level.Tag kind n h = in_second (list_any (is_option_of kind n) set.binary.info) (list_any (is_option_of kind n) set.tag.info) (list_any (is_option_of kind n) set.pure.info) h
+in_a_level set level.Pure kind n h = in_third (list_any (is_option_of kind n) set.binary.info) (list_any (is_option_of kind n) set.tag.info) (list_any (is_option_of kind n) set.pure.info) h
+
+own_option : (set : TableRows) (epc : Epc) → IsOfSet set epc → has_option set epc.kind epc.gcp ≡ true
+own_option set epc of =
+    let kind : epc.kind ≡ of.info.kind = ap (λ (x : Epc). x.kind) of.fields in
+    let gcp : epc.gcp ≡ of.info.gcp = ap (λ (x : Epc). x.gcp) of.fields in
+    let there = any_at (is_option_of epc.kind epc.gcp) (level_rows of.level set).info of.option of.info of.said (of_info of.info epc.kind epc.gcp kind gcp) in
+    in_a_level set of.level epc.kind epc.gcp there
+
+-- ---- the EPC that is written
+
+module _ (set : TableRows) (prefixes : List PrefixEntry) (options : Options) (epc : Epc) (identity : Elements) (shaped : IsShaped set) (of : IsOfSet set epc) (laid : IsLaidOut set epc identity) where
+  own_kind : kind_for set identity ≡ Ok epc.kind
+  own_kind =
+      let first = first_kind set epc.kind laid.kind shaped laid.named in
+      let none = none_extra set.ais laid.kind.serial (fields_in epc).serial in
+      rw (laid.laid, first, laid.named, none) refl
+
+  own_length : length_for set prefixes options (epc_meaning epc identity) epc.kind ≡ Ok epc.gcp
+  own_length = rw (own_option set epc of) refl
+
+  -- the fields of the EPC are given back
+  pub own_epc : (to : LevelName) → epc_for set prefixes options to (epc_meaning epc identity) ≡ with_tag options to (epc_meaning epc identity) epc
+  own_epc to =
+      let back = apart set epc identity shaped of laid in
+      rw (own_kind, own_length, back) refl
+
+-- ---- translations
+
+of_first : {A B : Type 0} (First Other : Result A Reason → Type 0) (Next : A → Result B Reason → Type 0) (answer : Result B Reason) → ((a : Result A Reason) → First a → Other a) → Then First Next answer → Then Other Next answer
+of_first First Other Next answer f (rejects error first is) = rejects error (f (Err error) first) is
+of_first First Other Next answer f (goes_on a first next) = goes_on a (f (Ok a) first) next
+
+spelled_at : (set : TableRows) (prefixes : List PrefixEntry) (options : Options) (to : LevelName) (meaning : Meaning) (answer : Result (List ℕ) Reason) → IsOfLevel set prefixes options to meaning answer → IsSpelling set prefixes options (target_at to) meaning answer
+spelled_at set prefixes options level.Binary meaning answer h = h
+spelled_at set prefixes options level.Tag meaning answer h = h
+spelled_at set prefixes options level.Pure meaning answer h = h
+
+-- what is written of the EPC of a text is the translation of the text, by the identity that the EPC names
+pub recoded : (set : TableRows) (prefixes : List PrefixEntry) (options : Options) (from to : LevelName) (text : List ℕ) (epc : Epc) (answer : Result (List ℕ) Reason) → IsShaped set → options.keys_only ≡ false → length text ≤ longest_text → ReadsText set from text (Ok epc) → IsOfSet set epc
+    → (identity : Elements) × (Then (λ tagged. tagged ≡ with_tag options to (epc_meaning epc identity) epc) (λ tagged. Reworded write.Memory write_reason (WritesAs set to tagged)) answer → IsTranslation set prefixes options (form_at from) (target_at to) text answer)
+recoded set prefixes options from to text epc answer shaped whole few read of =
+    let kind = fit_kind set epc shaped of in
+    let elements = lay set.ais kind.0 (fields_in epc) in
+    let laid : IsLaidOut set epc elements = record { kind = kind.0; named = kind.1; laid = refl } in
+    let meaning = epc_meaning epc elements in
+    let back = own_epc set prefixes options epc elements shaped of laid to in (
+      elements,
+      λ written.
+          let spelled : IsOfLevel set prefixes options to meaning answer = of_first (λ tagged. tagged ≡ with_tag options to meaning epc) (λ tagged. tagged ≡ epc_for set prefixes options to meaning) (λ tagged. Reworded write.Memory write_reason (WritesAs set to tagged)) answer (λ tagged is. is ∙ sym back) written in
+          goes_on meaning (short few (means_at set from text epc elements read laid))
+          (subst (λ (m : Meaning). IsSpelling set prefixes options (target_at to) m answer) (kept_whole set options.keys_only meaning whole) (spelled_at set prefixes options to meaning answer spelled)),
+    )
+
+-- why a text is not read is why it has no translation
+pub long_rejected : (set : TableRows) (prefixes : List PrefixEntry) (options : Options) (from to : LevelName) (text : List ℕ) → longest_text < length text → IsTranslation set prefixes options (form_at from) (target_at to) text (Err Long)
+long_rejected set prefixes options from to text more = rejects Long (too_long more refl) refl
+
+pub not_read : (set : TableRows) (prefixes : List PrefixEntry) (options : Options) (from to : LevelName) (text : List ℕ) (error : EpcFault) → length text ≤ longest_text → ReadsText set from text (Err error) → UnlessMemory {X = List ℕ} (Err (epc_reason error)) (IsTranslation set prefixes options (form_at from) (target_at to) text (Err (epc_reason error)))
+not_read set prefixes options from to text error few read =
+    unless_rejected Meaning (List ℕ) (epc_reason error) (λ said. rejects (epc_reason error) (short few said) refl) (none_read set from text error read)

@@ -1,0 +1,22 @@
+use Rattle.std.proofs.Common.{arith}
+use Rattle.std.proofs.lemmas.Result.{err_from_is_err_and}
+use Rattle.gs_translate.proofs.EpcTexts.{fits_at}
+use Rattle.gs_translate.proofs.RecodingLaws.{long_rejected, not_read, recoded}
+use Rattle.gs_translate.proofs.StepLaws.{unless_map}
+use Rattle.gs_translate.proofs.recoding.recoded.Goals as goal
+
+pub write_reading-requires-clause-given : goal.write_reading-requires-clause-given
+write_reading-requires-clause-given c = fits_at c.args.set.now c.args.from c.args.text.now _ c.ais.ensures.shaped c.in_ok-reading.ensures.answer
+
+pub returns-then-text-gt-LONGEST_TEXT : goal.returns-then-text-gt-LONGEST_TEXT
+returns-then-text-gt-LONGEST_TEXT c = λ prefixes. long_rejected c.args.set.now prefixes c.args.options.now c.args.from c.args.to c.args.text.now (omega arith)
+
+pub returns-in_err-reading : goal.returns-in_err-reading
+returns-in_err-reading c = λ prefixes.
+    let p = err_from_is_err_and c.from_residual.result c.from_residual.ensures.1 in
+    rw (p.1, p.2) (not_read c.args.set.now prefixes c.args.options.now c.args.from c.args.to c.args.text.now _ (omega arith) c.in_err-reading.ensures.answer)
+
+pub returns : goal.returns
+returns c = λ prefixes.
+    let by = recoded c.args.set.now prefixes c.args.options.now c.args.from c.args.to c.args.text.now _ c.write_reading.result c.ais.ensures.shaped c.requires.whole (omega arith) c.in_ok-reading.ensures.answer c.in_ok-reading.ensures.of_set in
+    unless_map c.write_reading.result by.1 (c.write_reading.ensures by.0)

@@ -1,0 +1,17 @@
+use Rattle.std.proofs.Common.{ℕ, List, refl}
+use Rattle.std.proofs.lemmas.Result.{err_from_is_err_and}
+use Rattle.gs_epc.specs.declared.epc.Epc.{Epc}
+use Rattle.gs_translate.specs.Steps.{goes_on, rejects}
+use Rattle.gs_translate.proofs.StepLaws.{unless_map, unless_rejected}
+use Rattle.gs_translate.proofs.recoding.write_reading.Goals as goal
+
+pub returns-in_err-epc : goal.returns-in_err-epc
+returns-in_err-epc c = λ identity.
+    let p = err_from_is_err_and c.from_residual.result c.from_residual.ensures.1 in
+    let said = rw c.epc.ensures at (c.in_err-epc.ensures.tagged identity) in
+    rw (p.1, p.2) (unless_rejected Epc (List ℕ) c.in_err-epc.field-0.0 (λ said. rejects c.in_err-epc.field-0.0 said refl) said)
+
+pub returns : goal.returns
+returns c = λ identity.
+    let said = rw c.epc.ensures at (c.in_ok-epc.ensures.tagged identity) in
+    unless_map c.write_epc.result (λ written. goes_on c.in_ok-epc.epc said written) c.write_epc.ensures
