@@ -1,20 +1,33 @@
 -- The request's wish, wherever the name of its relation is kept, and the answer by the links of the chosen numbers.
-use Rattle.std.proofs.Common.{Bool, ◌≡◌, ◌≢◌, ◌<◌, ◌≤◌, ℕ, zero, suc, List, [], ◌∷◌, length, slice_get, Some, false, inl, inr, refl, arith}
-use Rattle.std.specs.Prelude.{All, slice_index_or}
+use Rattle.std.proofs.Common.{Bool, ◌≡◌, ◌≢◌, ◌<◌, ◌≤◌, ℕ, zero, suc, List, [], ◌∷◌, length, slice_get, Some, false, inl, inr, refl, sym, ap, ◌∙◌, arith}
+use Rattle.std.specs.Prelude.{All, Err, None, Ok, Option, Result, slice_index_or}
 use Rattle.std.specs.Option.{option_map_or}
 use Rattle.std.specs.Borrow.{Bor}
 use Rattle.gs_chars.proofs.TruthsAndLists.{true_or_false}
+use Rattle.gs_ai.specs.declared.pair.Pair.{Pair}
+use Rattle.gs_ai.specs.declared.row.AiRow.{AiRow}
+use Rattle.gs_dlink.specs.Answers.{error_in}
+use Rattle.gs_dlink.specs.declared.error.LinkFault.{LinkFault}
+use Rattle.gs_dlink.specs.declared.error.LinkFault.TheVariants as link
 use Rattle.gs_ident.specs.Elements.{Elements}
+use Rattle.gs_ident.specs.declared.errors.IdentFault.{IdentFault}
+use Rattle.gs_ident.specs.declared.errors.IdentFault.TheVariants as ident
+use Rattle.gs_links.proofs.DocumentLemmas.{chosen_within}
 use Rattle.gs_links.specs.Choices.{chosen, is_candidate}
 use Rattle.gs_links.specs.Documents.{linked}
 use Rattle.gs_links.specs.Languages.{matches, narrowed}
 use Rattle.gs_links.specs.declared.link.Link.{Link}
-use Rattle.gs_links.specs.declared.link.Want.TheVariants.{Relation as RelationOf}
-use Rattle.gs_http_documents.specs.Forms.{rendered_as}
-use Rattle.gs_http_documents.specs.References.{reference_for}
-use Rattle.gs_http_documents.specs.declared.forms.LinksetForm.{LinksetForm}
+use Rattle.gs_links.specs.declared.link.Want.{Want}
+use Rattle.gs_links.specs.declared.link.Want.TheVariants.{All as AllRelations, Relation as RelationOf}
+use Rattle.gs_http.specs.Forms.{rendered_as}
+use Rattle.gs_http.specs.References.{reference_for}
+use Rattle.gs_http.specs.declared.documents.LinksetForm.{LinksetForm}
+use Rattle.gs_http.specs.declared.documents.Rendered.{Rendered}
 use Rattle.gs_linkset.specs.WrittenTrees.{written}
-use Rattle.gs_http.specs.Answers.{by_linkset, by_relation, choices, linkset, not_found, of_relation, redirect, sent_document}
+use Rattle.gs_http.specs.Answers.{by_elements, by_identity, by_linkset, by_pairs, by_relation, choices, linkset, not_found, of_relation, redirect, sent_document}
+use Rattle.gs_http.specs.LentValues.{Refuses}
+use Rattle.gs_http.specs.Lookups.{identity_fault, numbers_for, target_fault}
+use Rattle.gs_http.specs.Wishes.{Wish, for_linkset, for_relation}
 
 pub same_want : (links : List Link) (identity : Elements) (name : List ℕ) (lent : Bor (List ℕ)) → lent.now ≡ name → chosen links identity (RelationOf lent) ≡ chosen links identity (of_relation name)
 unfolding is_candidate
@@ -65,3 +78,47 @@ narrowed_few links (i ∷ []) (range ∷ ranges) few = elim (true_or_false (opti
   | inr other ↦ rw other (narrowed_few links (i ∷ []) ranges few)
 ]
 narrowed_few links (i ∷ j ∷ numbers) (range ∷ ranges) few = absurd (omega arith)
+
+-- ---- the numbers that fit a wish
+
+-- they are chosen, and narrowed
+pub numbers_narrowed : (links : List Link) (ranges : List (List ℕ)) (identity : Elements) (wish : Wish) (numbers : List ℕ) → numbers ≡ numbers_for links ranges identity wish
+    → (want : Want) × (others : List (List ℕ)) × (numbers ≡ narrowed links (chosen links identity want) others)
+numbers_narrowed links ranges identity (for_linkset form) numbers e = (AllRelations, [], e)
+numbers_narrowed links ranges identity (for_relation name) numbers e = (of_relation name, ranges, e)
+
+-- without one, nothing is found
+pub nothing_found : (templates : Bool) (links : List Link) (ranges : List (List ℕ)) (identity : Elements) (wish : Wish) (numbers : List ℕ) → numbers ≡ numbers_for links ranges identity wish
+    → length numbers ≡ 0 → by_elements templates links ranges identity wish ≡ not_found
+nothing_found templates links ranges identity (for_linkset form) numbers e none = sym (no_linkset templates identity links form _ (rw (← e) none))
+nothing_found templates links ranges identity (for_relation name) numbers e none = sym (no_links templates identity links _ (rw (← e) none))
+
+-- the answer for a linkset
+pub linkset_found : (templates : Bool) (links : List Link) (ranges : List (List ℕ)) (identity : Elements) (wish : Wish) (form : LinksetForm) (numbers : List ℕ) (sent : Rendered) → wish ≡ for_linkset form
+    → numbers ≡ numbers_for links ranges identity wish → 0 < length numbers → sent ≡ rendered_as form (sent_document templates identity (linked links numbers))
+    → linkset sent ≡ by_elements templates links ranges identity wish
+linkset_found templates links ranges identity wish form numbers sent is e some made =
+    let all : numbers ≡ chosen links identity AllRelations = rw is at e in
+    rw is (ap linkset made ∙ sym (some_links templates identity links form numbers (chosen_within links identity AllRelations numbers all) some)
+    ∙ ap (λ (n : List ℕ). by_linkset templates form identity (linked links n)) all)
+
+-- ---- faults
+
+erred : (r : Result (List Pair) LinkFault) (e : LinkFault) → error_in r ≡ Some e → r ≡ Err e
+erred (Ok pairs) e h = absurd (let bad : ◌≡◌ {A = Option LinkFault} None (Some e) = h in cc)
+erred (Err f) e h = let same : Some f ≡ Some e = h in cc
+
+module _ (table : List AiRow) (templates : Bool) (links : List Link) (ranges : List (List ℕ)) (wish : Wish) where
+  -- the answer to a target with a fault
+  pub target_refused : (e : LinkFault) (r : Result (List Pair) LinkFault) → (e ≢ link.Memory → error_in r ≡ Some e) → Refuses (target_fault e) (by_pairs table templates links ranges wish r)
+  target_refused link.NotHttp r h = rw (erred r link.NotHttp (h (λ e. let bad : link.NotHttp ≡ link.Memory = e in cc))) refl
+  target_refused link.NoKeyPath r h = rw (erred r link.NoKeyPath (h (λ e. let bad : link.NoKeyPath ≡ link.Memory = e in cc))) refl
+  target_refused (link.Element f) r h = rw (erred r (link.Element f) (h (λ e. let bad : link.Element f ≡ link.Memory = e in cc))) refl
+  target_refused link.Memory r h = tt
+
+  -- the answer to pairs without an identity
+  pub identity_refused : (e : IdentFault) (r : Result Elements IdentFault) → (e ≢ ident.Memory → r ≡ Err e) → Refuses (identity_fault e) (by_identity templates links ranges wish r)
+  identity_refused (ident.Repeat code) r h = rw (h (λ e. let bad : ident.Repeat code ≡ ident.Memory = e in cc)) refl
+  identity_refused ident.NoKey r h = rw (h (λ e. let bad : ident.NoKey ≡ ident.Memory = e in cc)) refl
+  identity_refused (ident.TwoKeys code) r h = rw (h (λ e. let bad : ident.TwoKeys code ≡ ident.Memory = e in cc)) refl
+  identity_refused ident.Memory r h = tt
