@@ -1,17 +1,10 @@
 -- The request's wish, wherever the name of its relation is kept, and the answer by the links of the chosen numbers.
 use Rattle.std.proofs.Common.{Bool, ◌≡◌, ◌≢◌, ◌<◌, ◌≤◌, ℕ, zero, suc, List, [], ◌∷◌, length, slice_get, Some, false, inl, inr, refl, sym, ap, ◌∙◌, arith}
-use Rattle.std.specs.Prelude.{All, Err, None, Ok, Option, Result, slice_index_or}
+use Rattle.std.specs.Prelude.{All, slice_index_or}
 use Rattle.std.specs.Option.{option_map_or}
 use Rattle.std.specs.Borrow.{Bor}
 use Rattle.gs_chars.proofs.TruthsAndLists.{true_or_false}
-use Rattle.gs_ai.specs.declared.pair.Pair.{Pair}
-use Rattle.gs_ai.specs.declared.row.AiRow.{AiRow}
-use Rattle.gs_dlink.specs.Answers.{error_in}
-use Rattle.gs_dlink.specs.declared.error.LinkFault.{LinkFault}
-use Rattle.gs_dlink.specs.declared.error.LinkFault.TheVariants as link
 use Rattle.gs_ident.specs.Elements.{Elements}
-use Rattle.gs_ident.specs.declared.errors.IdentFault.{IdentFault}
-use Rattle.gs_ident.specs.declared.errors.IdentFault.TheVariants as ident
 use Rattle.gs_links.proofs.DocumentLemmas.{chosen_within}
 use Rattle.gs_links.specs.Choices.{chosen, is_candidate}
 use Rattle.gs_links.specs.Documents.{linked}
@@ -24,9 +17,8 @@ use Rattle.gs_http.specs.References.{reference_for}
 use Rattle.gs_http.specs.declared.documents.LinksetForm.{LinksetForm}
 use Rattle.gs_http.specs.declared.documents.Rendered.{Rendered}
 use Rattle.gs_linkset.specs.WrittenTrees.{written}
-use Rattle.gs_http.specs.Answers.{by_elements, by_identity, by_linkset, by_pairs, by_relation, choices, linkset, not_found, of_relation, redirect, sent_document}
-use Rattle.gs_http.specs.LentValues.{Refuses}
-use Rattle.gs_http.specs.Lookups.{identity_fault, numbers_for, target_fault}
+use Rattle.gs_http.specs.Answers.{by_elements, by_linkset, by_relation, choices, linkset, of_relation, redirect, sent_document}
+use Rattle.gs_http.specs.Lookups.{numbers_for}
 use Rattle.gs_http.specs.Wishes.{Wish, for_linkset, for_relation}
 
 pub same_want : (links : List Link) (identity : Elements) (name : List ℕ) (lent : Bor (List ℕ)) → lent.now ≡ name → chosen links identity (RelationOf lent) ≡ chosen links identity (of_relation name)
@@ -39,14 +31,6 @@ there (link ∷ links) zero low = (link, refl)
 there (link ∷ links) (suc i) low = there links i (omega arith)
 
 module _ (templates : Bool) (identity : Elements) (links : List Link) where
-  pub no_links : (numbers : List ℕ) → length numbers ≡ 0 → not_found ≡ by_relation templates identity (linked links numbers)
-  no_links [] none = refl
-  no_links (i ∷ numbers) none = absurd (omega arith)
-
-  pub no_linkset : (form : LinksetForm) (numbers : List ℕ) → length numbers ≡ 0 → not_found ≡ by_linkset templates form identity (linked links numbers)
-  no_linkset form [] none = refl
-  no_linkset form (i ∷ numbers) none = absurd (omega arith)
-
   pub one_link : (numbers : List ℕ) (link : Link) → length numbers ≡ 1 → slice_get links (slice_index_or numbers 0 0) ≡ Some link
       → redirect (reference_for templates identity link.target.href) ≡ by_relation templates identity (linked links numbers)
   one_link [] link one at = absurd (omega arith)
@@ -87,12 +71,6 @@ pub numbers_narrowed : (links : List Link) (ranges : List (List ℕ)) (identity 
 numbers_narrowed links ranges identity (for_linkset form) numbers e = (AllRelations, [], e)
 numbers_narrowed links ranges identity (for_relation name) numbers e = (of_relation name, ranges, e)
 
--- without one, nothing is found
-pub nothing_found : (templates : Bool) (links : List Link) (ranges : List (List ℕ)) (identity : Elements) (wish : Wish) (numbers : List ℕ) → numbers ≡ numbers_for links ranges identity wish
-    → length numbers ≡ 0 → by_elements templates links ranges identity wish ≡ not_found
-nothing_found templates links ranges identity (for_linkset form) numbers e none = sym (no_linkset templates identity links form _ (rw (← e) none))
-nothing_found templates links ranges identity (for_relation name) numbers e none = sym (no_links templates identity links _ (rw (← e) none))
-
 -- the answer for a linkset
 pub linkset_found : (templates : Bool) (links : List Link) (ranges : List (List ℕ)) (identity : Elements) (wish : Wish) (form : LinksetForm) (numbers : List ℕ) (sent : Rendered) → wish ≡ for_linkset form
     → numbers ≡ numbers_for links ranges identity wish → 0 < length numbers → sent ≡ rendered_as form (sent_document templates identity (linked links numbers))
@@ -101,24 +79,3 @@ linkset_found templates links ranges identity wish form numbers sent is e some m
     let all : numbers ≡ chosen links identity AllRelations = rw is at e in
     rw is (ap linkset made ∙ sym (some_links templates identity links form numbers (chosen_within links identity AllRelations numbers all) some)
     ∙ ap (λ (n : List ℕ). by_linkset templates form identity (linked links n)) all)
-
--- ---- faults
-
-erred : (r : Result (List Pair) LinkFault) (e : LinkFault) → error_in r ≡ Some e → r ≡ Err e
-erred (Ok pairs) e h = absurd (let bad : ◌≡◌ {A = Option LinkFault} None (Some e) = h in cc)
-erred (Err f) e h = let same : Some f ≡ Some e = h in cc
-
-module _ (table : List AiRow) (templates : Bool) (links : List Link) (ranges : List (List ℕ)) (wish : Wish) where
-  -- the answer to a target with a fault
-  pub target_refused : (e : LinkFault) (r : Result (List Pair) LinkFault) → (e ≢ link.Memory → error_in r ≡ Some e) → Refuses (target_fault e) (by_pairs table templates links ranges wish r)
-  target_refused link.NotHttp r h = rw (erred r link.NotHttp (h (λ e. let bad : link.NotHttp ≡ link.Memory = e in cc))) refl
-  target_refused link.NoKeyPath r h = rw (erred r link.NoKeyPath (h (λ e. let bad : link.NoKeyPath ≡ link.Memory = e in cc))) refl
-  target_refused (link.Element f) r h = rw (erred r (link.Element f) (h (λ e. let bad : link.Element f ≡ link.Memory = e in cc))) refl
-  target_refused link.Memory r h = tt
-
-  -- the answer to pairs without an identity
-  pub identity_refused : (e : IdentFault) (r : Result Elements IdentFault) → (e ≢ ident.Memory → r ≡ Err e) → Refuses (identity_fault e) (by_identity templates links ranges wish r)
-  identity_refused (ident.Repeat code) r h = rw (h (λ e. let bad : ident.Repeat code ≡ ident.Memory = e in cc)) refl
-  identity_refused ident.NoKey r h = rw (h (λ e. let bad : ident.NoKey ≡ ident.Memory = e in cc)) refl
-  identity_refused (ident.TwoKeys code) r h = rw (h (λ e. let bad : ident.TwoKeys code ≡ ident.Memory = e in cc)) refl
-  identity_refused ident.Memory r h = tt

@@ -1,14 +1,13 @@
 -- What the fields so far say, field by field.
-use Rattle.std.proofs.Common.{◌≡◌, ℕ, ◌||◌, ◌&&◌, not, Bool, true, false, if◌then◌else◌, List, [], ◌∷◌, ◌++◌, length, map, Option, Some, None, refl, sym, ap, ◌∙◌, inl, inr, subst}
-use Rattle.std.specs.Prelude.{All, bytes_eq, codes}
-use Rattle.std.specs.Char.{to_ascii_lowercase}
+use Rattle.std.proofs.Common.{◌≡◌, ℕ, ◌||◌, Bool, true, false, if◌then◌else◌, List, [], ◌∷◌, ◌++◌, length, map, Option, Some, None, refl, sym, ap, ◌∙◌, inl, inr, subst}
+use Rattle.std.specs.Prelude.{All, codes}
 use Rattle.std.specs.List.{flat_map}
 use Rattle.std.proofs.lemmas.List.Elements.{All-tail}
-use Rattle.gs_chars.proofs.TruthsAndLists.{equal_bytes, true_or_false}
+use Rattle.gs_chars.proofs.TruthsAndLists.{true_or_false}
 use Rattle.httparse.specs.Spans.{IsHeaderWithin, header_bytes}
 use Rattle.httparse.specs.declared.spans.HeaderSpan.{HeaderSpan}
-use Rattle.gs_http.specs.AcceptedForms.{accepted_form, field_forms, first_form, value_forms}
-use Rattle.gs_http.specs.Fields.{has_close, is_shown, is_word, shows}
+use Rattle.gs_http.specs.AcceptedForms.{accepted_form, field_forms, first_form}
+use Rattle.gs_http.specs.Fields.{is_shown, is_word, shows}
 use Rattle.gs_http.specs.LanguageRanges.{language_values}
 use Rattle.gs_http.specs.SaidFields.{Adds, Says, or_fields, or_form}
 use Rattle.gs_http.specs.declared.documents.LinksetForm.{LinksetForm}
@@ -113,28 +112,3 @@ says_all said head all s = record {
   languages = sym (s.languages ∙ ap (λ (fields : List HeaderSpan). language_values (map (header_bytes head) fields)) (or_fields_none said.languages.now));
   within = s.within;
 }
-
--- ---- one field, by its name
-
-pub or_yes : (a : Bool) → (a || true) ≡ true
-or_yes true = refl
-or_yes false = refl
-
--- a name that is one word is no other
-pub other_word : (name a b : List ℕ) → is_word a name ≡ true → bytes_eq a b ≡ false → is_word b name ≡ false
-other_word name a b here apart = rw (equal_bytes (map to_ascii_lowercase name) a here) apart
-
-module _ (old new : Said) (name value : List ℕ) (from : List HeaderSpan) where
-  pub adds : (encoding length connection accept language : Bool)
-      → is_word (codes "transfer-encoding") name ≡ encoding → is_word (codes "content-length") name ≡ length → is_word (codes "connection") name ≡ connection
-      → is_word (codes "accept") name ≡ accept → is_word (codes "accept-language") name ≡ language
-      → new.encoded ≡ (old.encoded || encoding) → new.sized ≡ (old.sized || (length && not (bytes_eq value (codes "0"))))
-      → new.closes ≡ (old.closes || (connection && has_close value)) → new.form ≡ or_form old.form (first_form (if accept then value_forms value else []))
-      → new.languages.now ≡ (if language then or_fields old.languages.now from else old.languages.now) → Adds old new (name, value) from
-  adds encoding length connection accept language e l c a g encoded sized closes form languages = record {
-    encoded = encoded ∙ ap (λ t. old.encoded || t) (sym e);
-    sized = sized ∙ ap (λ t. old.sized || (t && not (bytes_eq value (codes "0")))) (sym l);
-    closes = closes ∙ ap (λ t. old.closes || (t && has_close value)) (sym c);
-    form = form ∙ ap (λ t. or_form old.form (first_form (if t then value_forms value else []))) (sym a);
-    languages = languages ∙ ap (λ t. if t then or_fields old.languages.now from else old.languages.now) (sym g);
-  }

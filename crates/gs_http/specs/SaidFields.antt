@@ -1,11 +1,10 @@
 -- What the header fields of a request say, found in one pass, for private functions.
-use Rattle.std.specs.Prelude.{◌≡◌, ℕ, ◌||◌, Bool, if◌then◌else◌, List, [], ◌∷◌, map, length, codes, Option, Some, None, All}
+use Rattle.std.specs.Prelude.{◌≡◌, ℕ, ◌||◌, if◌then◌else◌, List, [], ◌∷◌, map, length, codes, Option, Some, None, All}
 use Rattle.std.specs.Borrow.{Bor}
 use Rattle.std.specs.List.{slice_split}
 use Rattle.httparse.specs.Spans.{IsHeaderWithin, header_bytes}
 use Rattle.httparse.specs.declared.spans.HeaderSpan.{HeaderSpan}
 use Rattle.gs_http.specs.declared.fields.Members.{Members}
-use Rattle.gs_http.specs.declared.fields.Sign.{Sign}
 use Rattle.gs_http.specs.declared.fields.Sign.TheVariants.{Encoded, Sized, Closes}
 use Rattle.gs_http.specs.declared.documents.LinksetForm.{LinksetForm}
 use Rattle.gs_http.specs.declared.said.Said.{Said}

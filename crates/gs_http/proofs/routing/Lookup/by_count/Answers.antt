@@ -1,4 +1,4 @@
-use Rattle.std.proofs.Common.{length, ap, sym, subst, ◌≡◌, ◌∙◌, arith}
+use Rattle.std.proofs.Common.{length, ap, sym, subst, ◌≡◌, ◌∙◌}
 use Rattle.std.specs.Prelude.{IfOk}
 use Rattle.std.proofs.lemmas.Bool.{eqb-false, eqb-true}
 use Rattle.gs_links.proofs.DocumentLemmas.{document_within}
