@@ -22,7 +22,7 @@ use std::alloc::Global;
 const MOST: usize = 1000;
 
 /// How serving a connection ended.
-#[derive(Clone, Copy, Debug)]
+#[derive(Clone, Copy, Debug, PartialEq, Eq)]
 pub enum Served {
     /// All was answered: up to the end of the stream, or to a reply that ends the connection.
     Done,
