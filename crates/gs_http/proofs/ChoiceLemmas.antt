@@ -1,20 +1,25 @@
 -- The request's wish, wherever the name of its relation is kept, and the answer by the links of the chosen numbers.
-use Rattle.std.proofs.Common.{Bool, ◌≡◌, ◌≢◌, ◌<◌, ◌≤◌, ℕ, zero, suc, List, [], ◌∷◌, length, slice_get, Some, false, inl, inr, refl, arith}
+use Rattle.std.proofs.Common.{Bool, ◌≡◌, ◌≢◌, ◌<◌, ◌≤◌, ℕ, zero, suc, List, [], ◌∷◌, length, slice_get, Some, false, inl, inr, refl, sym, ap, ◌∙◌, arith}
 use Rattle.std.specs.Prelude.{All, slice_index_or}
 use Rattle.std.specs.Option.{option_map_or}
 use Rattle.std.specs.Borrow.{Bor}
 use Rattle.gs_chars.proofs.TruthsAndLists.{true_or_false}
 use Rattle.gs_ident.specs.Elements.{Elements}
+use Rattle.gs_links.proofs.DocumentLemmas.{chosen_within}
 use Rattle.gs_links.specs.Choices.{chosen, is_candidate}
 use Rattle.gs_links.specs.Documents.{linked}
 use Rattle.gs_links.specs.Languages.{matches, narrowed}
 use Rattle.gs_links.specs.declared.link.Link.{Link}
-use Rattle.gs_links.specs.declared.link.Want.TheVariants.{Relation as RelationOf}
-use Rattle.gs_http_documents.specs.Forms.{rendered_as}
-use Rattle.gs_http_documents.specs.References.{reference_for}
-use Rattle.gs_http_documents.specs.declared.forms.LinksetForm.{LinksetForm}
+use Rattle.gs_links.specs.declared.link.Want.{Want}
+use Rattle.gs_links.specs.declared.link.Want.TheVariants.{All as AllRelations, Relation as RelationOf}
+use Rattle.gs_http.specs.Forms.{rendered_as}
+use Rattle.gs_http.specs.References.{reference_for}
+use Rattle.gs_http.specs.declared.documents.LinksetForm.{LinksetForm}
+use Rattle.gs_http.specs.declared.documents.Rendered.{Rendered}
 use Rattle.gs_linkset.specs.WrittenTrees.{written}
-use Rattle.gs_http.specs.Answers.{by_linkset, by_relation, choices, linkset, not_found, of_relation, redirect, sent_document}
+use Rattle.gs_http.specs.Answers.{by_elements, by_linkset, by_relation, choices, linkset, of_relation, redirect, sent_document}
+use Rattle.gs_http.specs.Lookups.{numbers_for}
+use Rattle.gs_http.specs.Wishes.{Wish, for_linkset, for_relation}
 
 pub same_want : (links : List Link) (identity : Elements) (name : List ℕ) (lent : Bor (List ℕ)) → lent.now ≡ name → chosen links identity (RelationOf lent) ≡ chosen links identity (of_relation name)
 unfolding is_candidate
@@ -26,14 +31,6 @@ there (link ∷ links) zero low = (link, refl)
 there (link ∷ links) (suc i) low = there links i (omega arith)
 
 module _ (templates : Bool) (identity : Elements) (links : List Link) where
-  pub no_links : (numbers : List ℕ) → length numbers ≡ 0 → not_found ≡ by_relation templates identity (linked links numbers)
-  no_links [] none = refl
-  no_links (i ∷ numbers) none = absurd (omega arith)
-
-  pub no_linkset : (form : LinksetForm) (numbers : List ℕ) → length numbers ≡ 0 → not_found ≡ by_linkset templates form identity (linked links numbers)
-  no_linkset form [] none = refl
-  no_linkset form (i ∷ numbers) none = absurd (omega arith)
-
   pub one_link : (numbers : List ℕ) (link : Link) → length numbers ≡ 1 → slice_get links (slice_index_or numbers 0 0) ≡ Some link
       → redirect (reference_for templates identity link.target.href) ≡ by_relation templates identity (linked links numbers)
   one_link [] link one at = absurd (omega arith)
@@ -65,3 +62,20 @@ narrowed_few links (i ∷ []) (range ∷ ranges) few = elim (true_or_false (opti
   | inr other ↦ rw other (narrowed_few links (i ∷ []) ranges few)
 ]
 narrowed_few links (i ∷ j ∷ numbers) (range ∷ ranges) few = absurd (omega arith)
+
+-- ---- the numbers that fit a wish
+
+-- they are chosen, and narrowed
+pub numbers_narrowed : (links : List Link) (ranges : List (List ℕ)) (identity : Elements) (wish : Wish) (numbers : List ℕ) → numbers ≡ numbers_for links ranges identity wish
+    → (want : Want) × (others : List (List ℕ)) × (numbers ≡ narrowed links (chosen links identity want) others)
+numbers_narrowed links ranges identity (for_linkset form) numbers e = (AllRelations, [], e)
+numbers_narrowed links ranges identity (for_relation name) numbers e = (of_relation name, ranges, e)
+
+-- the answer for a linkset
+pub linkset_found : (templates : Bool) (links : List Link) (ranges : List (List ℕ)) (identity : Elements) (wish : Wish) (form : LinksetForm) (numbers : List ℕ) (sent : Rendered) → wish ≡ for_linkset form
+    → numbers ≡ numbers_for links ranges identity wish → 0 < length numbers → sent ≡ rendered_as form (sent_document templates identity (linked links numbers))
+    → linkset sent ≡ by_elements templates links ranges identity wish
+linkset_found templates links ranges identity wish form numbers sent is e some made =
+    let all : numbers ≡ chosen links identity AllRelations = rw is at e in
+    rw is (ap linkset made ∙ sym (some_links templates identity links form numbers (chosen_within links identity AllRelations numbers all) some)
+    ∙ ap (λ (n : List ℕ). by_linkset templates form identity (linked links n)) all)

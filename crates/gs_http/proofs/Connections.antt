@@ -7,14 +7,14 @@ use Rattle.gs_ai.specs.declared.row.AiRow.{AiRow}
 use Rattle.gs_chars.proofs.TruthsAndLists.{or_first}
 use Rattle.gs_links.specs.declared.link.Link.{Link}
 use Rattle.gs_port.specs.Contents.{append_known, append_nothing, append_twice, prepend_known, prepend_nothing, prepend_twice}
-use Rattle.gs_http.specs.declared.next_head.Filled.TheVariants as filled
-use Rattle.gs_http.specs.declared.next_head.Filled.{Filled}
-use Rattle.gs_http.specs.declared.outcomes.Served.{Served}
-use Rattle.gs_http.specs.declared.outcomes.Served.TheVariants.{Done, ReadFault, WriteFault, Memory}
-use Rattle.gs_http.specs.declared.outcomes.Turn.{Turn}
-use Rattle.gs_http.specs.declared.outcomes.Turn.TheVariants.{Stays, Over}
+use Rattle.gs_http.specs.declared.buffer.Filled.TheVariants as filled
+use Rattle.gs_http.specs.declared.buffer.Filled.{Filled}
+use Rattle.gs_http.specs.declared.connection.Served.{Served}
+use Rattle.gs_http.specs.declared.connection.Served.TheVariants.{Done, ReadFault, WriteFault, Memory}
+use Rattle.gs_http.specs.declared.connection.Turn.{Turn}
+use Rattle.gs_http.specs.declared.connection.Turn.TheVariants.{Stays, Over}
 use Rattle.gs_http.specs.declared.replies.Reply.{Reply}
-use Rattle.gs_http.specs.declared.settings.Settings.{Settings}
+use Rattle.gs_http.specs.declared.resolver.Settings.{Settings}
 use Rattle.gs_http.specs.ConnectedSupport.{Begins, NothingLeft, Reads}
 use Rattle.gs_http.specs.Heads.{Asked}
 use Rattle.gs_http.specs.Replies.{reply_of}

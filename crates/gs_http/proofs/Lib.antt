@@ -1,5 +1,6 @@
+pub mod DocumentLemmas
 pub mod Scans
-pub mod AcceptLemmas
+pub mod SaidLemmas
 pub mod Ranges
 pub mod ChoiceLemmas
 pub mod Decisions

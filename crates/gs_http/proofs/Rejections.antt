@@ -8,7 +8,7 @@ use Rattle.gs_links.specs.declared.link.Link.{Link}
 use Rattle.httparse.specs.Grammar.{RequestHead}
 use Rattle.httparse.proofs.GrammarLemmas.{request_unique}
 use Rattle.gs_http.specs.declared.replies.Reply.{Reply}
-use Rattle.gs_http.specs.declared.settings.Settings.{Settings}
+use Rattle.gs_http.specs.declared.resolver.Settings.{Settings}
 use Rattle.gs_http.specs.Heads.{Asked, IsAsked, IsWhole, asked_of, is_rejected}
 use Rattle.gs_http.specs.Replies.{IsReply, reply_of}
 

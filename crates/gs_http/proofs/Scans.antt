@@ -58,15 +58,6 @@ whole_text (c ∷ text) (suc n) e = ap (λ rest. c ∷ rest) (whole_text text n 
 
 -- the part before the first byte that separates, and those after it
 module _ (p : ℕ → Bool) (test : List ℕ → Bool) (text : List ℕ) (n : ℕ) (place : n ≡ position_or_len p text) where
-  pub part_here : n ≤ length text → test (take n text) ≡ true → list_any test (slice_split p text) ≡ true
-  part_here within passes = elim (cases_lt n (length text)) [
-    | inl low ↦ rw (split_goes p text n place low, passes) refl
-    | inr high ↦
-        let same : n ≡ length text = omega arith in
-        let here = rw (whole_text text n same) at passes in
-        rw (split_ends p text (sym place ∙ same), here) refl
-  ]
-
   pub part_found : n ≤ length text → test (take n text) ≡ true → find test (slice_split p text) ≡ Some (take n text)
   part_found within passes = elim (cases_lt n (length text)) [
     | inl low ↦ rw (split_goes p text n place low, passes) refl
@@ -76,16 +67,8 @@ module _ (p : ℕ → Bool) (test : List ℕ → Bool) (text : List ℕ) (n : �
         rw (split_ends p text (sym place ∙ same), here, whole_text text n same) refl
   ]
 
-  pub part_next : n < length text → test (take n text) ≡ false → list_any test (slice_split p text) ≡ list_any test (slice_split p (drop (n + 1) text))
-  part_next low fails = rw (split_goes p text n place low, fails) refl
-
   pub part_passed : n < length text → test (take n text) ≡ false → find test (slice_split p text) ≡ find test (slice_split p (drop (n + 1) text))
   part_passed low fails = rw (split_goes p text n place low, fails) refl
-
-  pub part_last : n ≡ length text → test (take n text) ≡ false → list_any test (slice_split p text) ≡ false
-  part_last same fails =
-      let here = rw (whole_text text n same) at fails in
-      rw (split_ends p text (sym place ∙ same), here) refl
 
   pub none_found : n ≡ length text → test (take n text) ≡ false → find test (slice_split p text) ≡ None
   none_found same fails =

@@ -4,7 +4,7 @@ use Rattle.gs_ai.specs.declared.row.AiRow.{AiRow}
 use Rattle.gs_chars.proofs.TruthsAndLists.{or_first, or_second}
 use Rattle.gs_links.specs.declared.link.Link.{Link}
 use Rattle.gs_http.specs.declared.replies.Reply.{Reply}
-use Rattle.gs_http.specs.declared.settings.Settings.{Settings}
+use Rattle.gs_http.specs.declared.resolver.Settings.{Settings}
 use Rattle.gs_http.specs.Heads.{Asked}
 use Rattle.gs_http.specs.Replies.{reply_of}
 use Rattle.gs_http.specs.Streams.{AreReplies, IsReplyTo, all_bytes, bytes_of, has_closing, replies_of}

@@ -3,8 +3,8 @@
 use Rattle.std.specs.Prelude.{ℕ, if◌then◌else◌, List, [], ◌∷◌, codes, Option, Some, None}
 use Rattle.std.specs.List.{before_first, filter_map, flat_map, slice_split}
 use Rattle.httparse.specs.Grammar.{trim_ows}
-use Rattle.gs_http_documents.specs.declared.forms.LinksetForm.{LinksetForm}
-use Rattle.gs_http_documents.specs.declared.forms.LinksetForm.TheVariants.{Json, Text}
+use Rattle.gs_http.specs.declared.documents.LinksetForm.{LinksetForm}
+use Rattle.gs_http.specs.declared.documents.LinksetForm.TheVariants.{Json, Text}
 use Rattle.gs_http.specs.Fields.{is_comma, is_semicolon, is_word}
 
 -- trusted, RFC 9264, sections 4.1 and 4.2: the form of a linkset that a media type names, case-insensitively

@@ -19,11 +19,11 @@ use Rattle.gs_links.specs.Loads.{is_path}
 use Rattle.gs_links.specs.declared.link.Link.{Link}
 use Rattle.gs_links.specs.declared.link.Want.{Want}
 use Rattle.gs_links.specs.declared.link.Want.TheVariants.{All, Relation as RelationOf}
-use Rattle.gs_http_documents.specs.Forms.{rendered_as}
-use Rattle.gs_http_documents.specs.References.{document_for, reference_for}
-use Rattle.gs_http_documents.specs.declared.forms.LinksetForm.{LinksetForm}
-use Rattle.gs_http_documents.specs.declared.forms.Rendered.{Rendered}
-use Rattle.gs_http.specs.declared.settings.Settings.{Settings}
+use Rattle.gs_http.specs.Forms.{rendered_as}
+use Rattle.gs_http.specs.References.{document_for, reference_for}
+use Rattle.gs_http.specs.declared.documents.LinksetForm.{LinksetForm}
+use Rattle.gs_http.specs.declared.documents.Rendered.{Rendered}
+use Rattle.gs_http.specs.declared.resolver.Settings.{Settings}
 use Rattle.gs_http.specs.Heads.{Asked}
 use Rattle.gs_http.specs.LanguageRanges.{accepted_ranges}
 use Rattle.gs_http.specs.Wishes.{Wish, for_linkset, for_relation, wish_of}

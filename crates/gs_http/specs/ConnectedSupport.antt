@@ -1,12 +1,12 @@
 -- Definitions for proofs and private functions, in addition to Connected.antt.
 use Rattle.std.specs.Prelude.{◌≡◌, ◌≢◌, ◌<◌, ◌≤◌, ◌⊎◌, ⊤, ℕ, List, [], ◌++◌, length, take, Option, Some, None, IfSome}
 use Rattle.gs_port.specs.Contents.{append_known, prepend_known}
-use Rattle.gs_http.specs.declared.next_head.Filled.{Filled}
-use Rattle.gs_http.specs.declared.next_head.Filled.TheVariants.{Ended, Head, Headless, Failed, Memory}
-use Rattle.gs_http.specs.declared.more_bytes.More.{More}
-use Rattle.gs_http.specs.declared.more_bytes.More.TheVariants.{Got, End, NotRead, NoRoom}
-use Rattle.gs_http.specs.declared.output.Sent.{Sent}
-use Rattle.gs_http.specs.declared.output.Sent.TheVariants as sent
+use Rattle.gs_http.specs.declared.buffer.Filled.{Filled}
+use Rattle.gs_http.specs.declared.buffer.Filled.TheVariants.{Ended, Head, Headless, Failed, Memory}
+use Rattle.gs_http.specs.declared.buffer.More.{More}
+use Rattle.gs_http.specs.declared.buffer.More.TheVariants.{Got, End, NotRead, NoRoom}
+use Rattle.gs_http.specs.declared.connection.Sent.{Sent}
+use Rattle.gs_http.specs.declared.connection.Sent.TheVariants as sent
 use Rattle.gs_http.specs.Streams.{head_end}
 use Rattle.gs_port.specs.Counts.{counted}
 

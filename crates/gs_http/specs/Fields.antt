@@ -3,8 +3,8 @@ use Rattle.std.specs.Prelude.{ℕ, ◌==◌, ◌&&◌, not, Bool, List, map, cod
 use Rattle.std.specs.Char.{to_ascii_lowercase}
 use Rattle.std.specs.List.{list_any, slice_split}
 use Rattle.httparse.specs.Grammar.{trim_ows}
-use Rattle.gs_http.specs.declared.sign.Sign.{Sign}
-use Rattle.gs_http.specs.declared.sign.Sign.TheVariants.{Encoded, Sized, Closes}
+use Rattle.gs_http.specs.declared.fields.Sign.{Sign}
+use Rattle.gs_http.specs.declared.fields.Sign.TheVariants.{Encoded, Sized, Closes}
 
 -- trusted, RFC 9110, section 5.1: the text is the word, which has no capital letters, case-insensitively
 abbrev pub is_word : List ℕ → List ℕ → Bool

@@ -4,7 +4,7 @@ use Rattle.std.specs.Prelude.{◌≡◌, ◌≤◌, ℕ, ◌==◌, ◌&&◌, ◌
 use Rattle.std.specs.List.{list_any, zip}
 use Rattle.httparse.specs.Grammar.{ReadsRequest, RequestHead}
 use Rattle.httparse.specs.Spans.{name_and_value}
-use Rattle.gs_http.specs.declared.sign.Sign.TheVariants.{Encoded, Sized}
+use Rattle.gs_http.specs.declared.fields.Sign.TheVariants.{Encoded, Sized}
 use Rattle.gs_http.specs.Fields.{is_shown}
 
 -- trusted, RFC 9112, section 3: the contents of a request: its method, its target, the minor version of HTTP/1, and the names

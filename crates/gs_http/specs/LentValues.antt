@@ -1,11 +1,13 @@
 -- The meanings of the values that this crate makes and lends.
-use Rattle.std.specs.Prelude.{◌≡◌, ℕ, List, map}
+use Rattle.std.specs.Prelude.{◌≡◌, ⊤, ℕ, List, map, Result, Ok, Err}
 use Rattle.httparse.specs.Grammar.{RequestHead}
 use Rattle.httparse.specs.Spans.{IsRequestAt, header_bytes}
 use Rattle.httparse.specs.declared.spans.HeaderSpan.{HeaderSpan}
 use Rattle.httparse.specs.declared.spans.RequestSpans.{RequestSpans}
 use Rattle.gs_http.specs.declared.answer.Answer.{Answer as Lent}
 use Rattle.gs_http.specs.declared.answer.Answer.TheVariants.{Description, Linkset, Choices, Redirect, BadRequest, NotFound, NotAllowed}
+use Rattle.gs_http.specs.declared.answer.RequestFault.{RequestFault}
+use Rattle.gs_http.specs.declared.answer.RequestFault.TheVariants as fault
 use Rattle.gs_http.specs.declared.wishes.RelationName.{RelationName}
 use Rattle.gs_http.specs.declared.wishes.RelationName.TheVariants.{Made, Lent as LentName}
 use Rattle.gs_http.specs.declared.wishes.Wish.{Wish as LentWish}
@@ -14,7 +16,7 @@ use Rattle.gs_http.specs.declared.request.Request.{Request}
 use Rattle.gs_http.specs.Answers.{Answer, described, linkset, choices, redirect, bad_request, not_found, not_allowed}
 use Rattle.gs_http.specs.Heads.{Asked, asked_of}
 use Rattle.gs_http.specs.Wishes.{Wish, for_linkset, for_relation}
-use Rattle.gs_http_documents.specs.References.{reference_of}
+use Rattle.gs_http.specs.References.{reference_of}
 
 -- the contents of the request that this crate lends
 abbrev pub asked_by : Request → Asked
@@ -33,6 +35,18 @@ said (Redirect reference) = redirect (reference_of reference)
 said BadRequest = bad_request
 said NotFound = not_found
 said NotAllowed = not_allowed
+
+-- the answer is that to a request with this fault; any, if memory ran out
+abbrev pub Refuses : RequestFault → Answer → Type 0
+Refuses fault.BadRequest answer = answer ≡ bad_request
+Refuses fault.NotFound answer = answer ≡ not_found
+Refuses fault.NotAllowed answer = answer ≡ not_allowed
+Refuses fault.Memory answer = ⊤
+
+-- the result has this answer
+abbrev pub Gives : Result Lent RequestFault → Answer → Type 0
+Gives (Ok lent) answer = said lent ≡ answer
+Gives (Err refused) answer = Refuses refused answer
 
 -- the bytes of a name that was made or is lent
 abbrev pub name_of : RelationName → List ℕ

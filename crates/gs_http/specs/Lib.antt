@@ -1,3 +1,5 @@
+pub mod References
+pub mod Forms
 pub mod Sites
 pub mod Fields
 pub mod Heads
@@ -11,5 +13,7 @@ pub mod ConnectionReads
 pub mod ConnectedSupport
 pub mod ServedStreams
 pub mod Untouched
+pub mod SaidFields
 pub mod LentValues
+pub mod Lookups
 pub mod Turns

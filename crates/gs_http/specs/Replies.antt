@@ -4,10 +4,10 @@ use Rattle.std.specs.Prelude.{◌≡◌, ℕ, ◌==◌, ◌||◌, Bool, true, fa
 use Rattle.gs_ai.specs.declared.row.AiRow.{AiRow}
 use Rattle.gs_links.specs.declared.link.Link.{Link}
 use Rattle.gs_http.specs.declared.replies.Reply.{Reply}
-use Rattle.gs_http.specs.declared.settings.Settings.{Settings}
-use Rattle.gs_http.specs.declared.sign.Sign.TheVariants.{Closes}
-use Rattle.gs_http_documents.specs.declared.forms.LinksetForm.{LinksetForm}
-use Rattle.gs_http_documents.specs.declared.forms.LinksetForm.TheVariants.{Json, Text}
+use Rattle.gs_http.specs.declared.resolver.Settings.{Settings}
+use Rattle.gs_http.specs.declared.fields.Sign.TheVariants.{Closes}
+use Rattle.gs_http.specs.declared.documents.LinksetForm.{LinksetForm}
+use Rattle.gs_http.specs.declared.documents.LinksetForm.TheVariants.{Json, Text}
 use Rattle.gs_http.specs.Answers.{Answer, described, linkset, choices, redirect, bad_request, not_found, not_allowed, answer_of, is_head}
 use Rattle.gs_http.specs.Fields.{is_shown}
 use Rattle.gs_http.specs.Heads.{Asked, IsAsked}

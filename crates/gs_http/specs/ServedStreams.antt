@@ -4,10 +4,10 @@ use Rattle.gs_ai.specs.declared.row.AiRow.{AiRow}
 use Rattle.gs_links.specs.declared.link.Link.{Link}
 use Rattle.gs_port.specs.Contents.{append_known, prepend_known}
 use Rattle.gs_port.specs.Counts.{counted}
-use Rattle.gs_http.specs.declared.outcomes.Served.{Served}
-use Rattle.gs_http.specs.declared.outcomes.Served.TheVariants.{Done, ReadFault, WriteFault, Memory}
+use Rattle.gs_http.specs.declared.connection.Served.{Served}
+use Rattle.gs_http.specs.declared.connection.Served.TheVariants.{Done, ReadFault, WriteFault, Memory}
 use Rattle.gs_http.specs.declared.replies.Reply.{Reply}
-use Rattle.gs_http.specs.declared.settings.Settings.{Settings}
+use Rattle.gs_http.specs.declared.resolver.Settings.{Settings}
 use Rattle.gs_chars.specs.Answers.{BeginsWith}
 use Rattle.gs_http.specs.Streams.{AreReplies, all_bytes, bytes_of, has_closing, heads_of, replies_of}
 

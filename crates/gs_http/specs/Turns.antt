@@ -3,13 +3,13 @@ use Rattle.std.specs.Prelude.{◌≡◌, ◌≤◌, ⊤, ℕ, Bool, true, false,
 use Rattle.gs_ai.specs.declared.row.AiRow.{AiRow}
 use Rattle.gs_links.specs.declared.link.Link.{Link}
 use Rattle.gs_port.specs.Contents.{append_known}
-use Rattle.gs_http.specs.declared.next_head.Filled.{Filled}
-use Rattle.gs_http.specs.declared.next_head.Filled.TheVariants as filled
+use Rattle.gs_http.specs.declared.buffer.Filled.{Filled}
+use Rattle.gs_http.specs.declared.buffer.Filled.TheVariants as filled
 use Rattle.gs_http.specs.declared.replies.Reply.{Reply}
-use Rattle.gs_http.specs.declared.outcomes.Served.TheVariants.{Done, ReadFault, WriteFault, Memory}
-use Rattle.gs_http.specs.declared.outcomes.Turn.{Turn}
-use Rattle.gs_http.specs.declared.outcomes.Turn.TheVariants.{Stays, Over}
-use Rattle.gs_http.specs.declared.settings.Settings.{Settings}
+use Rattle.gs_http.specs.declared.connection.Served.TheVariants.{Done, ReadFault, WriteFault, Memory}
+use Rattle.gs_http.specs.declared.connection.Turn.{Turn}
+use Rattle.gs_http.specs.declared.connection.Turn.TheVariants.{Stays, Over}
+use Rattle.gs_http.specs.declared.resolver.Settings.{Settings}
 use Rattle.gs_http.specs.ConnectedSupport.{Begins, Reads}
 use Rattle.gs_http.specs.ServedStreams.{reads_when, writes_when}
 use Rattle.gs_http.specs.Streams.{IsReplyTo}

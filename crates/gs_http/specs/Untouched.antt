@@ -3,7 +3,7 @@
 use Rattle.std.specs.Prelude.{◌≡◌, ◌≤◌, ℕ, Bool, true, List, Option}
 use Rattle.std.specs.Borrow.{GName}
 use Rattle.gs_port.specs.Connections.{Aside}
-use Rattle.gs_http.specs.declared.outcomes.Turn.{Turn}
+use Rattle.gs_http.specs.declared.connection.Turn.{Turn}
 use Rattle.gs_http.specs.Turns.{reads_at, writes_at}
 
 -- the connection is open, and the state that reads and writes preserve is unchanged

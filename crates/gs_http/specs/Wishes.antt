@@ -4,8 +4,8 @@ use Rattle.std.specs.List.{after_first, before_first, find, slice_split}
 use Rattle.percent_encoding.specs.Percent.{percent_decode}
 use Rattle.gs_chars.specs.Characters.{is_byte}
 use Rattle.gs_dlink.specs.Uris.{query_of, separates_parts}
-use Rattle.gs_http_documents.specs.declared.forms.LinksetForm.{LinksetForm}
-use Rattle.gs_http_documents.specs.declared.forms.LinksetForm.TheVariants.{Json}
+use Rattle.gs_http.specs.declared.documents.LinksetForm.{LinksetForm}
+use Rattle.gs_http.specs.declared.documents.LinksetForm.TheVariants.{Json}
 use Rattle.gs_links.specs.Loads.{expanded}
 use Rattle.gs_http.specs.AcceptedForms.{accepted_form}
 use Rattle.gs_http.specs.Heads.{Asked}

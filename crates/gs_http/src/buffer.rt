@@ -1,12 +1,71 @@
-ghost use Rattle.std.specs.Prelude.{◌≡◌, ◌≤◌, ◌<◌, ◌+◌, [], true, drop, length};
-ghost use Rattle.gs_http.specs.ConnectedSupport.{Comes, Reads, reads_with};
+ghost use Rattle.std.specs.Prelude.{◌≡◌, ◌≤◌, ◌<◌, ◌+◌, [], true, drop, length, ◌^◌, ℕ, List, None, Option, take};
+ghost use Rattle.std.specs.Prelude.{IfSome};
+ghost use Rattle.gs_http.specs.ConnectedSupport.{Comes, Reads, reads_with, Begins, NothingLeft, reads_after};
 ghost use Rattle.gs_http.specs.Untouched.{IsUnwritten, StaysOpen};
+ghost use Rattle.gs_http.specs.Streams.{head_end};
 
-use crate::more_bytes::{More, read_more};
-use crate::output::drop_front;
-use gs_port::Conn;
+use gs_port::{Conn, ReadAnswer};
+use memchr::memmem;
 use std::alloc::Global;
 use std::marker::Model;
+
+/// The most bytes of a head.
+const LONGEST: usize = 8192;
+
+/// Room for the most bytes that one read moves.
+static BLOCK: [u8; 4096] = [0; 4096];
+
+/// The result of a read.
+#[derive(Clone, Copy)]
+enum More {
+    /// Bytes.
+    Got,
+    /// Nothing is left.
+    End,
+    /// The read failed.
+    NotRead,
+    /// Out of memory; nothing was read.
+    NoRoom,
+}
+
+/// Moves the next bytes of the connection after those that were read, at most 4,096 of them.
+fn read_more<C: Conn>(conn: &mut C, bytes: &mut Vec<u8>) -> More
+    requires current { C.is_open conn.old ≡ true }
+    requires few { length bytes.old.items < 8192 }
+    ensures reads { Reads bytes.old.items bytes.new.items (C.left conn.old) (C.left conn.new)
+        (C.taken conn.old) (C.taken conn.new) }
+    ensures comes { Comes result bytes.old.items bytes.new.items (C.left conn.new) }
+    ensures few { length bytes.new.items ≤ length bytes.old.items + 4096 }
+    ensures count { C.reads conn.new ≡ reads_with result (C.reads conn.old) }
+    ensures counts { C.reads conn.old ≤ C.reads conn.new }
+    ensures unwritten { IsUnwritten C.held C.writes conn.old conn.new }
+    ensures stays_open { StaysOpen C.is_open C.aside C.ends conn.old conn.new }
+{
+    let len = bytes.len();
+    let Ok(()) = bytes.extend_from_slice(&BLOCK) else {
+        return More::NoRoom;
+    };
+    match conn.read(&mut bytes.as_mut_slice()[len..]) {
+        ReadAnswer::Failed => {
+            bytes.truncate(len);
+            More::NotRead
+        }
+        ReadAnswer::Got(moved) => {
+            bytes.truncate(len + moved);
+            if moved == 0 { More::End } else { More::Got }
+        }
+    }
+}
+
+/// Drops the first bytes.
+fn drop_front(bytes: &mut Vec<u8>, len: usize)
+    requires { len ≤ length bytes.old.items }
+    ensures { bytes.new.items ≡ drop len bytes.old.items }
+{
+    let rest = bytes.len() - len;
+    bytes.copy_within(len.., 0);
+    bytes.truncate(rest);
+}
 
 /// The bytes that were read from a connection. Contracts see those that are still held. They are moved only before more is read,
 /// and not for each head.
@@ -61,7 +120,7 @@ impl Buffer {
     }
 
     /// Moves the next bytes of a connection after these, at most 4,096 of them.
-    pub(crate) fn read_more<C: Conn>(&mut self, conn: &mut C) -> More
+    fn read_more<C: Conn>(&mut self, conn: &mut C) -> More
         requires current { C.is_open conn.old ≡ true }
         requires few { length self.old < 8192 }
         ensures reads { Reads self.old self.new (C.left conn.old) (C.left conn.new)
@@ -76,5 +135,82 @@ impl Buffer {
         drop_front(&mut self.bytes, self.gone);
         self.gone = 0;
         read_more(conn, &mut self.bytes)
+    }
+}
+
+/// The start of the bytes that were read of a connection.
+#[derive(Clone, Copy)]
+pub(crate) enum Filled {
+    /// There are none, and nothing is left.
+    Ended,
+    /// A head of this length.
+    Head(usize),
+    /// No head, whatever follows.
+    Headless,
+    /// A read failed before the end of a head came.
+    Failed,
+    /// Out of memory.
+    Memory,
+}
+
+/// Returns the place after the first empty line.
+#[tactic(auto, using(crate::proofs::Fronts::finds))]
+fn head_end(text: &[u8]) -> Option<usize>
+    ensures end { result ≡ head_end text.now }
+    ensures within { IfSome result (λ end. end ≤ length text.now) }
+{
+    match memmem::find(text, b"\r\n\r\n") {
+        Some(place) => Some(place + 4),
+        None => None,
+    }
+}
+
+/// Returns the length of the head with which the bytes begin.
+fn head_len(bytes: &[u8]) -> Option<usize>
+    ensures len { result ≡ head_end (take 8192 bytes.now) }
+    ensures within { IfSome result (λ len. len ≤ length bytes.now) }
+{
+    head_end(&bytes[..bytes.len().min(LONGEST)])
+}
+
+/// Classifies the bytes if nothing is left after them and they do not begin with a head.
+fn at_end(bytes: &[u8]) -> Filled
+    requires { head_end (take 8192 bytes.now) ≡ None }
+    ensures begins { (left : Option (List ℕ)) → NothingLeft left → Begins result bytes.now left }
+    ensures count { (count : ℕ) → reads_after result count ≡ count }
+{
+    if bytes.is_empty() {
+        Filled::Ended
+    } else {
+        Filled::Headless
+    }
+}
+
+/// Reads until the bytes begin with a head, or none can follow. Reads nothing if they already begin with one.
+pub(crate) fn fill<C: Conn>(conn: &mut C, bytes: &mut Buffer) -> Filled
+    requires current { C.is_open conn.old ≡ true }
+    requires few { length bytes.old ≤ 12287 }
+    ensures reads { Reads bytes.old bytes.new (C.left conn.old) (C.left conn.new)
+        (C.taken conn.old) (C.taken conn.new) }
+    ensures begins { Begins result bytes.new (C.left conn.new) }
+    ensures few { length bytes.new ≤ 12287 }
+    ensures count { C.reads conn.new ≡ reads_after result (C.reads conn.old) }
+    ensures counts { C.reads conn.old ≤ C.reads conn.new }
+    ensures unwritten { IsUnwritten C.held C.writes conn.old conn.new }
+    ensures stays_open { StaysOpen C.is_open C.aside C.ends conn.old conn.new }
+{
+    'filling: loop {
+        if let Some(len) = head_len(bytes.as_slice()) {
+            return Filled::Head(len);
+        }
+        if LONGEST <= bytes.len() {
+            return Filled::Headless;
+        }
+        match bytes.read_more(conn) {
+            More::Got => {}
+            More::End => return at_end(bytes.as_slice()),
+            More::NotRead => return Filled::Failed,
+            More::NoRoom => return Filled::Memory,
+        }
     }
 }

@@ -1,20 +1,174 @@
-ghost use Rattle.std.specs.Prelude.{◌≡◌, ◌-◌, ◌<◌, ◌≤◌, ◌==◌, length, true, vec_len};
+ghost use Rattle.std.specs.Prelude.{◌≡◌, ◌-◌, ◌<◌, ◌≤◌, ◌==◌, length, true, vec_len, Bool, List, None, Some, take};
 ghost use Rattle.gs_http.specs.ServedStreams.{IsServed, reads_when, writes_when};
 ghost use Rattle.gs_http.specs.Sites.{room_for};
+ghost use Rattle.gs_ai.specs.declared.row.AiRow.{AiRow};
+ghost use Rattle.gs_links.specs.declared.link.Link.{Link};
+ghost use Rattle.gs_http.specs.declared.resolver.Settings.{Settings as How};
+ghost use Rattle.gs_http.specs.Turns.{Answered, Delivers, LetsGo, Turned};
+ghost use Rattle.gs_http.specs.Untouched.{CountsTurn, IsUnread, StaysOpen};
+ghost use Rattle.gs_http.specs.ConnectionReads.{Writes};
+ghost use Rattle.gs_http.specs.ConnectedSupport.{writes_after};
 
-use crate::buffer::Buffer;
-use crate::outcomes::{Served, Turn};
-use crate::resolver::Resolver;
-use crate::settings::Settings;
-use crate::site::Site;
-use crate::turns::answer_next;
+use crate::buffer::{Buffer, Filled, fill};
+use crate::head_reply::{rejection, reply_with};
+use crate::replies::Reply;
+use crate::resolver::{Resolver, Settings, Site};
 use gs_ai::AiTable;
 use gs_links::Store;
-use gs_port::Conn;
+use gs_port::{Conn, WriteAnswer};
 use std::alloc::Global;
 
 /// The most replies that are made of a connection.
 const MOST: usize = 1000;
+
+/// How serving a connection ended.
+#[derive(Clone, Copy, Debug, PartialEq, Eq)]
+pub enum Served {
+    /// All was answered: up to the end of the stream, or to a reply that ends the connection.
+    Done,
+    /// A read failed, and was counted.
+    ReadFault,
+    /// A write failed, and was counted.
+    WriteFault,
+    /// Out of memory.
+    Memory,
+}
+
+/// How a turn of serving a connection ended.
+#[derive(Clone, Copy)]
+enum Turn {
+    /// A head was answered, and the connection stays.
+    Stays,
+    /// Nothing more is done with the connection.
+    Over(Served),
+}
+
+/// How writing bytes whole ended.
+#[derive(Clone, Copy)]
+enum Sent {
+    /// All bytes were written.
+    Done,
+    /// A write failed. A prefix of the bytes was written.
+    Failed,
+    /// Out of memory. A prefix of the bytes was written.
+    Memory,
+}
+
+/// Writes all the bytes, in as many pieces as the connection takes.
+fn send<C: Conn>(conn: &mut C, bytes: &[u8]) -> Sent
+    requires current { C.is_open conn.old ≡ true }
+    ensures writes { Writes result bytes.now (C.held conn.old) (C.held conn.new) }
+    ensures count { C.writes conn.new ≡ writes_after result (C.writes conn.old) }
+    ensures counts { C.writes conn.old ≤ C.writes conn.new }
+    ensures unread { IsUnread C.left C.taken conn.old conn.new }
+    ensures same_reads { C.reads conn.new ≡ C.reads conn.old }
+    ensures stays_open { StaysOpen C.is_open C.aside C.ends conn.old conn.new }
+{
+    let mut done = 0;
+    while done < bytes.len() {
+        match conn.write(&bytes[done..]) {
+            WriteAnswer::Took(taken) => done += taken,
+            WriteAnswer::Failed => return Sent::Failed,
+            WriteAnswer::Memory => return Sent::Memory,
+        }
+    }
+    Sent::Done
+}
+
+/// Writes a reply.
+fn deliver<C: Conn>(conn: &mut C, reply: &Reply) -> Turn
+    requires current { C.is_open conn.old ≡ true }
+    ensures delivers { Delivers result reply.now (C.held conn.old) (C.held conn.new) }
+    ensures counts { CountsTurn result C.reads C.writes conn.old conn.new }
+    ensures unread { IsUnread C.left C.taken conn.old conn.new }
+    ensures stays_open { StaysOpen C.is_open C.aside C.ends conn.old conn.new }
+{
+    match send(conn, reply.bytes.as_bytes()) {
+        Sent::Failed => return Turn::Over(Served::WriteFault),
+        Sent::Memory => return Turn::Over(Served::Memory),
+        Sent::Done => {}
+    }
+    if reply.close {
+        Turn::Over(Served::Done)
+    } else {
+        Turn::Stays
+    }
+}
+
+/// Answers bytes that are not a head, whatever follows.
+fn reject<C: Conn>(alloc: Global, conn: &mut C) -> Turn
+    requires current { C.is_open conn.old ≡ true }
+    ensures answered { (table : List AiRow) (links : List Link) (settings : How) (last : Bool)
+        → Answered table links settings result None last (C.held conn.old) (C.held conn.new) }
+    ensures counts { CountsTurn result C.reads C.writes conn.old conn.new }
+    ensures unread { IsUnread C.left C.taken conn.old conn.new }
+    ensures stays_open { StaysOpen C.is_open C.aside C.ends conn.old conn.new }
+{
+    match rejection(alloc) {
+        Ok(reply) => deliver(conn, &reply),
+        Err(_) => Turn::Over(Served::Memory),
+    }
+}
+
+/// Answers the head with which the bytes begin, in place, and lets go of it if the connection stays open.
+fn answer_head<C: Conn>(
+    alloc: Global,
+    conn: &mut C,
+    resolver: &Resolver<'_>,
+    room: &mut [u32],
+    bytes: &mut Buffer,
+    len: usize,
+    last: bool,
+) -> Turn
+    requires current { C.is_open conn.old ≡ true }
+    requires room { room_for resolver.now.links ≤ length room.old }
+    requires within { len ≤ length bytes.old }
+    ensures answered { Answered resolver.now.table resolver.now.links resolver.now.settings result
+        (Some (take len bytes.old)) last (C.held conn.old) (C.held conn.new) }
+    ensures lets_go { LetsGo result len bytes.old bytes.new }
+    ensures counts { CountsTurn result C.reads C.writes conn.old conn.new }
+    ensures unread { IsUnread C.left C.taken conn.old conn.new }
+    ensures stays_open { StaysOpen C.is_open C.aside C.ends conn.old conn.new }
+{
+    let head = &bytes.as_slice()[..len];
+    let Ok(reply) = reply_with(alloc, resolver, room, head, last) else {
+        return Turn::Over(Served::Memory);
+    };
+    match deliver(conn, &reply) {
+        Turn::Over(served) => Turn::Over(served),
+        Turn::Stays => {
+            bytes.let_go(len);
+            Turn::Stays
+        }
+    }
+}
+
+/// Reads up to the end of a head and replies to it.
+fn answer_next<C: Conn>(
+    alloc: Global,
+    conn: &mut C,
+    resolver: &Resolver<'_>,
+    room: &mut [u32],
+    bytes: &mut Buffer,
+    last: bool,
+) -> Turn
+    requires current { C.is_open conn.old ≡ true }
+    requires room { room_for resolver.now.links ≤ length room.old }
+    requires few { length bytes.old ≤ 12287 }
+    ensures turned { Turned resolver.now.table resolver.now.links resolver.now.settings result last
+        bytes.old bytes.new (C.left conn.old) (C.left conn.new) (C.taken conn.old) (C.taken conn.new)
+        (C.held conn.old) (C.held conn.new) }
+    ensures counts { CountsTurn result C.reads C.writes conn.old conn.new }
+    ensures stays_open { StaysOpen C.is_open C.aside C.ends conn.old conn.new }
+{
+    match fill(conn, bytes) {
+        Filled::Ended => Turn::Over(Served::Done),
+        Filled::Failed => Turn::Over(Served::ReadFault),
+        Filled::Memory => Turn::Over(Served::Memory),
+        Filled::Headless => reject(alloc, conn),
+        Filled::Head(len) => answer_head(alloc, conn, resolver, room, bytes, len, last),
+    }
+}
 
 /// Returns whether the reply of a turn is the last that may come.
 fn is_last(turn: usize) -> bool

@@ -1,16 +1,12 @@
-ghost use Rattle.std.specs.Prelude.{◌≡◌, length, map, reverse};
+ghost use Rattle.std.specs.Prelude.{◌≡◌, map, reverse};
 ghost use Rattle.std.specs.Char.{to_ascii_lowercase};
+ghost use Rattle.std.specs.Iterator.{YieldsFirstRef, item_count};
 ghost use Rattle.std.specs.List.{list_any, slice_split};
 ghost use Rattle.httparse.specs.Grammar.{is_ows, skip_ows, trim_ows};
-ghost use Rattle.httparse.specs.Spans.{IsHeaderWithin, header_bytes};
-ghost use Rattle.gs_http.specs.Fields.{has_close, is_close, is_shown, is_word, shows};
-ghost use Rattle.gs_http.specs.LentValues.{asked_by};
+ghost use Rattle.gs_http.specs.Fields.{has_close, is_close, is_comma, is_word};
+ghost use Rattle.gs_http.specs.SaidFields.{members_left};
 
-use crate::cuts::after;
-use crate::request::Request;
-use crate::sign::Sign;
 use gs_chars::place_of;
-use httparse::spans::HeaderSpan;
 
 /// Returns whether the text is the word, which has no capital letters, case-insensitively.
 pub(crate) fn is_word(text: &[u8], word: &[u8]) -> bool
@@ -68,50 +64,55 @@ fn is_close(part: &[u8]) -> bool
     is_word(trimmed(part), b"close")
 }
 
-/// Returns whether one of the parts between commas is the word `close`.
-fn has_close(value: &[u8]) -> bool
+/// A fact that a field shows and that matters to the reply.
+#[derive(Clone, Copy)]
+pub(crate) enum Sign {
+    /// That the message body has a transfer coding.
+    Encoded,
+    /// That the message body has a length that is not written `0`.
+    Sized,
+    /// That the connection ends: `close` among the parts of a field `Connection`.
+    Closes,
+}
+
+/// The members of a list-valued field (RFC 9110, section 5.6.1): the parts of its value between commas.
+#[derive(Drop)]
+pub(crate) struct Members<'a> {
+    /// The part of the value from the next member on.
+    rest: Option<&'a [u8]>,
+}
+
+impl<'a> Members<'a> {
+    /// Returns the members of a value.
+    pub(crate) fn of(value: &'a [u8]) -> Members<'a>
+        ensures { members_left result ≡ slice_split is_comma value.now }
+    {
+        Members { rest: Some(value) }
+    }
+}
+
+impl<'a> Iterator for Members<'a> {
+    type Item = &'a [u8];
+
+    ghost next_gives = { YieldsFirstRef members_left };
+
+    ghost remaining = { item_count members_left };
+
+    fn next(&mut self) -> Option<&'a [u8]> {
+        let rest = self.rest?;
+        let end = place_of(rest, b',');
+        if end == rest.len() {
+            self.rest = None;
+            return Some(rest);
+        }
+        self.rest = Some(&rest[end + 1..]);
+        Some(&rest[..end])
+    }
+}
+
+/// Returns whether one of the members is the word `close`.
+pub(crate) fn has_close(value: &[u8]) -> bool
     ensures { result ≡ has_close value.now }
 {
-    let mut rest = value;
-    loop {
-        let end = place_of(rest, b',');
-        if is_close(&rest[..end]) {
-            return true;
-        }
-        if end == rest.len() {
-            return false;
-        }
-        rest = after(rest, end);
-    }
-}
-
-/// Returns whether a field of this name and value shows the sign.
-fn shows(name: &[u8], value: &[u8], sign: Sign) -> bool
-    ensures { result ≡ shows sign (name.now, value.now) }
-{
-    match sign {
-        Sign::Encoded => is_word(name, b"transfer-encoding"),
-        Sign::Sized => is_word(name, b"content-length") && value != b"0".as_slice(),
-        Sign::Closes => is_word(name, b"connection") && has_close(value),
-    }
-}
-
-/// Returns whether the field at these spans shows the sign.
-fn shows_at(head: &[u8], field: &HeaderSpan, sign: Sign) -> bool
-    requires { IsHeaderWithin (length head.now) field.now }
-    ensures { result ≡ shows sign (header_bytes head.now field.now) }
-{
-    shows(field.name.of(head), field.value.of(head), sign)
-}
-
-/// Returns whether some field of the request shows the sign.
-pub(crate) fn is_shown(request: &Request<'_>, sign: Sign) -> bool
-    ensures { result ≡ is_shown sign (asked_by request.now).fields }
-{
-    for field in request.fields {
-        if shows_at(request.head, field, sign) {
-            return true;
-        }
-    }
-    false
+    Members::of(value).any(|member| is_close(member))
 }

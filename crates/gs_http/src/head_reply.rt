@@ -1,22 +1,18 @@
 ghost use Rattle.std.specs.Prelude.{◌≡◌, ◌≤◌, Bool, List, None, Some, IfOk, length};
 ghost use Rattle.gs_ai.specs.declared.row.AiRow.{AiRow};
 ghost use Rattle.gs_links.specs.declared.link.Link.{Link};
-ghost use Rattle.gs_http.specs.declared.settings.Settings.{Settings as How};
+ghost use Rattle.gs_http.specs.declared.resolver.Settings.{Settings as How};
 ghost use Rattle.gs_http.specs.LentValues.{asked_by};
 ghost use Rattle.gs_http.specs.Replies.{IsReply, closes, reply_of};
 ghost use Rattle.gs_http.specs.Sites.{room_for};
 
 use crate::answer::Answer;
-use crate::fields::is_shown;
+use crate::fields::Sign;
 use crate::heads::{MOST_FIELDS, is_rejected, request_at, whole_head};
-use crate::replies::Reply;
-use crate::reply_bytes::reply_bytes;
+use crate::replies::{Reply, reply_bytes};
 use crate::request::Request;
-use crate::resolver::Resolver;
+use crate::resolver::{Resolver, Settings, Site};
 use crate::routing::{answer_to, is_head};
-use crate::settings::Settings;
-use crate::sign::Sign;
-use crate::site::Site;
 use gs_ai::AiTable;
 use gs_chars::Memory;
 use gs_links::Store;
@@ -39,7 +35,7 @@ pub(crate) fn rejection(alloc: Global) -> Result<Reply, Memory>
 fn closes(last: bool, request: &Request<'_>) -> bool
     ensures { result ≡ closes last (asked_by request.now) }
 {
-    last || request.minor == 0 || is_shown(request, Sign::Closes)
+    last || request.minor == 0 || request.shows(Sign::Closes)
 }
 
 /// Returns the reply to a request.

@@ -4,9 +4,9 @@ ghost use Rattle.httparse.specs.Spans.{IsRequestAt, IsRequestWithin};
 ghost use Rattle.gs_http.specs.Heads.{IsWhole, has_bare_line_feed, is_bare_line_feed, is_rejected, most_fields};
 ghost use Rattle.gs_http.specs.LentValues.{SaysHead, asked_by};
 
-use crate::fields::is_shown;
+use crate::fields::Sign;
 use crate::request::Request;
-use crate::sign::Sign;
+use crate::said::Said;
 use httparse::Status;
 use httparse::spans::{HeaderSpan, RequestSpans, parse_request};
 
@@ -42,12 +42,14 @@ pub(crate) fn request_at<'a>(
     ensures says { SaysHead result head.now spans.now parts }
     ensures head { result.head.now ≡ head.now }
 {
+    let fields = &spans[..parts.headers];
     Request {
         method: parts.method.of(head),
         target: parts.path.of(head),
         minor: parts.version,
         head,
-        fields: &spans[..parts.headers],
+        fields,
+        said: Said::of(head, fields),
     }
 }
 
@@ -77,7 +79,5 @@ fn has_bare_line_feed(head: &[u8]) -> bool
 pub(crate) fn is_rejected(request: &Request<'_>) -> bool
     ensures { result ≡ is_rejected request.now.head.now (asked_by request.now).fields }
 {
-    has_bare_line_feed(request.head)
-        || is_shown(request, Sign::Encoded)
-        || is_shown(request, Sign::Sized)
+    has_bare_line_feed(request.head) || request.shows(Sign::Encoded) || request.shows(Sign::Sized)
 }

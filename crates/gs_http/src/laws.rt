@@ -4,7 +4,7 @@ ghost use Rattle.gs_links.specs.declared.link.Link.{Link};
 ghost use Rattle.gs_http.specs.Replies.{IsReply};
 ghost use Rattle.gs_http.specs.Streams.{IsReplies};
 ghost use Rattle.gs_http.specs.declared.replies.Reply.{Reply as Answered};
-ghost use Rattle.gs_http.specs.declared.settings.Settings.{Settings as How};
+ghost use Rattle.gs_http.specs.declared.resolver.Settings.{Settings as How};
 
 /// States that a head has exactly one reply, by any table, links and settings.
 pub fn one_reply()

@@ -2,13 +2,41 @@ ghost use Rattle.std.specs.Prelude.{◌≡◌, IfOk, vec_len};
 ghost use Rattle.gs_http.specs.Wishes.{default_relation};
 ghost use Rattle.gs_http.specs.Sites.{room_for};
 
-use crate::settings::Settings;
-use crate::site::Site;
 use gs_ai::AiTable;
 use gs_chars::{Memory, Text};
 use gs_links::{Store, expand};
 use std::alloc::Global;
 use std::marker::Model;
+
+/// How requests are answered.
+#[derive(Drop)]
+pub struct Settings {
+    /// The vocabulary that `gs1:` stands for in the relation of a request.
+    pub voc: Text,
+    /// The bytes of the resolver description file, if there is one.
+    pub describe: Option<Text>,
+    /// Whether references are templates, whose places the identity of a request fills.
+    pub templates: bool,
+}
+
+/// The data that requests are answered from.
+#[derive(Drop)]
+pub struct Site<'a> {
+    /// The application identifiers.
+    pub table: &'a AiTable,
+    /// The links.
+    pub store: &'a Store,
+    /// How requests are answered.
+    pub settings: &'a Settings,
+}
+
+impl<'a> Model for Site<'a> {
+    ghost use Rattle.gs_http.specs.Sites.{SiteData};
+
+    ghost Value = { SiteData };
+
+    ghost view = { λ s. record { table = s.table.now; links = s.store.now; settings = s.settings.now } };
+}
 
 /// A site, with values that are made once for all requests. Contracts see the site.
 #[derive(Drop)]

@@ -1,18 +1,56 @@
-ghost use Rattle.std.specs.Prelude.{◌≡◌, IfOk};
+ghost use Rattle.std.specs.Prelude.{◌≡◌, IfOk, option_map};
 ghost use Rattle.percent_encoding.specs.Percent.{percent_decode};
 ghost use Rattle.gs_http.specs.AcceptedForms.{accepted_form};
 ghost use Rattle.gs_http.specs.LentValues.{asked_by, name_of, wished};
-ghost use Rattle.gs_http.specs.Wishes.{form_or_json, wish_named, wish_of, wish_unnamed};
+ghost use Rattle.gs_http.specs.Wishes.{form_or_json, wish_named, wish_of, wish_unnamed, is_link_type, link_type};
+ghost use Rattle.std.specs.List.{after_first, find, slice_split};
+ghost use Rattle.gs_chars.specs.Characters.{is_byte};
+ghost use Rattle.gs_dlink.specs.Uris.{separates_parts};
 
-use crate::accepted_forms::accepted_form;
-use crate::query::link_type;
+use crate::cuts::{after, before, behind, query_of};
+use crate::documents::LinksetForm;
 use crate::request::Request;
 use crate::resolver::Resolver;
 use gs_chars::{Memory, Text};
-use gs_http_documents::LinksetForm;
+use gs_dlink::part_len;
 use gs_links::expand;
 use percent_encoding::percent_decode;
 use std::alloc::Global;
+
+/// Returns whether the part of a query is named `linkType`.
+fn is_link_type(part: &[u8]) -> bool
+    ensures { result ≡ is_link_type part.now }
+{
+    before(part, b'=') == b"linkType".as_slice()
+}
+
+/// Returns the first part of a query that is named `linkType`.
+fn link_type_part(query: &[u8]) -> Option<&[u8]>
+    ensures { option_map (λ part. part.now) result
+        ≡ find is_link_type (slice_split separates_parts query.now) }
+{
+    let mut rest = query;
+    loop {
+        let end = part_len(rest);
+        if is_link_type(&rest[..end]) {
+            return Some(&rest[..end]);
+        }
+        if end == rest.len() {
+            return None;
+        }
+        rest = after(rest, end);
+    }
+}
+
+/// Returns the value of the first part of the target's query that is named `linkType`.
+fn link_type(target: &[u8]) -> Option<&[u8]>
+    ensures { option_map (λ value. value.now) result ≡ link_type target.now }
+{
+    match link_type_part(query_of(target)) {
+        Some(part) => Some(behind(part, b'=')),
+        None => None,
+    }
+}
 
 /// The name of a relation.
 #[derive(Drop)]
@@ -48,7 +86,7 @@ pub(crate) enum Wish<'a> {
 fn wanted_form(request: &Request<'_>) -> LinksetForm
     ensures { result ≡ form_or_json (accepted_form (asked_by request.now).fields) }
 {
-    match accepted_form(request) {
+    match request.form() {
         Some(form) => form,
         None => LinksetForm::Json,
     }
@@ -107,6 +145,6 @@ pub(crate) fn wish_of<'r>(
 {
     match link_type(request.target) {
         Some(value) => by_link_type(alloc, resolver.settings().voc.as_bytes(), request, value),
-        None => Ok(wish_unnamed(resolver, accepted_form(request))),
+        None => Ok(wish_unnamed(resolver, request.form())),
     }
 }

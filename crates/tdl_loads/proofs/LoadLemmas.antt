@@ -31,7 +31,7 @@ use Rattle.tdl_messages.specs.declared.file_kind.FileKind.TheVariants as kind
 use Rattle.tdl_messages.specs.declared.rejection.FileFault.{FileFault}
 use Rattle.tdl_messages.specs.declared.rejection.FileFault.TheVariants.{LinkText, Over}
 use Rattle.tdl_messages.specs.Rejections.{file_limit}
-use Rattle.gs_http.specs.declared.settings.Settings.{Settings}
+use Rattle.gs_http.specs.declared.resolver.Settings.{Settings}
 use Rattle.tdl_arguments.specs.declared.command.Command.{Command}
 use Rattle.tdl_arguments.specs.Requests.{Asked, FileNames, LinksName, Values, as_text, in_json, name_of_links}
 use Rattle.tdl_loads.specs.declared.loads.Loaded.{Loaded}

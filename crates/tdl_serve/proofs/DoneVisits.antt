@@ -7,9 +7,9 @@ use Rattle.std.proofs.Math.Seq.{take-length}
 use Rattle.gs_ai.specs.declared.row.AiRow.{AiRow}
 use Rattle.gs_chars.proofs.TruthsAndLists.{or_first, or_second}
 use Rattle.gs_links.specs.declared.link.Link.{Link}
-use Rattle.gs_http.specs.declared.outcomes.Served.TheVariants.{Done}
+use Rattle.gs_http.specs.declared.connection.Served.TheVariants.{Done}
 use Rattle.gs_http.specs.declared.replies.Reply.{Reply}
-use Rattle.gs_http.specs.declared.settings.Settings.{Settings}
+use Rattle.gs_http.specs.declared.resolver.Settings.{Settings}
 use Rattle.gs_http.specs.Streams.{AreReplies, Front, all_bytes, bytes_of, cut_at, ended, front_of, has_closing, head_end, headed, headless, heads_of, replies_of, with_front}
 use Rattle.gs_http.proofs.Connections.{none_closes, stays_before_last}
 use Rattle.gs_http.proofs.StreamLaws.{replies_append, some_replies}

@@ -2,8 +2,8 @@
 use Rattle.std.proofs.Common.{◌≡◌, ◌<◌, ◌≤◌, ℕ, ◌+◌, ◌-◌, ◌==◌, min, not, Bool, List, ◌∷◌, map, refl, ap, ◌∙◌, subst, inl, inr, arith}
 use Rattle.std.proofs.Math.Nat.{min-eq_left, min-eq_right}
 use Rattle.std.proofs.lemmas.Bool.{cases_order}
-use Rattle.gs_http.specs.declared.outcomes.Served.{Served}
-use Rattle.gs_http.specs.declared.outcomes.Served.TheVariants.{Done, ReadFault, WriteFault, Memory}
+use Rattle.gs_http.specs.declared.connection.Served.{Served}
+use Rattle.gs_http.specs.declared.connection.Served.TheVariants.{Done, ReadFault, WriteFault, Memory}
 use Rattle.gs_http.specs.ServedStreams.{reads_when, writes_when}
 use Rattle.gs_port.specs.Counts.{last_count}
 use Rattle.gs_http.specs.Sites.{SiteData}

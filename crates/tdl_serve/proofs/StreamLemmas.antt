@@ -3,8 +3,8 @@ use Rattle.std.proofs.Common.{◌≡◌, ℕ, List, [], ◌++◌, append-nil, in
 use Rattle.std.specs.Prelude.{◌⊎◌, IfSome}
 use Rattle.std.specs.Bool.{OnTrue}
 use Rattle.std.proofs.Math.Seq.{take-append_seam}
-use Rattle.gs_http.specs.declared.outcomes.Served.{Served}
-use Rattle.gs_http.specs.declared.outcomes.Served.TheVariants as served
+use Rattle.gs_http.specs.declared.connection.Served.{Served}
+use Rattle.gs_http.specs.declared.connection.Served.TheVariants as served
 use Rattle.gs_http.specs.ServedStreams.{IsServed, OnDone}
 use Rattle.gs_http.specs.Streams.{replies_of}
 use Rattle.tdl_lines.specs.declared.status.Status.{Status}

@@ -1,8 +1,8 @@
 -- One turn at a listener.
 use Rattle.std.proofs.Common.{◌≡◌, ◌≢◌, ℕ, ◌-◌, false, List, [], ◌∷◌, ◌++◌, Option, Some, None, refl, sym, ap, ◌∙◌, subst}
 use Rattle.std.specs.Prelude.{is_some, option_map}
-use Rattle.gs_http.specs.declared.outcomes.Served.{Served}
-use Rattle.gs_http.specs.declared.outcomes.Served.TheVariants as served
+use Rattle.gs_http.specs.declared.connection.Served.{Served}
+use Rattle.gs_http.specs.declared.connection.Served.TheVariants as served
 use Rattle.gs_http.specs.ServedStreams.{reads_when, writes_when}
 use Rattle.tdl_lines.specs.Inputs.{IsKnown}
 use Rattle.gs_port.specs.Connections.{Aside, after_accept, behind_first, finished_now, first_begun, first_input}

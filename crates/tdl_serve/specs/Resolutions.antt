@@ -1,8 +1,8 @@
 -- Streams that were answered.
 use Rattle.std.specs.Prelude.{◌≡◌, ℕ, Bool, true, false, List, Option}
 use Rattle.std.specs.Bool.{OnTrue}
-use Rattle.gs_http.specs.declared.outcomes.Served.{Served}
-use Rattle.gs_http.specs.declared.outcomes.Served.TheVariants as served
+use Rattle.gs_http.specs.declared.connection.Served.{Served}
+use Rattle.gs_http.specs.declared.connection.Served.TheVariants as served
 use Rattle.gs_http.specs.ServedStreams.{IsServed}
 use Rattle.tdl_lines.specs.declared.status.Status.{Status}
 use Rattle.tdl_lines.specs.declared.status.Status.TheVariants.{Done, ReadFault, WriteFault, Memory}

@@ -1,7 +1,7 @@
 -- The work at a listener, turn by turn.
 use Rattle.std.specs.Prelude.{◌≡◌, ℕ, ◌≤◌, ◌-◌, Bool, true, false, List, [], ◌∷◌, Option, length, take}
-use Rattle.gs_http.specs.declared.outcomes.Served.{Served}
-use Rattle.gs_http.specs.declared.outcomes.Served.TheVariants as served
+use Rattle.gs_http.specs.declared.connection.Served.{Served}
+use Rattle.gs_http.specs.declared.connection.Served.TheVariants as served
 use Rattle.gs_http.specs.ServedStreams.{IsServed, reads_when, writes_when}
 use Rattle.gs_port.specs.Connections.{Aside, after_finish, finished_now}
 use Rattle.tdl_serve.specs.Resolutions.{count_if}

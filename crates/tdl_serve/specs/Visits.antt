@@ -1,8 +1,8 @@
 -- The connections that a site served, one at a time.
 use Rattle.std.specs.Prelude.{◌≡◌, ◌⊎◌, ◌≤◌, ℕ, ◌+◌, ◌-◌, ◌==◌, not, Bool, true, false, List, [], ◌∷◌, ◌++◌, Option, Some, None, is_some, option_map, if◌then◌else◌, length, map, take}
 use Rattle.std.specs.List.{filter, list_any}
-use Rattle.gs_http.specs.declared.outcomes.Served.{Served}
-use Rattle.gs_http.specs.declared.outcomes.Served.TheVariants.{Done, ReadFault, WriteFault, Memory}
+use Rattle.gs_http.specs.declared.connection.Served.{Served}
+use Rattle.gs_http.specs.declared.connection.Served.TheVariants.{Done, ReadFault, WriteFault, Memory}
 use Rattle.gs_http.specs.declared.replies.Reply.{Reply}
 use Rattle.gs_http.specs.ServedStreams.{OnDone, reads_when, writes_when}
 use Rattle.gs_chars.specs.Answers.{BeginsWith}

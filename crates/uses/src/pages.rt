@@ -1,6 +1,6 @@
 ghost use Rattle.std.specs.Prelude.{IfOk, List, false};
 ghost use Rattle.gs_links.specs.declared.link.Link.{Link};
-ghost use Rattle.gs_http.specs.declared.settings.Settings.{Settings as How};
+ghost use Rattle.gs_http.specs.declared.resolver.Settings.{Settings as How};
 ghost use Rattle.gs_http.specs.Replies.{IsReply};
 
 use gs_ai::AiTable;

@@ -14,17 +14,23 @@ struct Libraries {
     set: TableSet,
 }
 
+impl Libraries {
+    /// Returns the answer to a call about references, documents or replies.
+    fn answer_http(&self, alloc: Global, library: &str, call: &str, args: &[Text]) -> Answer {
+        match call {
+            "reference_for" | "render" => {
+                vectors_texts::answer(alloc, &self.set, library, call, args)
+            }
+            _ => vectors_replies::answer(alloc, self.set.ais(), library, call, args),
+        }
+    }
+}
+
 impl Calls for Libraries {
     fn answer(&self, alloc: Global, library: &str, call: &str, args: &[Text]) -> Answer {
         match library {
             "gs_class" => vectors_class::answer(alloc, self.set.ais(), call, args),
-            "gs_http" | "tdl_serve" => vectors_replies::answer(
-                alloc,
-                self.set.ais(),
-                library,
-                call,
-                args,
-            ),
+            "gs_http" | "tdl_serve" => self.answer_http(alloc, library, call, args),
             "gs_linktext" | "gs_linktext_grammar" => vectors_web::answer(
                 alloc, library, call, args,
             ),
@@ -39,7 +45,6 @@ impl Calls for Libraries {
             | "tdl_messages"
             | "tdl_run" => { vectors_runs::answer(alloc, &self.set, library, call, args) }
             "gs_ai"
-            | "gs_http_documents"
             | "gs_ident"
             | "gs_tables"
             | "gs_tables_builtin"

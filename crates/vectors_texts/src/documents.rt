@@ -1,4 +1,4 @@
-//! Calls of gs_http_documents, by the built-in table of application identifiers. A 1 as the argument TEMPLATES says that
+//! Calls of gs_http, by the built-in table of application identifiers. A 1 as the argument TEMPLATES says that
 //! references are templates; the pairs are those of an identity.
 //!
 //! - `reference_for TEMPLATES HREF CODE VALUE ..`: the reference for the identity, or the rejection of the pairs.
@@ -8,7 +8,7 @@
 use crate::identities::made;
 use gs_ai::AiTable;
 use gs_chars::{Memory, Text};
-use gs_http_documents::{LinksetForm, Rendered, document_for, reference_for, render};
+use gs_http::{LinksetForm, Rendered, document_for, reference_for, render};
 use gs_ident::Identity;
 use gs_linkset::LinkDoc;
 use std::alloc::Global;
@@ -27,7 +27,7 @@ const CALLS: [(&str, Call); 2] = [
 
 const FORMS: [(&str, LinksetForm); 2] = [("Json", LinksetForm::Json), ("Text", LinksetForm::Text)];
 
-/// Makes a call of gs_http_documents.
+/// Makes a call of gs_http.
 pub fn answer(alloc: Global, line: &mut Line, table: &AiTable, call: &[u8], args: &[Text]) -> Done {
     match named(&CALLS, call) {
         Some(Call::ReferenceFor) => add_reference(alloc, line, table, args),

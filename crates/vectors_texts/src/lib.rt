@@ -44,7 +44,7 @@ const LIBRARIES: [(&str, Library); 12] = [
     ("gs_dlink", Library::DigitalLinks),
     ("gs_element", Library::Elements),
     ("gs_epc", Library::Epcs),
-    ("gs_http_documents", Library::Documents),
+    ("gs_http", Library::Documents),
     ("gs_ident", Library::Identities),
     ("gs_links", Library::Links),
     ("gs_tables", Library::Tables),

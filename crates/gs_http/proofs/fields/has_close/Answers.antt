@@ -1,17 +1,9 @@
-use Rattle.std.proofs.Common.{◌<◌, length, sym, ◌∙◌, arith}
-use Rattle.gs_http.specs.Fields.{is_close, is_comma}
-use Rattle.gs_http.proofs.Scans.{part_here, part_last, part_next}
+use Rattle.std.proofs.Common.{rules, tests}
+use Rattle.std.proofs.lemmas.Iterator.Consumers.{YieldsList-from_first}
+use Rattle.std.proofs.lemmas.Iterator.Search.{any_from_yields_List}
+use Rattle.gs_http.specs.Fields.{is_close}
+use Rattle.gs_http.specs.SaidFields.{members_left}
 use Rattle.gs_http.proofs.fields.has_close.Goals as goal
 
-pub returns-then-is_close : goal.returns-then-is_close
-returns-then-is_close c =
-    sym (c.loop-rest.invariant ∙ part_here is_comma is_close c.loop-rest.rest.now c.place_of-end.result c.place_of-end.ensures.place c.place_of-end.ensures.within (sym c.is_close.ensures ∙ c.if-is_close.true))
-
-pub returns-then-end-rest : goal.returns-then-end-rest
-returns-then-end-rest c =
-    sym (c.loop-rest.invariant ∙ part_last is_comma is_close c.loop-rest.rest.now c.place_of-end.result c.place_of-end.ensures.place c.if-end-rest.true (sym c.is_close.ensures ∙ c.if-is_close.false))
-
-pub loop-rest-preserved : goal.loop-rest-preserved
-loop-rest-preserved c =
-    let low : c.place_of-end.result < length c.loop-rest.rest.now = let w = c.place_of-end.ensures.within in let other = c.if-end-rest.false in omega arith in
-    rw c.after-rest.ensures (c.loop-rest.invariant ∙ part_next is_comma is_close c.loop-rest.rest.now c.place_of-end.result c.place_of-end.ensures.place low (sym c.is_close.ensures ∙ c.if-is_close.false))
+pub returns : goal.returns
+returns c = any_from_yields_List is_close c.any.new.self _ c.any.result c.any.ensures.ran (YieldsList-from_first (λ x. x.now) members_left _ c.of.ensures) (λ x b q k. search (rules, tests))

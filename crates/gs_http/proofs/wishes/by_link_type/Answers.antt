@@ -3,7 +3,7 @@ use Rattle.std.specs.Prelude.{IfOk, Result}
 use Rattle.std.proofs.lemmas.Grind.{common_steps}
 use Rattle.percent_encoding.specs.Percent.{percent_decode}
 use Rattle.gs_chars.specs.declared.memory.Memory.{Memory}
-use Rattle.gs_http_documents.specs.declared.forms.LinksetForm.{LinksetForm}
+use Rattle.gs_http.specs.declared.documents.LinksetForm.{LinksetForm}
 use Rattle.gs_http.specs.AcceptedForms.{accepted_form}
 use Rattle.gs_http.specs.declared.wishes.Wish.{Wish}
 use Rattle.gs_http.specs.LentValues.{asked_by, wished}

@@ -1,5 +1,0 @@
-use Rattle.std.proofs.Common.{refl}
-use Rattle.gs_http_documents.proofs.forms.in_json.Goals as goal
-
-pub returns : goal.returns
-returns c = rw c.in_ok-write.ensures refl
