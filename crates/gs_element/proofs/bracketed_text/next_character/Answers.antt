@@ -1,6 +1,6 @@
 use Rattle.std.proofs.Common.{sym, ◌∙◌}
 use Rattle.gs_element.proofs.BracketLemmas.{bracket_next, escape_next, none_next, plain_next, some_behind}
-use Rattle.gs_element.proofs.behind.next_character.Goals as goal
+use Rattle.gs_element.proofs.bracketed_text.next_character.Goals as goal
 
 pub returns-in_default-clause-none : goal.returns-in_default-clause-none
 returns-in_default-clause-none c = none_next c.args.text.now c.in_default.ensures.cases

@@ -2,7 +2,7 @@ use Rattle.std.proofs.Common.{◌≡◌, ℕ, List, [], ◌∷◌, ◌++◌, ap,
 use Rattle.std.proofs.lemmas.Grind.{flat_map-append}
 use Rattle.gs_element.specs.BracketedTexts.{value_before, written_character, written_value}
 use Rattle.gs_element.proofs.BracketLemmas.{plain_front}
-use Rattle.gs_element.proofs.behind.read_value.Goals as goal
+use Rattle.gs_element.proofs.bracketed_text.read_value.Goals as goal
 
 written_more : (done : List ℕ) (c : ℕ) (behind : List ℕ) → written_value done ++ (written_character c ++ behind) ≡ written_value (done ++ c ∷ []) ++ behind
 written_more done c behind = rw (flat_map-append written_character done (c ∷ []), append-nil (written_character c)) (sym (append_assoc (written_value done) (written_character c) behind))
