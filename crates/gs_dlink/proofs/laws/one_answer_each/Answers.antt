@@ -1,5 +1,5 @@
 use Rattle.gs_dlink.proofs.AnswerLaws.{answered, no_error, one_list}
-use Rattle.gs_dlink.proofs.one_answer.one_answer_each.Goals as goal
+use Rattle.gs_dlink.proofs.laws.one_answer_each.Goals as goal
 
 pub returns-clause-pairs : goal.returns-clause-pairs
 returns-clause-pairs c = one_list

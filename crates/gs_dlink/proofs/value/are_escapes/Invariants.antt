@@ -1,6 +1,6 @@
 use Rattle.std.proofs.Common.{◌≡◌, drop}
 use Rattle.gs_dlink.specs.Values.{are_escapes}
-use Rattle.gs_dlink.proofs.escapes.are_escapes.Given as goal
+use Rattle.gs_dlink.proofs.value.are_escapes.Given as goal
 
 -- the rest decides
 abbrev pub invariant-loop-i : goal.invariant-loop-i
