@@ -133,7 +133,7 @@ impl AiTable {
         let start = two_digits(text)?;
         let places = self.starts.items()[start].items();
         for place in places {
-            if text.starts_with(rows[*place].code.as_bytes()) {
+            if is_front(rows[*place].code.as_bytes(), text) {
                 return Some(*place);
             }
         }
@@ -172,6 +172,19 @@ impl AiTable {
             Some(row) => parts_ok(row.parts.items(), value),
             None => Err(ValueFault::Unknown),
         }
+    }
+}
+
+/// Returns whether the code begins the text. Most codes have two digits, which take two comparisons.
+fn is_front(code: &[u8], text: &[u8]) -> bool
+    ensures { result ≡ begins code.now text.now }
+{
+    let [a, b] = code else {
+        return text.starts_with(code);
+    };
+    match text {
+        [c, d, ..] => *a == *c && *b == *d,
+        _ => false,
     }
 }
 

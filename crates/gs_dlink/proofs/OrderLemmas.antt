@@ -3,7 +3,7 @@ use Rattle.std.proofs.Common.{◌≡◌, ℕ, zero, suc, ◌+◌, ◌≤◌, ◌
 use Rattle.std.proofs.lemmas.Bool.Decides.{nat_tests}
 use Rattle.std.proofs.lemmas.Option.{slice_get-map, slice_get_past}
 use Rattle.gs_chars.proofs.TruthsAndLists.{read_at}
-use Rattle.gs_dlink.specs.declared.written.WrittenPair.{WrittenPair}
+use Rattle.gs_dlink.specs.declared.value.WrittenPair.{WrittenPair}
 use Rattle.gs_dlink.specs.Paths.{codes_of, is_in_order}
 use Rattle.gs_dlink.specs.PathsSupport.{is_code_at}
 use Rattle.gs_dlink.specs.Uris.{Written}

@@ -12,7 +12,7 @@ use Rattle.gs_ai.specs.declared.row.AiRow.{AiRow}
 use Rattle.gs_ai.specs.Values.{has_code, value_error}
 use Rattle.gs_dlink.specs.declared.error.LinkFault.{LinkFault}
 use Rattle.gs_dlink.specs.declared.error.LinkFault.TheVariants.{Element}
-use Rattle.gs_dlink.specs.declared.written.WrittenPair.{WrittenPair}
+use Rattle.gs_dlink.specs.declared.value.WrittenPair.{WrittenPair}
 use Rattle.gs_dlink.specs.Uris.{Written}
 
 -- the row of the pair is that of its code

@@ -1,11 +1,15 @@
-ghost use Rattle.std.specs.Prelude.{◌≡◌, ◌↔◌, true, List, ℕ, Some};
+ghost use Rattle.std.specs.Prelude.{◌≡◌, ◌↔◌, true, List, ℕ, Some, ◌≢◌, ◌⊎◌};
 ghost use Rattle.gs_ident.specs.Elements.{Elements, pairs_of};
 ghost use Rattle.gs_ident.specs.Identities.{IsMadeWith};
 ghost use Rattle.gs_ident.specs.Links.{canonical_link, spelled};
-ghost use Rattle.gs_dlink.specs.Answers.{IsLink};
+ghost use Rattle.gs_dlink.specs.Answers.{IsLink, link_error};
 ghost use Rattle.gs_dlink.specs.Paths.{IsKeyPath, key_path};
 ghost use Rattle.gs_dlink.specs.Stems.{stem_ok};
 ghost use Rattle.gs_dlink.specs.Uris.{Piece, Written};
+ghost use Rattle.gs_ai.specs.declared.pair.Pair.{Pair};
+ghost use Rattle.gs_ai.specs.declared.row.AiRow.{AiRow};
+ghost use Rattle.gs_dlink.specs.declared.error.LinkFault.{LinkFault};
+ghost use Rattle.gs_dlink.specs.declared.error.LinkFault.TheVariants.{Memory as WantOfMemory};
 
 use gs_ai::AiTable;
 
@@ -31,3 +35,13 @@ pub fn written_link_is_read(table: &AiTable)
     // Only for the proof: the rows satisfy the rules.
     let _ = table.rows();
 }
+
+/// States that a text is a link that names one list of pairs, or has one error, and not both. `Memory` is not an error of a text.
+pub fn one_answer_each()
+    ensures pairs { (table : List AiRow) (text : List ℕ) (one other : List Pair)
+        → IsLink table text one → IsLink table text other → one ≡ other }
+    ensures alone { (table : List AiRow) (text : List ℕ) (pairs : List Pair) (error : LinkFault)
+        → IsLink table text pairs → link_error table text ≡ Some error → ⊥ }
+    ensures some { (table : List AiRow) (text : List ℕ) → ((pairs : List Pair) × IsLink table text pairs)
+        ⊎ ((error : LinkFault) × (error ≢ WantOfMemory) × (link_error table text ≡ Some error)) }
+{}

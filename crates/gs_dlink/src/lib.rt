@@ -21,21 +21,16 @@
 //! - A GTIN may have 8, 12 or 13 digits, which are filled up with leading zeros; it is written with 14.
 #![tactic(auto)]
 
-mod cuts;
 mod error;
-mod escapes;
 mod laws;
-mod one_answer;
 mod path;
 mod query;
 mod read;
 mod stem;
 mod value;
-mod written;
 
-pub use cuts::part_len;
 pub use error::LinkFault;
-pub use laws::{one_key_path, written_link_is_read};
-pub use one_answer::one_answer_each;
+pub use laws::{one_answer_each, one_key_path, written_link_is_read};
+pub use query::part_len;
 pub use read::{read_link, read_target};
 pub use stem::{append_link, stem_ok, write_link};

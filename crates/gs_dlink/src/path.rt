@@ -7,7 +7,7 @@ ghost use Rattle.gs_dlink.specs.UrisSupport.{LastSlash, NoSlash};
 ghost use Rattle.gs_dlink.specs.Values.{IsPlaced};
 ghost use Rattle.gs_dlink.specs.ValuesSupport.{written_of};
 
-use crate::written::WrittenPair;
+use crate::value::WrittenPair;
 use gs_ai::AiTable;
 use gs_chars::{Memory, Text};
 use memchr::memrchr;

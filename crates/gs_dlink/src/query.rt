@@ -1,12 +1,13 @@
 ghost use Rattle.std.specs.Prelude.{◌≡◌, ◌+◌, ◌^◌, ◌++◌, ◌≤◌, All, OnOk, drop, map, length};
-ghost use Rattle.gs_dlink.specs.Uris.{part_pairs, query_pairs};
+ghost use Rattle.gs_dlink.specs.Uris.{part_pairs, query_pairs, ends_authority, separates_parts};
 ghost use Rattle.gs_dlink.specs.Values.{IsPlaced};
 ghost use Rattle.gs_dlink.specs.ValuesSupport.{written_of};
+ghost use Rattle.std.specs.List.{position_or_len};
 
-use crate::cuts::part_len;
-use crate::written::WrittenPair;
+use crate::value::WrittenPair;
 use gs_ai::AiTable;
 use gs_chars::{Memory, are_digits, place_of};
+use memchr::{memchr2, memchr3};
 
 /// Returns the text after a place, and the empty text if it ends there.
 pub(crate) fn behind(text: &[u8], place: usize) -> &[u8]
@@ -70,4 +71,20 @@ pub(crate) fn push_query<'a>(
         at += end + 1;
         rest = behind(rest, end);
     }
+}
+
+/// Returns the place of the first byte that ends an authority, or the length of the text.
+pub(crate) fn authority_len(text: &[u8]) -> usize
+    ensures place { result ≡ position_or_len ends_authority text.now }
+    ensures within { result ≤ length text.now }
+{
+    memchr3(b'/', b'?', b'#', text).unwrap_or(text.len())
+}
+
+/// Returns the offset, from 0, of the first byte that separates parts of a query, `&` or `;`, or the text's length.
+pub fn part_len(text: &[u8]) -> usize
+    ensures place { result ≡ position_or_len separates_parts text.now }
+    ensures within { result ≤ length text.now }
+{
+    memchr2(b'&', b';', text).unwrap_or(text.len())
 }

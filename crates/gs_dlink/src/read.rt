@@ -7,12 +7,10 @@ ghost use Rattle.gs_dlink.specs.Uris.{authority_end, has_scheme, scheme_end};
 ghost use Rattle.gs_dlink.specs.Values.{IsPlaced};
 ghost use Rattle.gs_dlink.specs.ValuesSupport.{written_of};
 
-use crate::cuts::authority_len;
 use crate::error::LinkFault;
 use crate::path::key_path;
-use crate::query::{behind, push_query};
-use crate::value::read_pair;
-use crate::written::WrittenPair;
+use crate::query::{authority_len, behind, push_query};
+use crate::value::{WrittenPair, read_pair};
 use gs_ai::{AiTable, Pair};
 use gs_chars::{List, place_of};
 use std::alloc::Global;

@@ -1,16 +1,24 @@
 ghost use Rattle.std.specs.Prelude.{◌≡◌, IfOk};
 ghost use Rattle.gs_dlink.specs.AnswersSupport.{OrMemory};
 ghost use Rattle.percent_encoding.specs.Percent.{percent_decode};
-ghost use Rattle.gs_dlink.specs.Values.{IsPlaced, is_short_gtin, padded, pair_answer};
+ghost use Rattle.gs_dlink.specs.Values.{IsPlaced, is_short_gtin, padded, pair_answer, are_escapes, begins_hex};
 ghost use Rattle.gs_dlink.specs.ValuesSupport.{unescaped, written_of};
 
 use crate::error::LinkFault;
-use crate::escapes::are_escapes;
-use crate::written::WrittenPair;
 use gs_ai::{AiTable, ElementFault, ElementWhy, Pair, ValueFault};
 use gs_chars::{Memory, Text, are_digits, place_of};
 use percent_encoding::percent_decode;
 use std::alloc::Global;
+
+/// A pair of a link, lent by it, with the offset of its code in the whole text. The row of its code is looked up once.
+/// Contracts see place, code and value; `IsPlaced` says that the row is that of the code.
+#[derive(Clone, Copy)]
+pub(crate) struct WrittenPair<'a> {
+    pub(crate) at: usize,
+    pub(crate) row: Option<usize>,
+    pub(crate) code: &'a [u8],
+    pub(crate) value: &'a [u8],
+}
 
 /// The leading zeros of a GTIN of 8 digits.
 const ZEROS: &[u8] = b"000000";
@@ -90,4 +98,26 @@ pub(crate) fn read_pair(
         }),
         Err(error) => Err(error_of(written, ElementWhy::Value(error))),
     }
+}
+
+/// Returns whether the text begins with two hexadecimal digits.
+fn begins_hex(text: &[u8]) -> bool
+    ensures { result ≡ begins_hex text.now }
+{
+    match text {
+        [high, low, ..] => high.is_ascii_hexdigit() && low.is_ascii_hexdigit(),
+        _ => false,
+    }
+}
+
+/// Returns whether each percent sign of the text begins an escape.
+pub(crate) fn are_escapes(text: &[u8]) -> bool
+    ensures { result ≡ are_escapes text.now }
+{
+    for i in 0..text.len() {
+        if text[i] == b'%' && !begins_hex(&text[i + 1..]) {
+            return false;
+        }
+    }
+    true
 }

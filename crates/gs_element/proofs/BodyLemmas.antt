@@ -1,5 +1,5 @@
 -- Texts without the bytes that a barcode scanner may send at the start.
-use Rattle.std.proofs.Common.{◌≡◌, ℕ, ◌≤◌, true, false, List, ◌∷◌, length, drop, eqb, find, Option, Some, None, refl, arith}
+use Rattle.std.proofs.Common.{◌≡◌, ℕ, ◌≤◌, true, false, List, ◌∷◌, length, drop, eqb, find, Option, Some, None, refl, sym, arith}
 use Rattle.std.specs.Option.{option_map_or}
 use Rattle.std.proofs.lemmas.List.{length-drop}
 use Rattle.std.proofs.lemmas.Bool.Decides.{nat_tests}
@@ -23,3 +23,6 @@ digit_body c text digit =
     let no_bracket : eqb 93 c ≡ false = grind (arith, nat_tests) in
     let no_separator : eqb 29 c ≡ false = grind (arith, nat_tests) in
     rw (no_bracket, no_separator) refl
+
+pub digit_first : (text rest : List ℕ) (c : ℕ) → text ≡ c ∷ rest → is_digit c ≡ true → text ≡ body_of text
+digit_first text rest c e digit = rw e (sym (digit_body c rest digit))

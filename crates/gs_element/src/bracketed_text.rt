@@ -1,13 +1,18 @@
-ghost use Rattle.std.specs.Prelude.{◌≡◌, All, IfOk, IfErr};
+ghost use Rattle.std.specs.Prelude.{◌≡◌, All, IfOk, IfErr, ◌≤◌, ◌∷◌, ◌++◌, [], true, IfSome, IfNone, length};
 ghost use Rattle.gs_ident.specs.Identities.{IsInOrder};
 ghost use Rattle.gs_element.specs.Answers.{IsBracketedRejection};
-ghost use Rattle.gs_element.specs.BracketedTexts.{IsBracketed};
+ghost use Rattle.gs_element.specs.BracketedTexts.{IsBracketed, closed_code, code_front, is_cut, value_before};
+ghost use Rattle.gs_element.specs.BracketedTexts.{written_character, written_value};
+ghost use Rattle.std.specs.List.{position_or_len};
+ghost use Rattle.std.specs.Option.{option_map};
+ghost use Rattle.memchr.specs.Find.{is_byte2};
+ghost use Rattle.gs_element.specs.BracketedSupport.{is_escape};
 
-use crate::behind::{code_front, read_value};
 use crate::errors::{RawFault, error_at};
-use crate::pairs::push_pair;
+use crate::raw::push_pair;
 use gs_ai::{AiTable, ElementWhy, Pair};
-use gs_chars::Text;
+use gs_chars::{Memory, Text, count_digits};
+use memchr::memchr2;
 use std::alloc::Global;
 
 /// Reads an element string in the printed form: for each element `(`, its code, `)` and its value, in which `\(` stands for an
@@ -39,4 +44,96 @@ pub fn read_bracketed(alloc: Global, table: &AiTable, text: &[u8]) -> Result<Vec
         rest = behind;
     }
     Ok(pairs)
+}
+
+/// Returns the code and the text after its closing bracket, which is the first character after the code.
+fn closed_code<'a>(code: &'a [u8], behind: &'a [u8]) -> Option<(&'a [u8], &'a [u8])>
+    ensures { option_map (λ front. (front.0.now, front.1.now)) result ≡ closed_code code.now behind.now }
+{
+    match behind {
+        [b')', rest @ ..] if !code.is_empty() => Some((code, rest)),
+        _ => None,
+    }
+}
+
+/// Returns the code in brackets at the start of the text, one or more digits, and the text after it. Returns `None` if the text
+/// does not begin with such a code.
+pub fn code_front(text: &[u8]) -> Option<(&[u8], &[u8])>
+    ensures { option_map (λ front. (front.0.now, front.1.now)) result ≡ code_front text.now }
+{
+    match text {
+        [b'(', behind @ ..] => {
+            let (code, closing) = behind.split_at(count_digits(behind));
+            closed_code(code, closing)
+        }
+        _ => None,
+    }
+}
+
+/// Next character of a value, and the rest of the text.
+#[derive(Clone, Copy)]
+struct Next<'a> {
+    character: u8,
+    rest: &'a [u8],
+}
+
+/// Returns whether the character is a backslash that escapes an opening bracket.
+fn is_escape(character: u8, behind: &[u8]) -> bool
+    ensures { result ≡ is_escape character behind.now }
+{
+    match behind {
+        [next, ..] => character == b'\\' && *next == b'(',
+        [] => false,
+    }
+}
+
+/// Returns the next character of a value, or `None` if the value ends: at the end of the text, or at an opening bracket
+/// without a backslash before it. A backslash before an opening bracket is not a character of the value.
+fn next_character(text: &[u8]) -> Option<Next<'_>>
+    ensures value { IfSome result (λ next. value_before text.now
+        ≡ next.character ∷ value_before next.rest.now) }
+    ensures text { IfSome result (λ next. text.now ≡ written_character next.character ++ next.rest.now) }
+    ensures none { IfNone result ((value_before text.now ≡ []) × (is_cut text.now ≡ true)) }
+{
+    let Some((character, rest)) = text.split_first() else {
+        return None;
+    };
+    if *character == b'(' {
+        return None;
+    }
+    if is_escape(*character, rest) {
+        let rest = rest.split_at(1).1;
+        return Some(Next {
+            character: b'(',
+            rest,
+        });
+    }
+    Some(Next {
+        character: *character,
+        rest,
+    })
+}
+
+/// Returns the number of characters of the text before its first opening bracket or backslash, or of all.
+fn plain_len(text: &[u8]) -> usize
+    ensures len { result ≡ position_or_len (is_byte2 40 92) text.now }
+    ensures within { result ≤ length text.now }
+{
+    memchr2(b'(', b'\\', text).unwrap_or(text.len())
+}
+
+/// Appends the value up to the next opening bracket without a backslash before it, or the end, and returns the rest.
+pub fn read_value<'a>(text: &'a [u8], value: &mut Text) -> Result<&'a [u8], Memory>
+    ensures value { IfOk result (λ _. value.new ≡ value.old ++ value_before text.now) }
+    ensures rest { IfOk result (λ rest. text.now ≡ written_value (value_before text.now) ++ rest.now) }
+    ensures cut { IfOk result (λ rest. is_cut rest.now ≡ true) }
+{
+    // most values have no backslash, so they are copied whole
+    let (plain, mut rest) = text.split_at(plain_len(text));
+    value.extend_from_slice(plain)?;
+    while let Some(next) = next_character(rest) {
+        value.push(next.character)?;
+        rest = next.rest;
+    }
+    Ok(rest)
 }

@@ -2,13 +2,16 @@ ghost use Rattle.std.specs.Prelude.{◌≡◌};
 
 use gs_ai::{ElementFault, ElementWhy};
 use gs_chars::Memory;
+use thiserror::Error;
 
 /// Why a text gives no pairs.
-#[derive(Clone, Copy)]
+#[derive(Clone, Copy, Debug, Error)]
 pub enum RawFault {
     /// The text is not an element string: where, and why.
+    #[error("{0}")]
     Element(ElementFault),
     /// Out of memory.
+    #[error("out of memory")]
     Memory,
 }
 

@@ -21,11 +21,9 @@
 //! - A written text has no symbology identifier.
 #![tactic(auto)]
 
-mod behind;
 mod bracketed_text;
 mod errors;
 mod laws;
-mod pairs;
 mod raw;
 mod writer;
 

@@ -1,4 +1,4 @@
-ghost use Rattle.std.specs.Prelude.{◌≡◌, ◌≤◌, ◌==◌, not, length, None, Some, All, IfOk, IfErr};
+ghost use Rattle.std.specs.Prelude.{◌≡◌, ◌≤◌, ◌==◌, not, length, None, Some, All, IfOk, IfErr, ◌++◌, ◌∷◌, []};
 ghost use Rattle.std.specs.List.{prefix_len};
 ghost use Rattle.gs_ai.specs.PredefinedLengths.{predefined_length};
 ghost use Rattle.gs_ident.specs.Identities.{IsInOrder};
@@ -7,17 +7,29 @@ ghost use Rattle.gs_element.specs.Raw.{body_of, raw_value, raw_value_error, IsRa
 ghost use Rattle.gs_element.specs.RawSupport.{without_separator, IsCutFrom};
 
 use crate::errors::{RawFault, error_at};
-use crate::pairs::push_pair;
 use gs_ai::{AiTable, ElementWhy, Pair, ValueFault};
-use gs_chars::Text;
+use gs_chars::{Memory, Text};
 use std::alloc::Global;
 
 /// The FNC1, as readers transmit it.
 const FNC1: u8 = 29;
 
-/// Returns the text without a symbology identifier or an FNC1 at the start.
-#[tactic(auto, unfolding(crate::specs::Raw::body_of))]
+/// Returns the text without a symbology identifier or an FNC1 at the start. Most texts begin with a digit and have neither.
 fn body_of(text: &[u8]) -> &[u8]
+    ensures { result.now ≡ body_of text.now }
+{
+    let Some((first, _)) = text.split_first() else {
+        return without_identifier(text);
+    };
+    if first.is_ascii_digit() {
+        return text;
+    }
+    without_identifier(text)
+}
+
+/// Returns the text without a symbology identifier or an FNC1, if one of them is at the start.
+#[tactic(auto, unfolding(crate::specs::Raw::body_of))]
+fn without_identifier(text: &[u8]) -> &[u8]
     ensures { result.now ≡ body_of text.now }
 {
     if text.starts_with(b"]C1")
@@ -117,4 +129,19 @@ pub fn read_raw(alloc: Global, table: &AiTable, text: &[u8]) -> Result<Vec<Pair>
         }
     }
     Ok(pairs)
+}
+
+/// Adds the pair of this code and this value.
+pub fn push_pair(
+    alloc: Global,
+    pairs: &mut Vec<Pair>,
+    code: &[u8],
+    value: Text,
+) -> Result<(), Memory>
+    ensures { IfOk result (λ _. pairs.new.items ≡ pairs.old.items
+        ++ record { code = code.now; value = value } ∷ []) }
+{
+    let code = Text::from_bytes(alloc, code)?;
+    pairs.push(Pair { code, value })?;
+    Ok(())
 }

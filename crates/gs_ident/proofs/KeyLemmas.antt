@@ -11,8 +11,8 @@ use Rattle.gs_ai.specs.Values.{has_code}
 use Rattle.gs_ai.proofs.TableLemmas.{no_key}
 use Rattle.gs_ai.proofs.Searches.{find_none, find_read, position_some}
 use Rattle.gs_chars.proofs.TruthsAndLists.{equal_bytes, false_from, not_false, place_left, same_at, same_bytes}
-use Rattle.gs_ident.specs.declared.keys.KeyPlace.{KeyPlace}
-use Rattle.gs_ident.specs.declared.keys.Keys.{Keys}
+use Rattle.gs_ident.specs.declared.maker.KeyPlace.{KeyPlace}
+use Rattle.gs_ident.specs.declared.maker.Keys.{Keys}
 use Rattle.gs_ident.specs.Identities.{counted, first_key, stands_for_none}
 use Rattle.gs_ident.specs.Keys.{AreKeys, IsFirstKey, IsOtherKey, IsRowOf}
 use Rattle.gs_ident.specs.KeysSupport.{is_none_text}

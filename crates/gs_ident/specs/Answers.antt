@@ -4,7 +4,7 @@ use Rattle.gs_ai.specs.declared.pair.Pair.{Pair}
 use Rattle.gs_ai.specs.declared.row.AiRow.{AiRow}
 use Rattle.gs_ident.specs.declared.errors.IdentFault.{IdentFault}
 use Rattle.gs_ident.specs.declared.errors.IdentFault.TheVariants.{Memory}
-use Rattle.gs_ident.specs.declared.keys.KeyPlace.{KeyPlace}
+use Rattle.gs_ident.specs.declared.maker.KeyPlace.{KeyPlace}
 use Rattle.gs_ident.specs.Agreement.{Agree}
 use Rattle.gs_ident.specs.Identities.{elements_of, identity_of_counted}
 use Rattle.gs_ident.specs.Keys.{HasFirstKey}

@@ -4,8 +4,8 @@ use Rattle.std.specs.List.{list_any}
 use Rattle.gs_ai.specs.declared.pair.Pair.{Pair}
 use Rattle.gs_ai.specs.declared.row.AiRow.{AiRow}
 use Rattle.gs_ai.specs.Values.{has_code}
-use Rattle.gs_ident.specs.declared.keys.KeyPlace.{KeyPlace}
-use Rattle.gs_ident.specs.declared.keys.Keys.{Keys}
+use Rattle.gs_ident.specs.declared.maker.KeyPlace.{KeyPlace}
+use Rattle.gs_ident.specs.declared.maker.Keys.{Keys}
 use Rattle.gs_ident.specs.Identities.{first_key, listed, other_key, stands_for_none}
 
 -- the code of the pair is that of the row with this index

@@ -22,11 +22,8 @@
 
 mod errors;
 mod identity;
-mod keys;
 mod maker;
-mod pair_choice;
-mod pair_order;
-mod room;
+mod pairs;
 mod spelling;
 
 pub use errors::IdentFault;

@@ -1,18 +1,20 @@
-ghost use Rattle.std.specs.Prelude.{◌≡◌, ◌≢◌, ◌<◌, All, Ok, Err, IfOk, IfErr, false, length, true};
+ghost use Rattle.std.specs.Prelude.{◌≡◌, ◌≢◌, ◌<◌, All, Ok, Err, IfOk, IfErr, false, length, true, ◌||◌, ◌++◌, ◌∷◌, [], List};
 ghost use Rattle.std.specs.List.{list_any};
 ghost use Rattle.gs_ai.specs.Tables.{are_distinct, is_key_of};
 ghost use Rattle.gs_ident.specs.Agreement.{Agree};
 ghost use Rattle.gs_ident.specs.Identities.{counted, identity_of_pairs, IsInOrder, IsMadeWith};
 ghost use Rattle.gs_ident.specs.Answers.{IsOnlyKey};
-ghost use Rattle.gs_ident.specs.Keys.{AreKeys, HasFirstKey, IsList};
+ghost use Rattle.gs_ident.specs.Keys.{AreKeys, HasFirstKey, IsList, IsRowOf};
 ghost use Rattle.gs_ident.specs.Moves.{HasElements};
+ghost use Rattle.gs_ai.specs.declared.pair.Pair.{Pair};
+ghost use Rattle.gs_ident.specs.KeysSupport.{is_none_text};
 
 use crate::errors::IdentFault;
 use crate::identity::Identity;
-use crate::keys::{KeyPlace, Keys, keys_among};
-use crate::pair_choice::{find_contradiction, keep_others, move_listed, stands_for_none};
-use crate::pair_order::sort_pairs;
-use gs_ai::{AiTable, Pair};
+use crate::pairs::{
+    find_contradiction, is_none_text, keep_others, move_listed, sort_pairs, stands_for_none,
+};
+use gs_ai::{AiRow, AiTable, Pair};
 use gs_chars::{Memory, Text};
 use std::alloc::Global;
 
@@ -106,4 +108,72 @@ pub fn make(alloc: Global, table: &AiTable, pairs: Vec<Pair>) -> Result<Identity
     let keys = keys_of_counted(table, &mut counted);
     let first = only_key(alloc, table, counted.as_slice(), keys)?;
     Ok(elements_of(alloc, table, counted, first)?)
+}
+
+/// The place of a pair with the code of a key, and the index of the key's row.
+#[derive(Clone, Copy)]
+pub struct KeyPlace {
+    pub pair: usize,
+    pub row: usize,
+}
+
+/// The keys among pairs, and whether a value means none, by one look at the row of each pair.
+#[derive(Clone, Copy)]
+pub struct Keys {
+    pub with_none: bool,
+    /// The first pair with the code of a key.
+    pub first: Option<KeyPlace>,
+    /// The place of the first pair with the code of another key.
+    pub other: Option<usize>,
+}
+
+/// Returns whether an earlier value meant none, or this one does.
+fn or_none_text(before: bool, row: &AiRow, value: &[u8]) -> bool
+    ensures { result ≡ (before || is_none_text row.now value.now) }
+{
+    before || is_none_text(row, value)
+}
+
+/// Returns the keys with one pair more, which is at this place after the others and has the row with this index.
+fn with_pair(table: &AiTable, keys: Keys, place: usize, pair: &Pair, row: usize) -> Keys
+    requires { IsRowOf table.now pair.now row }
+    ensures { (before : List Pair) → length before ≡ place
+        → AreKeys table.now before keys → AreKeys table.now (before ++ pair.now ∷ []) result }
+{
+    let with_none = or_none_text(keys.with_none, &table.rows()[row], pair.value.as_bytes());
+    if !table.is_key_row(row) {
+        return Keys { with_none, ..keys };
+    }
+    let Some(first) = keys.first else {
+        return Keys {
+            with_none,
+            first: Some(KeyPlace { pair: place, row }),
+            other: None,
+        };
+    };
+    if first.row == row || keys.other.is_some() {
+        return Keys { with_none, ..keys };
+    }
+    Keys {
+        with_none,
+        first: keys.first,
+        other: Some(place),
+    }
+}
+
+/// Returns the keys among the pairs. The row of each is looked up once.
+fn keys_among(table: &AiTable, pairs: &[Pair]) -> Keys
+    ensures { AreKeys table.now pairs.now result }
+{
+    let mut keys = Keys {
+        with_none: false,
+        first: None,
+        other: None,
+    };
+    for (place, pair) in pairs.iter().enumerate() {
+        if let Some(row) = table.find(pair.code.as_bytes()) {
+            keys = with_pair(table, keys, place, pair, row);
+        }
+    }
+    keys
 }

@@ -21,16 +21,16 @@ bounds-rows-place c =
 pub offset_bounds-rows-place : goal.offset_bounds-rows-place
 offset_bounds-rows-place c = let low = bounds-rows-place c in search rules
 
-pub returns-then-starts_with-clause-row : goal.returns-then-starts_with-clause-row
-returns-then-starts_with-clause-row c =
+pub returns-then-is_front-clause-row : goal.returns-then-is_front-clause-row
+returns-then-is_front-clause-row c =
     let kept = rw c.self.view_is at c.self.invariant.0 in
     let starts = rw c.self.view_is at c.self.invariant.1 in
     let places = c.items-places.ensures ∙ start_read c.args.self.now c.self.inside.starts starts c.in_ok-start.start c.index-items-start.result c.in_ok-start.ensures.small (rw c.items.ensures at c.index-items-start.is) in
     let at = row_at_place c.args.self.now kept c.args.text.now c.in_ok-start.start c.in_ok-start.ensures.number c.items-places.result.now places c.loop-place.place-index c.index-rows-place.result c.loop-place-test.true (rw (c.items-rows.ensures, c.self.view_is) at c.index-rows-place.is) in
-    found_at c.args.self.now kept c.args.text.now c.in_ok-start.start c.in_ok-start.ensures.number c.items-places.result.now places _ c.index-rows-place.result at (sym (rw (c.as_bytes.ensures ∙ ap (λ (r : AiRow). r.code) (sym c.index-rows-place.is)) at c.if-starts_with.ensures.value))
+    found_at c.args.self.now kept c.args.text.now c.in_ok-start.start c.in_ok-start.ensures.number c.items-places.result.now places _ c.index-rows-place.result at (sym (rw (c.as_bytes.ensures ∙ ap (λ (r : AiRow). r.code) (sym c.index-rows-place.is)) at c.if-is_front.ensures))
 
-pub returns-then-starts_with-clause-within : goal.returns-then-starts_with-clause-within
-returns-then-starts_with-clause-within c = position_within _ c.args.self.now _ (sym (returns-then-starts_with-clause-row c))
+pub returns-then-is_front-clause-within : goal.returns-then-is_front-clause-within
+returns-then-is_front-clause-within c = position_within _ c.args.self.now _ (sym (returns-then-is_front-clause-row c))
 
 pub loop-place-preserved : goal.loop-place-preserved
 loop-place-preserved c =
@@ -38,7 +38,7 @@ loop-place-preserved c =
     let starts = rw c.self.view_is at c.self.invariant.1 in
     let places = c.items-places.ensures ∙ start_read c.args.self.now c.self.inside.starts starts c.in_ok-start.start c.index-items-start.result c.in_ok-start.ensures.small (rw c.items.ensures at c.index-items-start.is) in
     let at = row_at_place c.args.self.now kept c.args.text.now c.in_ok-start.start c.in_ok-start.ensures.number c.items-places.result.now places c.loop-place.place-index c.index-rows-place.result c.loop-place-test.true (rw (c.items-rows.ensures, c.self.view_is) at c.index-rows-place.is) in
-    one_place_more c.args.self.now c.items-places.result.now c.args.text.now c.loop-place.place-index c.index-rows-place.result c.loop-place-test.true at (sym (rw (c.as_bytes.ensures ∙ ap (λ (r : AiRow). r.code) (sym c.index-rows-place.is)) at c.if-starts_with.ensures.value)) c.loop-place.invariant
+    one_place_more c.args.self.now c.items-places.result.now c.args.text.now c.loop-place.place-index c.index-rows-place.result c.loop-place-test.true at (sym (rw (c.as_bytes.ensures ∙ ap (λ (r : AiRow). r.code) (sym c.index-rows-place.is)) at c.if-is_front.ensures)) c.loop-place.invariant
 
 pub returns-clause-row : goal.returns-clause-row
 returns-clause-row c =
