@@ -4,7 +4,7 @@ use Rattle.std.specs.List.{zip}
 use Rattle.std.specs.List.Sorted.{IsStrictlyIncreasing}
 use Rattle.std.specs.Option.{option_and_then}
 use Rattle.std.proofs.lemmas.Bool.Decides.{nat_tests}
-use Rattle.gs_ai.specs.declared.predefined_lengths.TheConstants.{STARTS, LENGTHS}
+use Rattle.gs_ai.specs.declared.starts.TheConstants.{STARTS, LENGTHS}
 use Rattle.gs_ai.specs.PredefinedLengths.{predefined_lengths, start_of, predefined_length}
 use Rattle.gs_ai.proofs.Searches.{cons_some, cons_none}
 

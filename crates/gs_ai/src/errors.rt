@@ -1,7 +1,7 @@
 use thiserror::Error;
 
 /// Why rows are not a table. Rows are counted from 0.
-#[derive(Clone, Copy, Debug, Error)]
+#[derive(Clone, Copy, Debug, PartialEq, Error)]
 pub enum AiFault {
     /// The row is invalid regardless of the others, or lists a code that is not that of a qualifier.
     #[error("row {0} of the application identifiers is invalid")]
@@ -21,7 +21,7 @@ pub enum AiFault {
 }
 
 /// Why a value is invalid for its application identifier.
-#[derive(Clone, Copy, Debug, Error)]
+#[derive(Clone, Copy, Debug, PartialEq, Error)]
 pub enum ValueFault {
     /// No row has the code.
     #[error("no row has the application identifier")]
@@ -41,7 +41,7 @@ pub enum ValueFault {
 }
 
 /// The error at a place of an element string or of a link.
-#[derive(Clone, Copy, Debug, Error)]
+#[derive(Clone, Copy, Debug, PartialEq, Error)]
 pub enum ElementWhy {
     /// The value is invalid for its application identifier.
     #[error("{0}")]
@@ -55,7 +55,7 @@ pub enum ElementWhy {
 }
 
 /// The number of bytes before the first invalid element, and its error.
-#[derive(Clone, Copy, Debug, Error)]
+#[derive(Clone, Copy, Debug, PartialEq, Error)]
 #[error("{why}, in the element at byte {at}")]
 pub struct ElementFault {
     /// The number of bytes before the place.

@@ -21,10 +21,8 @@
 #![tactic(auto)]
 
 mod errors;
-mod form;
 mod pair;
 mod part;
-mod predefined_lengths;
 mod row;
 mod rules;
 mod starts;

@@ -1,15 +1,17 @@
-ghost use Rattle.std.specs.Prelude.{◌≡◌, ◌≤◌, ◌&&◌, ◌++◌, take, length, position};
+ghost use Rattle.std.specs.Prelude.{◌≡◌, ◌≤◌, ◌&&◌, ◌++◌, take, length, position, true, not, IsTrue, is_none};
 ghost use Rattle.std.specs.List.{flat_map, enumerate_from, list_all, list_any};
-ghost use Rattle.gs_ai.specs.Values.{has_code};
+ghost use Rattle.gs_ai.specs.Values.{has_code, parts_error};
 ghost use Rattle.gs_ai.specs.Tables.{clash, is_key_of, is_qualifier_of, row_errors, list_errors, table_errors};
+ghost use Rattle.gs_ai.specs.Tables.{are_distinct, are_parts, is_code, is_empty, is_gtin, is_row, keeps_predefined, keeps_role};
 ghost use Rattle.gs_ai.specs.TablesSupport.{is_asked, IsFirstError};
+ghost use Rattle.gs_ai.specs.Parts.{is_open, is_part};
 
 use crate::errors::AiFault;
-use crate::form::{is_row, keeps_predefined};
-use crate::part::Role;
-use crate::predefined_lengths::Predefined;
+use crate::part::{Part, Role};
 use crate::row::AiRow;
-use gs_chars::Text;
+use crate::starts::Predefined;
+use crate::value::{greatest_length_of, least_length_of, parts_ok};
+use gs_chars::{Text, are_digits};
 
 /// Returns whether one of the two codes begins the other.
 #[tactic(auto, unfolding(crate::specs::Tables::clash))]
@@ -117,4 +119,95 @@ pub fn check_rows(predefined: &Predefined, rows: &[AiRow]) -> Result<(), AiFault
 {
     check_each_row(predefined, rows)?;
     check_each_list(rows)
+}
+
+/// Returns whether the code is 2 to 4 digits.
+fn is_code(code: &[u8]) -> bool
+    ensures { result ≡ is_code code.now }
+{
+    are_digits(code) && 2 <= code.len() && code.len() <= 4
+}
+
+/// Returns whether each part is one of the list, and none is written with `..`.
+fn are_closed(parts: &[Part]) -> bool
+    ensures { result ≡ list_all (λ p. is_part p && not (is_open p)) parts.now }
+{
+    parts.iter().all(|part| part.is_listed() && !part.is_open())
+}
+
+/// Returns whether these are 1 to 3 parts of the list, and only the last is written with `..`.
+fn are_parts(parts: &[Part]) -> bool
+    ensures { result ≡ are_parts parts.now }
+{
+    let Some((last, others)) = parts.split_last() else {
+        return false;
+    };
+    if parts.len() > 3 {
+        return false;
+    }
+    last.is_listed() && are_closed(others)
+}
+
+/// Returns whether no code occurs twice.
+fn are_distinct(codes: &[Text]) -> bool
+    ensures { result ≡ are_distinct codes.now }
+{
+    let Some((code, others)) = codes.split_first() else {
+        return true;
+    };
+    !others.contains(code) && are_distinct(others)
+}
+
+/// Returns whether a key has no `none` text, and another row no qualifiers.
+fn keeps_role(row: &AiRow) -> bool
+    ensures { result ≡ keeps_role row.now }
+{
+    match row.role {
+        Role::Key => row.none.as_bytes().is_empty(),
+        Role::Qualifier | Role::Attribute => row.qualifiers.items().is_empty(),
+        Role::Other => false,
+    }
+}
+
+/// Returns whether the parts are 14 digits with a check digit.
+fn is_gtin(parts: &[Part]) -> bool
+    ensures { result ≡ is_gtin parts.now }
+{
+    match parts {
+        [Part::NumCheck(k)] => *k == 14,
+        _ => false,
+    }
+}
+
+/// Returns whether the row is valid, regardless of the others.
+#[tactic(auto, unfolding(crate::specs::Tables::is_row))]
+fn is_row(row: &AiRow) -> bool
+    ensures { result ≡ is_row row.now }
+{
+    let parts = row.parts.items();
+    let none = row.none.as_bytes();
+    is_code(row.code.as_bytes())
+        && are_parts(parts)
+        && keeps_role(row)
+        && are_distinct(row.qualifiers.items())
+        && (!row.short || is_gtin(parts))
+        && (none.is_empty() || parts_ok(parts, none).is_ok())
+}
+
+/// Returns whether AI and value together have only the predefined length, if the AI's start has one. The row has the form that
+/// the table requires.
+#[tactic(auto, unfolding(crate::specs::Tables::is_row, crate::specs::Tables::keeps_predefined))]
+fn keeps_predefined(predefined: &Predefined, row: &AiRow) -> bool
+    requires { is_row row.now ≡ true }
+    ensures { result ≡ keeps_predefined row.now }
+{
+    let parts = row.parts.items();
+    let code = row.code.as_bytes();
+    match predefined.length_of(code) {
+        Some(n) => {
+            let greatest = greatest_length_of(parts);
+            least_length_of(parts) == greatest && code.len() + greatest == n
+        }
+        None => true,
+    }
 }

@@ -5,10 +5,9 @@ ghost use Rattle.gs_ai.specs.Tables.{table_errors, KeepsRules, begins, is_key_of
 ghost use Rattle.gs_ai.specs.Values.{has_code, row_error, value_error};
 
 use crate::errors::{AiFault, ValueFault};
-use crate::predefined_lengths::Predefined;
 use crate::row::AiRow;
 use crate::rules::check_rows;
-use crate::starts::{starts_of, two_digits};
+use crate::starts::{Predefined, starts_of, two_digits};
 use crate::value::parts_ok;
 use gs_chars::List;
 use std::alloc::Global;

@@ -4,7 +4,7 @@ use gs_chars::{Memory, Text};
 use thiserror::Error;
 
 /// Why a list of pairs has no identity.
-#[derive(Debug, Drop, Error)]
+#[derive(Debug, PartialEq, Drop, Error)]
 pub enum IdentFault {
     /// The code occurs a second time with another value.
     #[error("an application identifier occurs twice with different values")]

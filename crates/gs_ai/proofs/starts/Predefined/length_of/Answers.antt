@@ -1,6 +1,6 @@
 use Rattle.std.proofs.Common.{◌≡◌, ◌+◌, ◌-◌, ◌*◌, sym, ◌∙◌, get_or}
 use Rattle.gs_ai.proofs.StartLemmas.{length_found}
-use Rattle.gs_ai.proofs.predefined_lengths.Predefined.length_of.Goals as goal
+use Rattle.gs_ai.proofs.starts.Predefined.length_of.Goals as goal
 
 pub returns : goal.returns
 returns c =

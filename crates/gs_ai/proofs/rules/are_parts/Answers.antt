@@ -1,7 +1,7 @@
 use Rattle.std.proofs.Common.{refl}
 use Rattle.std.specs.List.{list_all}
 use Rattle.gs_ai.proofs.RowLemmas.{is_closed, judged, too_many}
-use Rattle.gs_ai.proofs.form.are_parts.Goals as goal
+use Rattle.gs_ai.proofs.rules.are_parts.Goals as goal
 
 pub returns-then-parts-gt3 : goal.returns-then-parts-gt3
 returns-then-parts-gt3 c = too_many c.args.parts.now c.if-parts-gt3.true

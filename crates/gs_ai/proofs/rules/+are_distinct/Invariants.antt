@@ -1,5 +1,5 @@
 use Rattle.std.proofs.Common.{length}
-use Rattle.gs_ai.proofs.form.+are_distinct.Given as goal
+use Rattle.gs_ai.proofs.rules.+are_distinct.Given as goal
 
 abbrev pub decreases-are_distinct : goal.decreases-are_distinct
 decreases-are_distinct l = length l.codes.now

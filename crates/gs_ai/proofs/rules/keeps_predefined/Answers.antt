@@ -5,7 +5,7 @@ use Rattle.gs_ai.specs.PredefinedLengths.{predefined_length}
 use Rattle.gs_ai.specs.Tables.{keeps_predefined}
 use Rattle.gs_ai.specs.Values.{greatest_of, least_of}
 use Rattle.gs_ai.proofs.RowLemmas.{row_code, row_parts, few, listed, code_short, small_parts}
-use Rattle.gs_ai.proofs.form.keeps_predefined.Goals as goal
+use Rattle.gs_ai.proofs.rules.keeps_predefined.Goals as goal
 
 pub overflow_add-result : goal.overflow_add-result
 overflow_add-result c =
