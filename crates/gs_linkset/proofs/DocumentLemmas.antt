@@ -1,54 +1,91 @@
--- The answer to a document by its parts, and to bytes by their document.
-use Rattle.std.proofs.Common.{◌≡◌, ◌⊎◌, ℕ, List, [], map, codes, Some, None, refl, sym, ap, ◌∙◌, inl, inr}
-use Rattle.std.specs.Prelude.{Result, Ok, Err, option_and_then, unwrap_or}
-use Rattle.std.specs.Str.{IsUtf8, is_utf8}
+-- The answer to a document by the member `linkset` of its root, and to bytes by their document.
+use Rattle.std.proofs.Common.{◌≡◌, ℕ, List, [], true, false, codes, Option, Some, None, refl, sym, ap, ◌∙◌, inl, inr}
+use Rattle.std.specs.Prelude.{Result, Err, IfOk}
+use Rattle.std.specs.List.{list_all}
+use Rattle.std.specs.Option.{option_map_or}
+use Rattle.std.specs.Str.{IsUtf8, bytes_eq, is_utf8}
+use Rattle.std.proofs.lemmas.Slice.Eq.{bytes_eq-Decides}
 use Rattle.std.proofs.lemmas.Str.{IsUtf8-from_is_utf8, is_utf8-from_IsUtf8}
-use Rattle.serde_json.specs.Data.{Data}
-use Rattle.serde_json.specs.Find.{get}
-use Rattle.serde_json.specs.Read.{read as read_text}
 use Rattle.gs_chars.proofs.TruthsAndLists.{true_or_false}
-use Rattle.gs_json.specs.Answers.{OrMemory, count_of, items_count}
-use Rattle.gs_json.specs.Places.{member_place}
+use Rattle.serde_json.specs.Data.{Data, null, boolean, number, string, array, object, Items, Members, no_members, put}
+use Rattle.serde_json.specs.Find.{as_object, get_member}
+use Rattle.serde_json.specs.Read.{read as read_text}
+use Rattle.serde_json.proofs.Views.{get_member-put, get_member-put_other}
+use Rattle.gs_json.specs.Answers.{OrMemory}
+use Rattle.gs_json.specs.Members.{array_in, document_of}
+use Rattle.gs_json.specs.Shapes.{items_list}
 use Rattle.gs_json.specs.declared.error.JsonFault.{JsonFault}
-use Rattle.gs_json.specs.declared.error.JsonFault.TheVariants as json
-use Rattle.gs_json.specs.declared.plan.Sort.TheVariants.{Array}
-use Rattle.gs_json.specs.Members.{array_in, document_of, items_in, items_of}
-use Rattle.gs_chars.specs.Answers.{first_or}
+use Rattle.gs_json.specs.declared.error.JsonFault.TheVariants.{Kind, Lacks, Syntax}
 use Rattle.gs_linkset.specs.Answers.{document_answer, read_answer}
-use Rattle.gs_linkset.specs.Documents.{context_errors, context_of, contexts_of, document_errors, item_errors, member_errors}
-use Rattle.gs_linkset.specs.DocumentsSupport.{count_in}
+use Rattle.gs_linkset.specs.AnswersSupport.{contexts_answer, linkset_answer, linkset_place}
+use Rattle.gs_linkset.specs.Documents.{contexts_of, document_errors}
+use Rattle.gs_linkset.specs.LinkShapes.{is_context}
+use Rattle.gs_linkset.specs.Tokens.{IsAnswer}
 use Rattle.gs_linkset.specs.declared.link_types.Context.{Context}
-use Rattle.gs_linkset.proofs.ReadLemmas.{error_in_front, none_first}
 
-module _ (d : Data) (n : ℕ) where
-  pub document_rejected : (e : JsonFault) → OrMemory (Err e) (first_or (member_errors Array (codes "linkset") [] d) n) → OrMemory (Err e) (document_answer d)
-  unfolding document_answer document_errors
-  document_rejected e h = error_in_front (member_errors Array (codes "linkset") [] d) (item_errors context_errors (member_place [] (codes "linkset")) (items_in (codes "linkset") d)) n (contexts_of d) e h
+-- ---- the root is an object
 
-  pub document_read : (z : ℕ) (items : List Data) (r : Result (List Context) JsonFault) → OrMemory (Ok z) (first_or (member_errors Array (codes "linkset") [] d) n) → items_in (codes "linkset") d ≡ items
-      → OrMemory r (first_or (item_errors context_errors (member_place [] (codes "linkset")) items) (map context_of items)) → OrMemory r (document_answer d)
-  unfolding document_answer document_errors contexts_of
-  document_read z items r none is h =
-      let own = none_first (member_errors Array (codes "linkset") [] d) n z none in
-      rw (own.0, is) h
+abbrev by_linkset : Option Data → Result (List Context) JsonFault
+by_linkset None = Err (Lacks linkset_place)
+by_linkset (Some d) = linkset_answer d
 
-pub no_contexts : (d : Data) → None ≡ get (codes "linkset") d → items_in (codes "linkset") d ≡ []
-no_contexts d h = rw (← h) refl
+by_value : (ms : Members) (o : Option Data) → get_member (codes "linkset") ms ≡ o → document_answer (object ms) ≡ by_linkset o
+unfolding document_answer document_errors contexts_of contexts_answer linkset_answer
+by_value ms None e = rw e refl
+by_value ms (Some null) e = rw e refl
+by_value ms (Some (boolean b)) e = rw e refl
+by_value ms (Some (number n)) e = rw e refl
+by_value ms (Some (string s)) e = rw e refl
+by_value ms (Some (array items)) e = rw e refl
+by_value ms (Some (object inner)) e = rw e refl
 
-pub count_read : (d e : Data) (z : ℕ) → OrMemory (Ok z) (first_or (member_errors Array (codes "linkset") [] d) (count_in (codes "linkset") d)) → Some e ≡ get (codes "linkset") d → z ≡ items_count e
-count_read d e z h at = (none_first (member_errors Array (codes "linkset") [] d) (count_in (codes "linkset") d) z h).1 ∙ ap (λ o. unwrap_or (option_and_then count_of o) 0) (sym at)
+same_answer : (ms ns : Members) (o : Option Data) → get_member (codes "linkset") ms ≡ o → get_member (codes "linkset") ns ≡ o → document_answer (object ms) ≡ document_answer (object ns)
+same_answer ms ns o a b = by_value ms o a ∙ sym (by_value ns o b)
 
-pub array_contexts : (d e : Data) → Some e ≡ get (codes "linkset") d → items_in (codes "linkset") d ≡ items_of e
-array_contexts d e h = ap (λ o. unwrap_or (option_and_then array_in o) []) (sym h)
+-- without members there is no linkset
+pub none_yet : (place : List ℕ) → place ≡ linkset_place → IsAnswer (Err (Lacks place)) no_members
+none_yet place e = (inr (ap (λ p. Err (Lacks p)) e ∙ sym (by_value no_members None refl)), tt)
 
-pub document_is : (bytes : List ℕ) (d : Data) (r : Result (List Context) JsonFault) → IsUtf8 bytes × (read_text bytes ≡ Some d) → OrMemory r (document_answer d) → OrMemory r (read_answer bytes)
+-- another member changes nothing
+pub kept : (answer : Result (List Context) JsonFault) (name : List ℕ) (d : Data) (ms : Members) → bytes_eq name (codes "linkset") ≡ false → IsAnswer answer ms → IsAnswer answer (put name d ms)
+kept answer name d ms other h =
+    let apart = λ (e : codes "linkset" ≡ name). absurd (by name e other) in
+    let same = same_answer (put name d ms) ms _ (get_member-put_other (codes "linkset") name d ms apart) refl in
+    (rw same h.0, h.1)
+  where
+    by : (name : List ℕ) → codes "linkset" ≡ name → bytes_eq name (codes "linkset") ≡ false → ⊥
+    by name e other = let t = rw (← e) at other in absurd (let g : true ≡ false = t in cc)
+
+-- a `linkset` replaces an earlier one
+pub replaced : (answer : Result (List Context) JsonFault) (name : List ℕ) (d : Data) (ms : Members) → bytes_eq name (codes "linkset") ≡ true → OrMemory answer (linkset_answer d) → IfOk answer (λ contexts. list_all is_context contexts ≡ true) → IsAnswer answer (put name d ms)
+replaced answer name d ms own h shape =
+    let same : name ≡ codes "linkset" = (bytes_eq-Decides name (codes "linkset")).0 own in
+    let found = by_value (put name d ms) (Some d) (rw same (get_member-put (codes "linkset") d ms)) in
+    (rw found h, shape)
+
+-- ---- the root is a value of another kind
+
+pub no_object : (d : Data) → as_object d ≡ None → document_answer d ≡ Err (Kind [])
+unfolding document_answer document_errors
+no_object d e = rw e refl
+
+pub no_linkset : (d : Data) → array_in d ≡ None → linkset_answer d ≡ Err (Kind linkset_place)
+unfolding linkset_answer
+no_linkset d e = rw e refl
+
+pub linkset_is : (items : Items) (r : Result (List Context) JsonFault) → OrMemory r (contexts_answer (items_list items)) → OrMemory r (linkset_answer (array items))
+unfolding linkset_answer
+linkset_is items r h = h
+
+-- ---- the bytes of a document
+
+pub text_answer : (bytes : List ℕ) (r : Result (List Context) JsonFault) → IsUtf8 bytes → OrMemory r (option_map_or document_answer (read_text bytes) (Err Syntax)) → OrMemory r (read_answer bytes)
 unfolding read_answer document_of
-document_is bytes d r is h = let t = is_utf8-from_IsUtf8 bytes is.0 in rw (t, is.1) h
+text_answer bytes r text h = rw (is_utf8-from_IsUtf8 bytes text) h
 
-pub not_json : (bytes : List ℕ) (error : JsonFault) → (error ≡ json.Syntax → IsUtf8 bytes → read_text bytes ≡ None) → (error ≡ json.Syntax) ⊎ (error ≡ json.Memory) → OrMemory {X = List Context} (Err error) (read_answer bytes)
+pub no_text : (bytes : List ℕ) → (IsUtf8 bytes → ⊥) → OrMemory {X = List Context} (Err Syntax) (read_answer bytes)
 unfolding read_answer document_of
-not_json bytes error none (inr m) = rw m (inl refl)
-not_json bytes error none (inl s) = elim (true_or_false (is_utf8 bytes)) [
-  | inl t ↦ let e = none s (IsUtf8-from_is_utf8 bytes t) in rw (s, t, e) (inr refl)
-  | inr t ↦ rw (s, t) (inr refl)
+no_text bytes none = elim (true_or_false (is_utf8 bytes)) [
+  | inl t ↦ absurd (none (IsUtf8-from_is_utf8 bytes t))
+  | inr t ↦ rw t (inr refl)
 ]

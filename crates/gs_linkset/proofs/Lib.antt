@@ -5,6 +5,7 @@ pub mod MustHave
 pub mod ReadLemmas
 pub mod Trees
 pub mod DocumentLemmas
+pub mod StreamLemmas
 pub mod WrittenLemmas
 pub mod TokenLemmas
 pub mod PlainTrees

@@ -1,30 +1,20 @@
 -- A member that an object must have: its error, or its reading.
-use Rattle.std.proofs.Common.{◌≡◌, ℕ, true, List, Option, Some, None, option_map, refl, ap, inl, inr}
+use Rattle.std.proofs.Common.{◌≡◌, ℕ, true, List, Option, Some, None, option_map, ap, inl, inr}
 use Rattle.std.specs.Prelude.{Result, Ok, Err, is_some, unwrap_or, option_and_then}
 use Rattle.serde_json.specs.Data.{Data, null, boolean, number, string, array, object}
 use Rattle.serde_json.specs.Find.{as_object, get, get_member}
-use Rattle.gs_json.specs.Answers.{OrMemory, asked, count_of, member_at, must_be}
+use Rattle.gs_json.specs.Answers.{OrMemory, asked, member_at, must_be}
 use Rattle.gs_json.specs.Places.{member_place}
 use Rattle.gs_json.specs.Shapes.{kind_errors, sort_errors, member_errors as errors_of_member}
 use Rattle.gs_json.specs.declared.error.JsonFault.{JsonFault}
 use Rattle.gs_json.specs.declared.error.JsonFault.TheVariants.{Lacks, Kind, Memory}
 use Rattle.gs_json.specs.declared.plan.Sort.{Sort}
-use Rattle.gs_json.specs.declared.plan.Sort.TheVariants.{Array}
 use Rattle.gs_chars.specs.Answers.{first_or}
 use Rattle.gs_linkset.specs.Documents.{member_errors}
 
 same_rejection : {X Y : Type 0} (e f : JsonFault) → OrMemory {X = X} (Err e) (Err f) → OrMemory {X = Y} (Err e) (Err f)
 same_rejection e f (inl h) = inl (let same : e ≡ Memory = cc in ap Err same)
 same_rejection e f (inr h) = inr (let same : e ≡ f = cc in ap Err same)
-
--- only an array has a number of items
-pub array_errors : (place : List ℕ) (d : Data) → sort_errors place Array d ≡ kind_errors place (is_some (count_of d))
-array_errors place null = refl
-array_errors place (boolean b) = refl
-array_errors place (number n) = refl
-array_errors place (string s) = refl
-array_errors place (array items) = refl
-array_errors place (object members) = refl
 
 module _ {X : Type 0} (sort : Sort) (made : Data → Option X) (none : X) (known : (place : List ℕ) (d : Data) → sort_errors place sort d ≡ kind_errors place (is_some (made d))) (name place : List ℕ) where
   abbrev place_of_it : List ℕ

@@ -1,18 +1,17 @@
 -- Definitions that proofs and private functions use with those of Answers.antt.
-use Rattle.std.specs.Prelude.{◌≡◌, ◌⊎◌, ℕ, List, [], Option, Some, option_map, Result, Err}
+use Rattle.std.specs.Prelude.{◌≡◌, ◌⊎◌, ℕ, List, [], codes, map, Option, Some, option_map, Result, Err}
 use Rattle.std.specs.Option.{option_map_or}
 use Rattle.serde_json.specs.Data.{Data}
 use Rattle.serde_json.specs.Find.{at}
 use Rattle.gs_json.specs.declared.error.JsonFault.{JsonFault}
-use Rattle.gs_json.specs.declared.error.JsonFault.TheVariants.{Memory}
-use Rattle.gs_json.specs.declared.plan.Sort.TheVariants.{Text, Array}
-use Rattle.gs_json.specs.Places.{item_place}
+use Rattle.gs_json.specs.declared.error.JsonFault.TheVariants.{Kind, Memory}
+use Rattle.gs_json.specs.declared.plan.Sort.TheVariants.{Text}
+use Rattle.gs_json.specs.Places.{item_place, member_place}
 use Rattle.gs_chars.specs.Answers.{first_or}
 use Rattle.gs_json.specs.Answers.{OrMemory}
 use Rattle.gs_json.specs.Members.{array_in, text_in}
-use Rattle.gs_linkset.specs.Documents.{item_errors}
-use Rattle.gs_linkset.specs.DocumentsSupport.{count_in}
-use Rattle.gs_linkset.specs.Documents.{member_errors, relation_with, target_errors, target_of}
+use Rattle.gs_linkset.specs.Documents.{context_errors, context_of, item_errors, member_errors, relation_with, target_errors, target_of}
+use Rattle.gs_linkset.specs.declared.link_types.Context.{Context}
 use Rattle.gs_linkset.specs.declared.link_types.Relation.{Relation}
 use Rattle.gs_linkset.specs.declared.link_types.Target.{Target}
 
@@ -20,9 +19,17 @@ use Rattle.gs_linkset.specs.declared.link_types.Target.{Target}
 abbrev pub text_answer : List ℕ → List ℕ → Data → Result (List ℕ) JsonFault
 text_answer name place d = first_or (member_errors Text name place d) (text_in name d)
 
--- the number of items of the array that `d` must have at `name`, or the error
-abbrev pub count_answer : List ℕ → List ℕ → Data → Result ℕ JsonFault
-count_answer name place d = first_or (member_errors Array name place d) (count_in name d)
+-- the place of the member `linkset` of a document
+abbrev pub linkset_place : List ℕ
+linkset_place = member_place [] (codes "linkset")
+
+-- the contexts of the items of the array `linkset`, or their first error
+unfoldable pub contexts_answer : List Data → Result (List Context) JsonFault
+contexts_answer items = first_or (item_errors context_errors linkset_place items) (map context_of items)
+
+-- the contexts of the member `linkset`, or its first error
+unfoldable pub linkset_answer : Data → Result (List Context) JsonFault
+linkset_answer d = option_map_or contexts_answer (array_in d) (Err (Kind linkset_place))
 
 -- holds if the result is the answer to the item of `whole` at index `i`, or `Memory`
 abbrev pub ItemAnswer : {X : Type 0} → (List ℕ → Data → Result X JsonFault) → List ℕ → ℕ → Data → Result X JsonFault → Type 0

@@ -22,6 +22,7 @@
 
 mod copies;
 mod doc;
+mod document;
 mod laws;
 mod link_shapes;
 mod link_types;

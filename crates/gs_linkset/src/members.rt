@@ -2,7 +2,7 @@ ghost use Rattle.std.specs.Prelude.{◌≡◌, IfOk, true};
 ghost use Rattle.std.specs.Str.{is_utf8};
 ghost use Rattle.serde_json.specs.View.{view};
 ghost use Rattle.gs_json.specs.Answers.{OrMemory};
-ghost use Rattle.gs_linkset.specs.AnswersSupport.{count_answer, text_answer};
+ghost use Rattle.gs_linkset.specs.AnswersSupport.{text_answer};
 
 use gs_chars::Text;
 use gs_json::{JsonFault, Node};
@@ -15,12 +15,4 @@ pub(crate) fn must_text(alloc: Global, object: &Node<'_>, name: &str) -> Result<
 {
     let member = object.member(alloc, name)?;
     member.text(alloc)
-}
-
-/// Returns the number of items of an array that the object must have.
-pub(crate) fn must_array(alloc: Global, object: &Node<'_>, name: &str) -> Result<usize, JsonFault>
-    ensures { OrMemory result (count_answer name.now object.now.place (view object.now.tree)) }
-{
-    let member = object.member(alloc, name)?;
-    member.count(alloc)
 }

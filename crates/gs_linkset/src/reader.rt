@@ -1,24 +1,30 @@
-ghost use Rattle.std.specs.Prelude.{◌≡◌, ◌<◌, [], IfOk, IfSome, codes, false, length, map, true};
+ghost use Rattle.std.specs.Prelude.{◌≡◌, ◌<◌, Err, IfOk, IfSome, codes, false, length, map, true};
 ghost use Rattle.std.specs.List.{list_all};
+ghost use Rattle.std.specs.Option.{option_map_or};
 ghost use Rattle.std.specs.Str.{bytes_eq};
+ghost use Rattle.serde_json.specs.Read.{read as read_text};
 ghost use Rattle.serde_json.specs.View.{view};
 ghost use Rattle.gs_json.specs.Answers.{OrMemory, items_count};
 ghost use Rattle.gs_json.specs.Members.{items_of};
+ghost use Rattle.gs_json.specs.Places.{item_place};
 ghost use Rattle.gs_chars.specs.Answers.{first_or};
 ghost use Rattle.gs_linkset.specs.Answers.{document_answer, read_answer};
-ghost use Rattle.gs_linkset.specs.AnswersSupport.{ItemAnswer, member_answer};
-ghost use Rattle.gs_linkset.specs.Documents.{item_errors};
+ghost use Rattle.gs_linkset.specs.AnswersSupport.{ItemAnswer, linkset_place, member_answer};
+ghost use Rattle.gs_linkset.specs.Documents.{context_errors, context_of, item_errors};
 ghost use Rattle.gs_linkset.specs.LinkShapes.{is_context, is_relation};
 
 use crate::doc::LinkDoc;
+use crate::document::read_document;
 use crate::link_shapes::Shaped;
 use crate::link_types::{Context, Relation, Target};
-use crate::members::{must_array, must_text};
+use crate::members::must_text;
 use crate::pushes::{push, with_room};
 use crate::read_members::{ReadMember, read_members};
 use gs_chars::{List, Text};
-use gs_json::{Doc, JsonFault, Node};
+use gs_json::{JsonFault, Node};
+use serde_json::Value;
 use std::alloc::Global;
+use std::str;
 
 /// An item of an array.
 trait ReadItem: Shaped + Drop {
@@ -145,17 +151,14 @@ impl ReadItem for Context {
     }
 }
 
-/// Reads the contexts of a document.
-fn read_document(alloc: Global, root: &Node<'_>) -> Result<List<Context>, JsonFault>
-    requires { root.now.place ≡ [] }
-    ensures answer { OrMemory result (document_answer (view root.now.tree)) }
-    ensures shape { IfOk result (λ contexts. list_all is_context contexts ≡ true) }
+/// Reads the context of the item of the array `linkset` at an index.
+pub(crate) fn context_at(alloc: Global, item: &Value, i: usize) -> Result<Context, JsonFault>
+    ensures answer { OrMemory result (first_or
+        (context_errors (item_place linkset_place i) (view item.now)) (context_of (view item.now))) }
+    ensures shape { IfOk result (λ context. is_context context ≡ true) }
 {
-    let count = must_array(alloc, root, "linkset")?;
-    match root.find(alloc, "linkset")? {
-        Some(array) => read_items(alloc, &array, count),
-        None => Ok(List::from_vec(Vec::new(alloc))),
-    }
+    let item = Node::of_item(alloc, item, "linkset", i)?;
+    Context::read(alloc, &item)
 }
 
 /// Reads a linkset from a document in JSON (RFC 9264, section 4.2): an object with the array `linkset` of objects with the text
@@ -171,17 +174,16 @@ fn read_document(alloc: Global, root: &Node<'_>) -> Result<List<Context>, JsonFa
 pub fn read(alloc: Global, bytes: &[u8]) -> Result<LinkDoc, JsonFault>
     ensures { OrMemory result (read_answer bytes.now) }
 {
-    match Doc::parse(alloc, bytes) {
-        Ok(doc) => read_root(alloc, &doc.root(alloc)),
-        Err(error) => Err(error),
+    match str::from_utf8(bytes) {
+        Ok(text) => read_linkset(alloc, text),
+        Err(_) => Err(JsonFault::Syntax),
     }
 }
 
-/// Reads the linkset of the document of this tree.
-fn read_root(alloc: Global, root: &Node<'_>) -> Result<LinkDoc, JsonFault>
-    requires { root.now.place ≡ [] }
-    ensures { OrMemory result (document_answer (view root.now.tree)) }
+/// Reads a linkset from a text in JSON.
+fn read_linkset(alloc: Global, text: &str) -> Result<LinkDoc, JsonFault>
+    ensures { OrMemory result (option_map_or document_answer (read_text text.now) (Err (JsonFault.Syntax))) }
 {
-    let contexts = read_document(alloc, root)?;
+    let contexts = read_document(alloc, text)?;
     Ok(LinkDoc::of_contexts(contexts))
 }

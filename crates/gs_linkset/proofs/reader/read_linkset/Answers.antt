@@ -1,4 +1,4 @@
-use Rattle.gs_linkset.proofs.reader.read_root.Goals as goal
+use Rattle.gs_linkset.proofs.reader.read_linkset.Goals as goal
 
 pub of_contexts-requires : goal.of_contexts-requires
 of_contexts-requires c = c.in_ok-contexts.ensures.shape
