@@ -1,4 +1,4 @@
-use Rattle.adapter_tests.proofs.tests.+reads_given.Given as goal
+use Rattle.adapter_tests.proofs.exchanges.+reads_given.Given as goal
 
 -- the number of calls that are left
 abbrev pub decreases-reads_given : goal.decreases-reads_given
