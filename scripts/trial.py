@@ -48,12 +48,15 @@ class Trial:
         return 1 if self.failed or not self.passed + self.left_out else 0
 
 
-def arguments(described, *flags):
-    """Returns the arguments of a check: PROGRAM, with its whole path, and flags; ends with status 2 if there is no such program."""
+def arguments(described, *flags, **numbers):
+    """Returns the arguments of a check: PROGRAM, with its whole path, flags, and numbers, each with its option and default. Ends with
+    status 2 if there is no such program."""
     asked = argparse.ArgumentParser(description=described, formatter_class=argparse.RawDescriptionHelpFormatter)
     asked.add_argument("program", nargs="?", type=Path, default=PROGRAM, metavar="PROGRAM")
     for flag in flags:
         asked.add_argument(flag, action="store_true")
+    for name, (option, default) in numbers.items():
+        asked.add_argument(option, dest=name, type=int, default=default, metavar="N")
     given = asked.parse_args()
     given.program = given.program.resolve()
     if not repository.is_program(given.program):

@@ -1,18 +1,25 @@
-"""The cases of the vectors, crates/vectors, each with its answer, and the pages at the heads of the library crates."""
+"""The vectors of crates/vectors/data, each a case with its wanted answer, and the pages at the heads of the library crates."""
 from repository import CRATES
+
+DATA = CRATES / "vectors" / "data"
+ANSWER, COMMENT = "= ", "# "
+
+
+def lines():
+    """The lines of the files, one file after another."""
+    for path in sorted(DATA.iterdir()):
+        yield from path.read_text("latin-1").split("\n")
 
 
 def cases():
-    """The cases, each with its answer."""
-    program = CRATES / "vectors"
-    lines = (program / "stdin").read_text("latin-1").split("\n")
-    asked = [line for line in lines if line and not line.startswith("#")]
-    return list(zip(asked, (program / "stdout").read_text("latin-1").split("\n")))
+    """The cases, each with its wanted answer."""
+    asked = [line for line in lines() if line and not line.startswith("#")]
+    return [(case, answer.removeprefix(ANSWER)) for case, answer in zip(asked, asked[1:]) if answer.startswith(ANSWER)]
 
 
 def comments():
     """The comments over the cases, which say where they come from."""
-    return [line[2:] for line in (CRATES / "vectors" / "stdin").read_text("latin-1").split("\n") if line.startswith("# ")]
+    return [line.removeprefix(COMMENT) for line in lines() if line.startswith(COMMENT)]
 
 
 def page(root):

@@ -1,12 +1,12 @@
-//! `vectors` runs the public calls of the libraries over data: a case a line of the standard input, its answer a line of the
-//! standard output. The head of vectors_cases says how a case and an answer are written.
+//! `vectors` compares the answers of the libraries' public calls with the wanted ones of the files of crates/vectors/data. It prints
+//! what differs, and for each file the counts. The head of vectors_cases says how a case and an answer are written.
 #![tactic(auto)]
 
 use gs_chars::Text;
 use gs_tables::{TableSet, builtin};
 use std::alloc::{AllocError, Global};
 use std::io;
-use vectors_cases::{Answer, Calls, answer_cases};
+use vectors_cases::{Answer, Calls, compare_files};
 
 /// The public calls of all libraries, with this table set for those that need one.
 #[derive(Drop)]
@@ -19,9 +19,9 @@ impl Libraries {
     fn answer_http(&self, alloc: Global, library: &str, call: &str, args: &[Text]) -> Answer {
         match call {
             "reference_for" | "render" => {
-                vectors_texts::answer(alloc, &self.set, library, call, args)
+                vectors_links::answer(alloc, self.set.ais(), library, call, args)
             }
-            _ => vectors_replies::answer(alloc, self.set.ais(), library, call, args),
+            _ => vectors_resolver::answer(alloc, self.set.ais(), library, call, args),
         }
     }
 }
@@ -29,13 +29,13 @@ impl Libraries {
 impl Calls for Libraries {
     fn answer(&self, alloc: Global, library: &str, call: &str, args: &[Text]) -> Answer {
         match library {
-            "gs_class" => vectors_class::answer(alloc, self.set.ais(), call, args),
             "gs_http" | "tdl_serve" => self.answer_http(alloc, library, call, args),
-            "gs_linktext" | "gs_linktext_grammar" => vectors_web::answer(
-                alloc, library, call, args,
-            ),
-            "gs_membank" => vectors_membank::answer(alloc, &self.set, call, args),
-            "gs_merge" => vectors_merge::answer(alloc, self.set.ais(), call, args),
+            "gs_links"
+            | "gs_linkset"
+            | "gs_linktext"
+            | "gs_linktext_grammar"
+            | "gs_merge"
+            | "gs_template" => { vectors_links::answer(alloc, self.set.ais(), library, call, args) }
             "gs_port"
             | "gs_port_memory"
             | "tdl_answers"
@@ -43,27 +43,30 @@ impl Calls for Libraries {
             | "tdl_gen"
             | "tdl_lines"
             | "tdl_messages"
-            | "tdl_run" => { vectors_runs::answer(alloc, &self.set, library, call, args) }
+            | "tdl_run" => { vectors_program::answer(alloc, &self.set, library, call, args) }
             "gs_ai"
+            | "gs_class"
+            | "gs_dlink"
+            | "gs_element"
+            | "gs_epc"
             | "gs_ident"
+            | "gs_membank"
+            | "gs_prefix"
             | "gs_tables"
             | "gs_tables_builtin"
             | "gs_tables_document"
-            | "gs_element"
-            | "gs_dlink"
-            | "gs_links"
-            | "gs_template"
-            | "gs_epc"
-            | "gs_translate" => { vectors_texts::answer(alloc, &self.set, library, call, args) }
-            _ => vectors_values::answer(alloc, library, call, args),
+            | "gs_translate" => {
+                vectors_translation::answer(alloc, &self.set, library, call, args)
+            }
+            _ => vectors_grammars::answer(alloc, library, call, args),
         }
     }
 }
 
 fn main(rt: HostRuntime) -> io::Result<()> {
-    // the built-in rows satisfy their rules, so that a error is out of memory
+    // the built-in rows satisfy their rules, so that an error is out of memory
     let Ok(set) = builtin(rt.alloc()) else {
         return Err(io::Error::from(AllocError));
     };
-    answer_cases(&rt, &Libraries { set })
+    compare_files(&rt, &Libraries { set })
 }

@@ -1,0 +1,1 @@
+../checks/scripts_path.py

@@ -1,5 +1,0 @@
-use Rattle.adapter_tests.proofs.tests.+reads_given.Given as goal
-
--- the number of calls that are left
-abbrev pub decreases-reads_given : goal.decreases-reads_given
-decreases-reads_given g l = l.most
