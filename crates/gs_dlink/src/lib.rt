@@ -39,3 +39,4 @@ pub use laws::{one_key_path, written_link_is_read};
 pub use one_answer::one_answer_each;
 pub use read::{read_link, read_target};
 pub use stem::{append_link, stem_ok, write_link};
+pub use value::decoded;
