@@ -30,8 +30,9 @@ fn is_short_gtin(text: &[u8]) -> bool
     (text.len() == 8 || text.len() == 12 || text.len() == 13) && are_digits(text)
 }
 
-/// Returns the text without its escapes.
-fn decoded(alloc: Global, text: &[u8]) -> Result<Text, Memory>
+/// Returns the text without its escapes (RFC 3986, section 2.1). A percent sign that begins no escape is unchanged. Fails only
+/// with `Memory`.
+pub fn decoded(alloc: Global, text: &[u8]) -> Result<Text, Memory>
     ensures { IfOk result (λ out. out ≡ percent_decode text.now) }
 {
     let mut out = Vec::with_capacity(alloc, text.len())?;

@@ -4,7 +4,7 @@ use Rattle.std.specs.Prelude.{bytes_eq}
 use Rattle.std.specs.List.{enumerate_from}
 use Rattle.std.proofs.Math.Nat.{le-max_left, le-max_right, max-le}
 use Rattle.std.proofs.lemmas.Bool.{eq-eqb, eqb-true}
-use Rattle.std.proofs.lemmas.List.{length-append}
+use Rattle.std.proofs.lemmas.List.{length-append, length-take-le}
 use Rattle.gs_ai.specs.Tables.{is_empty}
 use Rattle.gs_ai.specs.declared.pair.Pair.{Pair}
 use Rattle.gs_chars.proofs.TruthsAndLists.{and_first, and_second, and_true, equal_bytes, same_bytes}
@@ -50,20 +50,6 @@ first_stops (x ∷ first) (y ∷ pairs) (suc i) a b at other differ = none (is_s
     none : (s t : Bool) → false ≡ t → false ≡ (s && t)
     none true t e = e
     none false t e = refl
-
-take_one : {X : Type 0} (xs : List X) (i : ℕ) (x : X) → slice_get xs i ≡ Some x → take (suc i) xs ≡ take i xs ++ x ∷ []
-take_one [] i x at = absurd (let g : None ≡ Some x = at in cc)
-take_one (y ∷ ys) zero x at = let same : y ≡ x = cc in rw same refl
-take_one (y ∷ ys) (suc i) x at = ap (λ zs. y ∷ zs) (take_one ys i x at)
-
-pub take_next : {X : Type 0} (xs : List X) (i : ℕ) (x : X) → slice_get xs i ≡ Some x → take (i + 1) xs ≡ take i xs ++ x ∷ []
-take_next xs i x at = let next : i + 1 ≡ suc i = omega arith in rw next (take_one xs i x at)
-
-pub take_whole : {X : Type 0} (xs : List X) (i : ℕ) → length xs ≤ i → take i xs ≡ xs
-take_whole [] zero h = refl
-take_whole [] (suc i) h = refl
-take_whole (x ∷ xs) zero h = absurd (omega arith)
-take_whole (x ∷ xs) (suc i) h = ap (λ ys. x ∷ ys) (take_whole xs i (omega arith))
 
 pub get_at : {X : Type 0} (xs : List X) (k : ℕ) (d : X) → k < length xs → slice_get xs k ≡ Some (get_or xs k d)
 get_at [] k d h = absurd (omega arith)
@@ -252,15 +238,9 @@ candidate_is_prefix : (identity : Elements) (want : Want) (link : Link) → is_c
 unfolding is_candidate
 candidate_is_prefix identity want link h = and_first (is_prefix link.anchor identity) (is_wanted want link.relation) h
 
-pub length_taken : {X : Type 0} (k : ℕ) (xs : List X) → k ≤ length xs → length (take k xs) ≡ k
-length_taken zero [] h = refl
-length_taken zero (x ∷ xs) h = refl
-length_taken (suc k) [] h = absurd (omega arith)
-length_taken (suc k) (x ∷ xs) h = ap suc (length_taken k xs (omega arith))
-
 by_prefix : (anchor identity : Elements) (depth : ℕ) → length anchor.qualifiers ≡ depth → (k : ℕ) × (k ≤ length identity.qualifiers) × (anchor ≡ first_qualifiers k identity) → anchor ≡ first_qualifiers depth identity
 by_prefix anchor identity depth deep (k, few, is) =
-    let taken : length anchor.qualifiers ≡ k = rw is (length_taken k identity.qualifiers few) in
+    let taken : length anchor.qualifiers ≡ k = rw is (length-take-le k identity.qualifiers few) in
     let level : k ≡ depth = sym taken ∙ deep in
     is ∙ ap (λ n. first_qualifiers n identity) level
 
@@ -277,5 +257,5 @@ depth_whole links identity want = depth_below (is_candidate identity want) links
   where
     few : (link : Link) → (k : ℕ) × (k ≤ length identity.qualifiers) × (link.anchor ≡ first_qualifiers k identity) → depth_of link ≤ length identity.qualifiers
     few link (k, low, is) =
-        let taken : depth_of link ≡ k = rw is (length_taken k identity.qualifiers low) in
+        let taken : depth_of link ≡ k = rw is (length-take-le k identity.qualifiers low) in
         omega (arith, taken, low)

@@ -20,7 +20,8 @@ use Rattle.gs_links.specs.Languages.{matches, narrowed, some_or}
 use Rattle.gs_links.specs.Shapes.{is_link}
 use Rattle.gs_links.specs.declared.link.Link.{Link}
 use Rattle.gs_links.specs.declared.link.Want.{Want}
-use Rattle.gs_links.proofs.ChoiceLemmas.{chosen_anchor, found, get_at, take_next}
+use Rattle.gs_linkset.proofs.ReadLemmas.{take_next}
+use Rattle.gs_links.proofs.ChoiceLemmas.{chosen_anchor, found, get_at}
 
 -- ---- the links of numbers
 

@@ -13,7 +13,8 @@ use Rattle.gs_links.specs.Index.{IsIndexOf, anchor_number, has_number, listed, w
 use Rattle.gs_links.specs.declared.index.Index.{Index}
 use Rattle.gs_links.specs.declared.link.Link.{Link}
 use Rattle.gs_links.specs.declared.link.Want.{Want}
-use Rattle.gs_links.proofs.ChoiceLemmas.{among, chosen_anchor, depth_below, depth_whole, depth_within, found, get_at, numbers_end, same_filter, take_next}
+use Rattle.gs_linkset.proofs.ReadLemmas.{take_next}
+use Rattle.gs_links.proofs.ChoiceLemmas.{among, chosen_anchor, depth_below, depth_whole, depth_within, found, get_at, numbers_end, same_filter}
 
 -- ---- of numbers those of links that pass
 

@@ -5,14 +5,13 @@ use Rattle.std.specs.Char.{to_ascii_lowercase}
 use Rattle.std.specs.List.{list_any}
 use Rattle.std.specs.Option.{option_map_or}
 use Rattle.std.proofs.lemmas.Bool.{cases_lt, eqb-true}
-use Rattle.std.proofs.lemmas.List.{length-append, map-append, take_more}
+use Rattle.std.proofs.lemmas.List.{length-append, length-take-le, map-append, take_all, take_more}
 use Rattle.gs_chars.proofs.TruthsAndLists.{and_first, and_second, equal_bytes, false_from, get_of_take, within}
 use Rattle.gs_links.specs.Choices.{passing}
 use Rattle.gs_links.specs.Index.{hash_with}
-use Rattle.gs_links.specs.Languages.{is_any, is_cut, is_in_range, lowered, matches, narrowed, some_or, tags_of}
+use Rattle.gs_links.specs.Languages.{is_any, is_cut, is_in_range, lowered, matches, narrowed, some_or, tags_of, NoneBefore, SomeAt}
 use Rattle.gs_links.specs.Marks.{IsLeast, IsMarked, place_of}
 use Rattle.gs_links.specs.declared.link.Link.{Link}
-use Rattle.gs_links.proofs.ChoiceLemmas.{length_taken, take_whole}
 use Rattle.gs_links.proofs.IndexLemmas.{passing_less, passing_more}
 
 -- ---- hashes
@@ -78,8 +77,8 @@ unfolding place_of
 least_whole marks tag i hash least less all hashed low mark so_far n cut = elim (cases_lt n i) [
   | inl below ↦ let before = so_far n below cut in omega (arith, before, low)
   | inr over ↦
-      let whole = rw (take_whole tag i all) at hashed in
-      rw (take_whole tag n (omega (arith, over, all)), ← whole) mark
+      let whole = rw (take_all i tag all) at hashed in
+      rw (take_all n tag (omega (arith, over, all)), ← whole) mark
 ]
 
 pub least_of_more : (marks : List ℕ) (tags : List (List ℕ)) (i : ℕ) (tag : List ℕ) (least own less : ℕ) → slice_get tags i ≡ Some tag → less ≤ least → less ≤ own → IsLeast marks tag own → ((t : ℕ) (other : List ℕ) → slice_get (take i tags) t ≡ Some other → IsLeast marks other least) → (t : ℕ) (other : List ℕ) → slice_get (take (i + 1) tags) t ≡ Some other → IsLeast marks other less
@@ -138,12 +137,6 @@ module _ (marks : List ℕ) (ranges tags : List (List ℕ)) (link : Link) (from 
       omega (arith, low, before)))
 
 -- ---- the first range that a link of numbers matches
-
-abbrev pub NoneBefore : List Link → List ℕ → List (List ℕ) → ℕ → Type 0
-NoneBefore links numbers ranges first = (k : ℕ) (range : List ℕ) → k < first → slice_get ranges k ≡ Some range → passing links (matches range) numbers ≡ []
-
-abbrev pub SomeAt : List Link → List ℕ → List (List ℕ) → ℕ → Type 0
-SomeAt links numbers ranges first = (range : List ℕ) → slice_get ranges first ≡ Some range → 0 < length (passing links (matches range) numbers)
 
 module _ (links : List Link) (numbers : List ℕ) (i n : ℕ) (link : Link) (at : slice_get numbers i ≡ Some n) (there : slice_get links n ≡ Some link) (ranges : List (List ℕ)) (from first less : ℕ) (low : less ≤ first) (behind : (k : ℕ) (range : List ℕ) → from ≤ k → k < less → slice_get ranges k ≡ Some range → matches range link ≡ false) (ahead : (k : ℕ) (range : List ℕ) → slice_get ranges k ≡ Some range → k < from → matches range link ≡ false) where
   pub none_more : NoneBefore links (take i numbers) ranges first → NoneBefore links (take (i + 1) numbers) ranges less
@@ -229,7 +222,7 @@ any_passes links range (n ∷ numbers) any each =
 
 module _ (links : List Link) (numbers : List ℕ) (ranges : List (List ℕ)) (any first : ℕ) (most : any ≤ length ranges) (star : (range : List ℕ) → slice_get ranges any ≡ Some range → is_any range ≡ true) (low : first ≤ length (take any ranges)) (none : NoneBefore links numbers (take any ranges) first) (some : SomeAt links numbers (take any ranges) first) (each : All (λ i. i < length links) numbers) where
   few : first ≤ any
-  few = let size = length_taken any ranges most in omega (arith, size, low)
+  few = let size = length-take-le any ranges most in omega (arith, size, low)
 
   none_there : NoneBefore links numbers ranges first
   none_there k range below at = let h = few in none k range below (taken_at ranges any k range (omega (arith, below, h)) at)

@@ -5,7 +5,7 @@ use Rattle.std.specs.List.{enumerate_from, flat_map}
 use Rattle.std.proofs.lemmas.Bool.{cases_lt}
 use Rattle.std.proofs.lemmas.Grind.{flat_map-append}
 use Rattle.std.proofs.Common.{lt→ltb}
-use Rattle.std.proofs.lemmas.List.{append-nil, append_assoc, length-append, map-append}
+use Rattle.std.proofs.lemmas.List.{append-nil, append_assoc, length-append, map-append, take_all}
 use Rattle.gs_ai.specs.Tables.{is_empty}
 use Rattle.gs_ai.specs.declared.pair.Pair.{Pair}
 use Rattle.gs_ai.specs.declared.row.AiRow.{AiRow}
@@ -17,7 +17,7 @@ use Rattle.gs_ident.specs.Identities.{IsMadeWith, identity_of_pairs}
 use Rattle.gs_ident.specs.declared.errors.IdentFault.{IdentFault}
 use Rattle.gs_linkset.specs.declared.link_types.Context.{Context}
 use Rattle.gs_linkset.specs.declared.link_types.Relation.{Relation}
-use Rattle.gs_links.proofs.ChoiceLemmas.{take_next, take_whole}
+use Rattle.gs_linkset.proofs.ReadLemmas.{take_next}
 use Rattle.gs_links.specs.Loads.{OrMemory, anchor_answer, bad_target, by_identity, by_pairs, context_errors, context_links, expanded, link_with, links_by, links_of, load_answer, pairs_answer, relation_errors, relation_links, relations_errors, store_errors, targets_count, without_attributes}
 use Rattle.gs_links.specs.LoadingSupport.{relations_count}
 use Rattle.gs_links.specs.declared.error.AnchorWhy.{AnchorWhy}
@@ -67,7 +67,7 @@ no_attributes table text anchor h = bare_pairs table (pairs_answer table text) a
 
 -- all qualifiers of an anchor give the anchor
 pub whole_anchor : (anchor : Elements) → anchor.attributes ≡ [] → record { key = anchor.key; qualifiers = take (length anchor.qualifiers) anchor.qualifiers; attributes = [] } ≡ anchor
-whole_anchor anchor none = ap (λ q. record { key = anchor.key; qualifiers = q; attributes = [] }) (take_whole anchor.qualifiers (length anchor.qualifiers) (omega arith)) ∙ ap (λ a. record { key = anchor.key; qualifiers = anchor.qualifiers; attributes = a }) (sym none)
+whole_anchor anchor none = ap (λ q. record { key = anchor.key; qualifiers = q; attributes = [] }) (take_all (length anchor.qualifiers) anchor.qualifiers (omega arith)) ∙ ap (λ a. record { key = anchor.key; qualifiers = anchor.qualifiers; attributes = a }) (sym none)
 
 -- ---- the additions for each item of a list
 
@@ -104,7 +104,7 @@ module _ {A : Type 0} (errors : ℕ → A → List StoreFault) where
       rw (next, rows_end 0 xs i x at, here, before) own
 
   pub none_all : (xs : List A) (i : ℕ) → length xs ≤ i → NoneBefore xs i → flat_map row_errors (enumerate_from 0 xs) ≡ []
-  none_all xs i all h = rw (take_whole xs i all) at h
+  none_all xs i all h = rw (take_all i xs all) at h
 
   split : (n : ℕ) (xs : List A) (i : ℕ) (x : A) → slice_get xs i ≡ Some x → flat_map row_errors (enumerate_from n (take i xs)) ≡ [] → (rest : List StoreFault) × (flat_map row_errors (enumerate_from n xs) ≡ errors (n + i) x ++ rest)
   split n [] i x at none = absurd (let g : None ≡ Some x = at in cc)
@@ -235,7 +235,7 @@ module _ (table : List AiRow) (voc : List ℕ) (contexts : List Context) (i : �
   unfolding links_of
   contexts_made links so_far all =
       let none = none_all (context_errors table) contexts i all so_far.none in
-      let made = rw (take_whole contexts i all) at so_far.made in
+      let made = rw (take_all i contexts all) at so_far.made in
       rw (none, made) (inr refl)
 
 made_by : {X : Type 0} (errors : List StoreFault) (x z : X) → OrMemory (Ok z) (first_or errors x) → z ≡ x

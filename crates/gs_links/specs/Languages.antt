@@ -1,7 +1,7 @@
 -- The choice among links by language: the ranges are tried in order, and a range matches by basic filtering (RFC 4647,
 -- section 3.3.1). That a link has the languages of its `hreflang`, and that the first range with a link decides, is this
 -- project's own.
-use Rattle.std.specs.Prelude.{ℕ, Bool, true, ◌==◌, ◌&&◌, ◌||◌, if◌then◌else◌, List, [], ◌∷◌, map, take, drop, length, codes, bytes_eq}
+use Rattle.std.specs.Prelude.{◌≡◌, ◌≤◌, ◌<◌, ℕ, Bool, true, false, ◌==◌, ◌&&◌, ◌||◌, if◌then◌else◌, List, [], ◌∷◌, map, take, drop, length, codes, bytes_eq, slice_get, Some}
 use Rattle.std.specs.Char.{to_ascii_lowercase}
 use Rattle.std.specs.List.{list_any}
 use Rattle.gs_linkset.specs.declared.link_types.Attr.{Attr}
@@ -55,3 +55,33 @@ some_or (n ∷ numbers) others = n ∷ numbers
 abbrev pub narrowed : List Link → List ℕ → List (List ℕ) → List ℕ
 narrowed links numbers [] = numbers
 narrowed links numbers (range ∷ ranges) = some_or (passing links (matches range) numbers) (narrowed links numbers ranges)
+
+-- ---- the first range that decides
+
+-- no range before the place is that of every language
+abbrev pub NoneIsAny : List (List ℕ) → ℕ → Type 0
+NoneIsAny ranges n = (k : ℕ) (range : List ℕ) → k < n → slice_get ranges k ≡ Some range → is_any range ≡ false
+
+-- the range at the place, if there is one, is that of every language
+abbrev pub IsAnyAt : List (List ℕ) → ℕ → Type 0
+IsAnyAt ranges n = (range : List ℕ) → slice_get ranges n ≡ Some range → is_any range ≡ true
+
+-- no range is that of every language
+abbrev pub NameLanguages : List (List ℕ) → Type 0
+NameLanguages ranges = (k : ℕ) (range : List ℕ) → slice_get ranges k ≡ Some range → is_any range ≡ false
+
+-- the link matches no range from a place to another
+abbrev pub MatchesNone : List (List ℕ) → Link → ℕ → ℕ → Type 0
+MatchesNone ranges link from n = (k : ℕ) (range : List ℕ) → from ≤ k → k < n → slice_get ranges k ≡ Some range → matches range link ≡ false
+
+-- the link matches the range at the place, if there is one
+abbrev pub MatchesAt : List (List ℕ) → Link → ℕ → Type 0
+MatchesAt ranges link n = (range : List ℕ) → slice_get ranges n ≡ Some range → matches range link ≡ true
+
+-- none of the links of the numbers matches a range before the place
+abbrev pub NoneBefore : List Link → List ℕ → List (List ℕ) → ℕ → Type 0
+NoneBefore links numbers ranges n = (k : ℕ) (range : List ℕ) → k < n → slice_get ranges k ≡ Some range → passing links (matches range) numbers ≡ []
+
+-- one of the links of the numbers matches the range at the place, if there is one
+abbrev pub SomeAt : List Link → List ℕ → List (List ℕ) → ℕ → Type 0
+SomeAt links numbers ranges n = (range : List ℕ) → slice_get ranges n ≡ Some range → 0 < length (passing links (matches range) numbers)

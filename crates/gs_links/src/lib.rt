@@ -28,9 +28,7 @@
 #![tactic(auto)]
 
 mod anchors;
-mod candidates;
 mod choice;
-mod counts;
 mod documents;
 mod error;
 mod index;
@@ -38,18 +36,14 @@ mod languages;
 mod laws;
 mod link;
 mod loader;
-mod marks;
 mod narrower;
-mod relations;
 mod store;
-mod vocabulary;
 
-pub use counts::is_over;
 pub use error::{AnchorWhy, StoreFault};
 pub use laws::{
     by_key_and_qualifiers, deeper_hides, expanded_once, names_of_relations, one_anchor,
     prefixes_of, same_links_load, same_links_same_store,
 };
 pub use link::{Chosen, Link, Want};
+pub use loader::{expand, is_over, keeps_names};
 pub use store::Store;
-pub use vocabulary::{expand, keeps_names};

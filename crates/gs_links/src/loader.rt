@@ -1,18 +1,19 @@
-ghost use Rattle.std.specs.Prelude.{◌≡◌, ◌++◌, [], IfErr, IfOk, Ok, map, not, position, true};
+ghost use Rattle.std.specs.Prelude.{◌≡◌, ◌++◌, [], IfErr, IfOk, Ok, map, not, position, true, ◌≤◌, ◌+◌, min, nat_lt};
+ghost use Rattle.std.specs.Prelude.{suc};
 ghost use Rattle.gs_linkset.specs.LinkShapes.{is_context};
-ghost use Rattle.gs_links.specs.Shapes.{is_link};
+ghost use Rattle.gs_links.specs.Shapes.{is_link, most_links};
 ghost use Rattle.std.specs.List.{enumerate_from, flat_map, list_all};
 ghost use Rattle.gs_ident.specs.Identities.{IsMadeWith};
-ghost use Rattle.gs_links.specs.Loads.{OrMemory, anchor_answer, context_errors, context_links};
-ghost use Rattle.gs_links.specs.LoadingSupport.{IsRejection};
+ghost use Rattle.gs_links.specs.Loads.{OrMemory, anchor_answer, context_errors, context_links, is_reference, link_with};
+ghost use Rattle.gs_links.specs.Loads.{links_of, relation_links, relations_errors, targets_count, expanded};
+ghost use Rattle.gs_links.specs.Loads.{keeps_names};
+ghost use Rattle.gs_links.specs.LoadingSupport.{IsRejection, relations_count};
 ghost use Rattle.gs_chars.specs.Answers.{first_or};
 ghost use Rattle.gs_chars.specs.Characters.{is_visible};
-ghost use Rattle.gs_links.specs.Loads.{is_reference, link_with, links_of, relation_links, relations_errors};
 
 use crate::anchors::read_anchor;
 use crate::error::StoreFault;
 use crate::link::Link;
-use crate::vocabulary::expand;
 use gs_ai::AiTable;
 use gs_chars::{List, Memory, Text, are_visible};
 use gs_ident::Identity;
@@ -181,4 +182,55 @@ pub(crate) fn links_of(
         i += 1;
     }
     Ok(List::from_vec(links))
+}
+
+/// The most links that a store has: one for each target.
+const MOST_LINKS: usize = 65_536;
+
+/// Returns the sum of a count and the number of the relations' targets, up to one more than a store has.
+fn count_relations(before: usize, relations: &[Relation]) -> usize
+    requires { before ≤ suc most_links }
+    ensures { result ≡ min (before + relations_count relations.now) (suc most_links) }
+{
+    let mut count = before;
+    for i in 0..relations.len() {
+        count = (count + relations[i].targets.items().len()).min(MOST_LINKS + 1);
+    }
+    count
+}
+
+/// Returns whether the contexts have more targets than a store has links: more than 65,536.
+pub fn is_over(contexts: &[Context]) -> bool
+    ensures { result ≡ nat_lt most_links (targets_count contexts.now) }
+{
+    let mut count = 0;
+    for i in 0..contexts.len() {
+        count = count_relations(count, contexts[i].relations.items());
+    }
+    MOST_LINKS < count
+}
+
+/// Returns whether expanding an expanded relation again does not change it: neither the vocabulary nor `gs1:` begins with the
+/// other. So it does not begin with `gs1:`, is not empty, and is not `g`, `gs` or `gs1`.
+#[tactic(auto, unfolding(crate::specs::Loads::keeps_names))]
+pub fn keeps_names(voc: &[u8]) -> bool
+    ensures { result ≡ keeps_names voc.now }
+{
+    !voc.starts_with(b"gs1:") && !b"gs1:".starts_with(voc)
+}
+
+/// Returns the relation of this name. If the name begins with `gs1:`, it is the vocabulary with the rest, otherwise the name.
+/// Fails only with `Memory`.
+#[tactic(auto, unfolding(crate::specs::Loads::expanded))]
+pub fn expand(alloc: Global, voc: &[u8], name: Text) -> Result<Text, Memory>
+    ensures { IfOk result (λ relation. relation ≡ expanded voc.now name) }
+{
+    match name.as_bytes().strip_prefix(b"gs1:") {
+        Some(rest) => {
+            let mut relation = Vec::from_slice(alloc, voc)?;
+            relation.extend_from_slice(rest)?;
+            Ok(Text::from_vec(relation))
+        }
+        None => Ok(name),
+    }
 }

@@ -1,11 +1,10 @@
-ghost use Rattle.std.specs.Prelude.{◌≡◌, ◌≤◌, ◌<◌, ℕ, List, [], Some, All, false, true, length, slice_get, take};
+ghost use Rattle.std.specs.Prelude.{◌≡◌, ◌≤◌, ◌<◌, All, length, take};
 ghost use Rattle.gs_links.specs.Choices.{passing};
-ghost use Rattle.gs_links.specs.Languages.{is_any, matches, narrowed};
+ghost use Rattle.gs_links.specs.Languages.{matches, narrowed, IsAnyAt, MatchesAt, MatchesNone, NameLanguages, NoneBefore, NoneIsAny, SomeAt};
 ghost use Rattle.gs_links.specs.Marks.{IsMarked};
 
-use crate::languages::{is_any, matches, tags_of};
+use crate::languages::{PLACES, is_any, least_of_tags, matches, put_marks, tags_of};
 use crate::link::Link;
-use crate::marks::{PLACES, least_of_tags, put_marks};
 use gs_chars::Text;
 
 /// Puts at the start, of the numbers, those of links that match a range, and gives their number.
@@ -29,9 +28,8 @@ fn put_matching(links: &[Link], numbers: &[u32], range: &[u8], out: &mut [u32]) 
 /// Returns the number of the first range that is that of every language, or their number.
 fn first_any(ranges: &[Text]) -> usize
     ensures most { result ≤ length ranges.now }
-    ensures before { (k : ℕ) (range : List ℕ) → k < result → slice_get ranges.now k ≡ Some range
-        → is_any range ≡ false }
-    ensures any { (range : List ℕ) → slice_get ranges.now result ≡ Some range → is_any range ≡ true }
+    ensures before { NoneIsAny ranges.now result }
+    ensures any { IsAnyAt ranges.now result }
 {
     for k in 0..ranges.len() {
         if is_any(ranges[k].as_bytes()) {
@@ -45,10 +43,8 @@ fn first_any(ranges: &[Text]) -> usize
 fn first_of_link(ranges: &[Text], link: &Link, from: usize, to: usize) -> usize
     requires { to ≤ length ranges.now }
     ensures most { result ≤ to }
-    ensures before { (k : ℕ) (range : List ℕ) → from ≤ k → k < result → slice_get ranges.now k ≡ Some range
-        → matches range link.now ≡ false }
-    ensures matched { result < to → (range : List ℕ) → slice_get ranges.now result ≡ Some range
-        → matches range link.now ≡ true }
+    ensures before { MatchesNone ranges.now link.now from result }
+    ensures matched { result < to → MatchesAt ranges.now link.now result }
 {
     for k in from..to {
         if matches(ranges[k].as_bytes(), link) {
@@ -62,14 +58,12 @@ fn first_of_link(ranges: &[Text], link: &Link, from: usize, to: usize) -> usize
 /// `*`. By the marks of the ranges a link is compared only with those that it may match.
 fn first_marked(links: &[Link], numbers: &[u32], ranges: &[Text], marks: &[u16]) -> usize
     requires known { All (λ i. i < length links.now) numbers.now }
-    requires other { (k : ℕ) (range : List ℕ) → slice_get ranges.now k ≡ Some range → is_any range ≡ false }
+    requires other { NameLanguages ranges.now }
     requires size { length marks.now ≡ 65536 }
     requires marked { IsMarked marks.now ranges.now }
     ensures most { result ≤ length ranges.now }
-    ensures before { (k : ℕ) (range : List ℕ) → k < result → slice_get ranges.now k ≡ Some range
-        → passing links.now (matches range) numbers.now ≡ [] }
-    ensures matched { (range : List ℕ) → slice_get ranges.now result ≡ Some range
-        → 0 < length (passing links.now (matches range) numbers.now) }
+    ensures before { NoneBefore links.now numbers.now ranges.now result }
+    ensures matched { SomeAt links.now numbers.now ranges.now result }
 {
     let mut first = ranges.len();
     for i in 0..numbers.len() {
@@ -83,12 +77,10 @@ fn first_marked(links: &[Link], numbers: &[u32], ranges: &[Text], marks: &[u16])
 /// Returns the number of the first range that the link of one of the numbers matches, or how many ranges there are. None is `*`.
 fn first_matched(links: &[Link], numbers: &[u32], ranges: &[Text]) -> usize
     requires known { All (λ i. i < length links.now) numbers.now }
-    requires other { (k : ℕ) (range : List ℕ) → slice_get ranges.now k ≡ Some range → is_any range ≡ false }
+    requires other { NameLanguages ranges.now }
     ensures most { result ≤ length ranges.now }
-    ensures before { (k : ℕ) (range : List ℕ) → k < result → slice_get ranges.now k ≡ Some range
-        → passing links.now (matches range) numbers.now ≡ [] }
-    ensures matched { (range : List ℕ) → slice_get ranges.now result ≡ Some range
-        → 0 < length (passing links.now (matches range) numbers.now) }
+    ensures before { NoneBefore links.now numbers.now ranges.now result }
+    ensures matched { SomeAt links.now numbers.now ranges.now result }
 {
     let mut marks = [u16::MAX; PLACES];
     put_marks(&mut marks, ranges);

@@ -20,7 +20,7 @@ Ascend names = IsStrictlySortedBy (slice_cmp nat_cmp) names
 abbrev pub IsBelow : List ℕ → List (List ℕ) → Type 0
 IsBelow name names = AllByRecursion (λ n. slice_cmp nat_cmp name n ≡ Less) names
 
-or_swap : (a b c : Bool) → (a || (b || c)) ≡ (b || (a || c))
+pub or_swap : (a b c : Bool) → (a || (b || c)) ≡ (b || (a || c))
 or_swap true true c = refl
 or_swap true false c = refl
 or_swap false true c = refl

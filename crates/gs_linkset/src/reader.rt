@@ -92,8 +92,8 @@ impl ReadItem for Target {
     }
 }
 
-/// Returns whether the name is `anchor`, the member that is not a relation.
-fn is_anchor(name: &[u8]) -> bool
+/// Returns whether the name is `anchor`, the member of a context that is not a relation.
+pub fn is_anchor(name: &[u8]) -> bool
     ensures { result ≡ bytes_eq name.now (codes "anchor") }
 {
     name == b"anchor".as_slice()

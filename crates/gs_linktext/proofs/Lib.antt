@@ -16,5 +16,4 @@ pub mod SpelledGrammar
 pub mod SpelledLexemes
 pub mod SpelledLinks
 pub mod SpelledText
-pub mod TextEscapes
 pub mod Utf8Bytes

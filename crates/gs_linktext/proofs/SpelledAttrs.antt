@@ -22,9 +22,11 @@ use Rattle.gs_linktext_grammar.specs.declared.written_link.Param.{Param}
 use Rattle.gs_linktext_grammar.proofs.LexLemmas.{prefix_whole, not_some, some_is}
 use Rattle.gs_linktext_grammar.proofs.PartLemmas.{split_none}
 use Rattle.gs_linktext.specs.Links.{attr_of, attr_value, attr_with, first_error, is_language_byte, is_reserved, link_error, many_value, tagged_text, tagged_value, types_in, values_of, IsAttributes, IsLinksOf, IsLinksOfLink}
-use Rattle.gs_linktext.specs.Spelling.{escaped, has_unspellable_language, is_unspellable_value}
+use Rattle.gs_dlink.proofs.FreeBytes.{decoded_again}
+use Rattle.gs_ident.specs.Links.{percent_encoded}
+use Rattle.gs_linktext.specs.Spelling.{has_unspellable_language, is_unspellable_value}
 use Rattle.gs_linktext.proofs.AttrLemmas.{no_values}
-use Rattle.gs_linktext.proofs.SpelledBytes.{all_from_none, language_utf8, mark_ends, unescaped_text}
+use Rattle.gs_linktext.proofs.SpelledBytes.{all_from_none, language_utf8, mark_ends}
 use Rattle.gs_linktext.proofs.SpelledGrammar.{read_link, read_param, said}
 use Rattle.gs_linktext.proofs.SpelledLexemes.{attr_params, link_params, named, tagged_word, value_lexemes, Link}
 use Rattle.gs_linktext.proofs.SpelledLinks.{AreGoodAttrs, AreGoodLinks, IsGoodAttr, IsGoodLink}
@@ -35,9 +37,9 @@ use Rattle.gs_chars.proofs.TruthsAndLists.{and_first, and_second, equal_bytes, f
 
 pub tagged_back : (pair : List ℕ × List ℕ) → is_utf8 pair.0 ≡ true → list_all is_language_byte pair.1 ≡ true → tagged_text (tagged_word pair) ≡ Some pair
 tagged_back pair u h =
-    let ends : stops is_language_byte (39 ∷ escaped pair.0) ≡ true = not_false (is_language_byte 39) mark_ends in
-    let whole = prefix_whole is_language_byte pair.1 (39 ∷ escaped pair.0) h ends in
-    rw (whole.0, whole.1, unescaped_text pair.0 (utf8_bytes pair.0 u), u, language_utf8 pair.1 h) refl
+    let ends : stops is_language_byte (39 ∷ percent_encoded pair.0) ≡ true = not_false (is_language_byte 39) mark_ends in
+    let whole = prefix_whole is_language_byte pair.1 (39 ∷ percent_encoded pair.0) h ends in
+    rw (whole.0, whole.1, decoded_again pair.0 (utf8_bytes pair.0 u), u, language_utf8 pair.1 h) refl
 
 pairs_back : (pairs : List (List ℕ × List ℕ)) → list_all is_tagged_text pairs ≡ true → list_any has_unspellable_language pairs ≡ false → filter_map tagged_text (map said (map (λ p. Word (tagged_word p)) pairs)) ≡ pairs
 pairs_back [] shape h = refl

@@ -1,5 +1,5 @@
 -- The bytes of spelled texts.
-use Rattle.std.proofs.Common.{◌≡◌, ℕ, zero, suc, ◌/◌, ◌%◌, ◌<◌, ◌==◌, nat_lt, nat_le, not, Bool, true, false, List, [], ◌∷◌, ◌++◌, All, codes, length, map, get_or, refl, ap, sym, ◌∙◌, inl, inr, arith}
+use Rattle.std.proofs.Common.{◌≡◌, ℕ, zero, suc, ◌/◌, ◌%◌, ◌<◌, ◌==◌, nat_lt, nat_le, not, ◌||◌, Bool, true, false, List, [], ◌∷◌, ◌++◌, All, codes, length, map, get_or, refl, ap, sym, ◌∙◌, inl, inr, arith}
 use Rattle.std.specs.Char.{to_ascii_lowercase}
 use Rattle.std.specs.List.{flat_map, list_all, list_any}
 use Rattle.std.specs.Str.{is_utf8}
@@ -9,15 +9,14 @@ use Rattle.std.proofs.lemmas.List.Elements.{All-head, All-tail}
 use Rattle.std.proofs.lemmas.List.Folds.{list_all-append}
 use Rattle.std.proofs.lemmas.Str.{IsUtf8-from_ascii, is_utf8-from_IsUtf8}
 use Rattle.std.proofs.lemmas.Str.Ascii.{lowercase_is}
-use Rattle.percent_encoding.specs.Percent.{percent_decode}
-use Rattle.percent_encoding.proofs.PercentLemmas.{round_trip}
 use Rattle.gs_chars.specs.Escapes.{hex_digit}
 use Rattle.gs_linktext_grammar.specs.Bytes.{is_token}
 use Rattle.gs_linktext_grammar.specs.Lexemes.{are_some}
 use Rattle.gs_linktext_grammar.proofs.LexLemmas.{equal_number}
 use Rattle.gs_linktext.specs.Links.{is_language_byte}
-use Rattle.gs_linktext.specs.Spelling.{escaped, escaped_byte, is_unescaped, is_upper}
-use Rattle.gs_linktext.proofs.TextEscapes.{same_text, IsByte}
+use Rattle.gs_linktext.specs.Spelling.{is_upper}
+use Rattle.gs_ident.specs.Links.{escaped_byte, is_unescaped, percent_encoded}
+use Rattle.gs_ident.proofs.ValueEscapes.{IsByte}
 use Rattle.gs_linktext.proofs.SpelledLexemes.{tagged_word}
 use Rattle.gs_chars.proofs.TruthsAndLists.{and_first, and_second, and_true, not_false, or_first, or_second, true_from_not, true_or_false}
 
@@ -51,9 +50,16 @@ language_token : (c : ℕ) → is_language_byte c ≡ true → is_token c ≡ tr
 unfolding is_language_byte is_token
 language_token c h = any_in is_token c (codes "-0123456789ABCDEFGHIJKLMNOPQRSTUVWXYZabcdefghijklmnopqrstuvwxyz") h refl
 
-unescaped_token : (c : ℕ) → is_unescaped c ≡ true → is_token c ≡ true
+-- a byte that stands for itself is one of a token
+abbrev is_kept : ℕ → Bool
+is_kept c = not (is_unescaped c) || is_token c
+
+kept_table : agree_below is_kept (λ c. true) 256 ≡ true
 unfolding is_unescaped is_token
-unescaped_token c h = any_in is_token c (codes "-._0123456789ABCDEFGHIJKLMNOPQRSTUVWXYZabcdefghijklmnopqrstuvwxyz") h refl
+kept_table = refl
+
+unescaped_token : (c : ℕ) → c < 256 → is_unescaped c ≡ true → is_token c ≡ true
+unescaped_token c small h = let kept = agree_below_at is_kept (λ c. true) 256 c kept_table small in rw h at kept
 
 -- a byte is below 128
 abbrev is_low : ℕ → Bool
@@ -107,7 +113,7 @@ percent_token = refl
 
 escaped_tokens : (c : ℕ) → c < 256 → list_all is_token (escaped_byte c) ≡ true
 escaped_tokens c h = elim (true_or_false (is_unescaped c)) [
-  | inl t ↦ rw t (and_true (is_token c) true (unescaped_token c t) refl)
+  | inl t ↦ rw t (and_true (is_token c) true (unescaped_token c h t) refl)
   | inr f ↦ let high : c / 16 < 16 = omega (arith, h) in let low : c % 16 < 16 = omega (arith, h) in rw (f, percent_token, hex_token (c / 16) high, hex_token (c % 16) low) refl
 ]
 
@@ -116,8 +122,8 @@ all_escaped [] h = refl
 all_escaped (c ∷ text) h =
     list_all-append is_token (escaped_byte c) (flat_map escaped_byte text) ∙ and_true (list_all is_token (escaped_byte c)) (list_all is_token (flat_map escaped_byte text)) (escaped_tokens c (All-head IsByte c text h)) (all_escaped text (All-tail IsByte c text h))
 
-escaped_is : (text : List ℕ) → escaped text ≡ flat_map escaped_byte text
-unfolding escaped
+escaped_is : (text : List ℕ) → percent_encoded text ≡ flat_map escaped_byte text
+unfolding percent_encoded
 escaped_is text = refl
 
 mark_token : is_token 39 ≡ true
@@ -133,15 +139,12 @@ some_cons x xs = let f : (length (x ∷ xs) == 0) ≡ false = grind (arith, nat_
 
 pub word_tokens : (pair : List ℕ × List ℕ) → list_all is_language_byte pair.1 ≡ true → All IsByte pair.0 → are_some is_token (tagged_word pair) ≡ true
 word_tokens pair h small =
-    let text : list_all is_token (escaped pair.0) ≡ true = ap (list_all is_token) (escaped_is pair.0) ∙ all_escaped pair.0 small in
-    let behind : list_all is_token (39 ∷ escaped pair.0) ≡ true = and_true (is_token 39) (list_all is_token (escaped pair.0)) mark_token text in
+    let text : list_all is_token (percent_encoded pair.0) ≡ true = ap (list_all is_token) (escaped_is pair.0) ∙ all_escaped pair.0 small in
+    let behind : list_all is_token (39 ∷ percent_encoded pair.0) ≡ true = and_true (is_token 39) (list_all is_token (percent_encoded pair.0)) mark_token text in
     let language : list_all is_token pair.1 ≡ true = all_imply is_language_byte is_token language_token pair.1 h in
-    let rest : list_all is_token (pair.1 ++ 39 ∷ escaped pair.0) ≡ true = list_all-append is_token pair.1 (39 ∷ escaped pair.0) ∙ and_true (list_all is_token pair.1) (list_all is_token (39 ∷ escaped pair.0)) language behind in
-    let all : list_all is_token (tagged_word pair) ≡ true = list_all-append is_token (codes "UTF-8'") (pair.1 ++ 39 ∷ escaped pair.0) ∙ and_true (list_all is_token (codes "UTF-8'")) (list_all is_token (pair.1 ++ 39 ∷ escaped pair.0)) prefix_tokens rest in
-    and_true (not (length (tagged_word pair) == 0)) (list_all is_token (tagged_word pair)) (some_cons 85 (codes "TF-8'" ++ (pair.1 ++ 39 ∷ escaped pair.0))) all
-
-pub unescaped_text : (text : List ℕ) → All IsByte text → percent_decode (escaped text) ≡ text
-unescaped_text text h = ap percent_decode (sym (same_text text h)) ∙ round_trip _ text refl h
+    let rest : list_all is_token (pair.1 ++ 39 ∷ percent_encoded pair.0) ≡ true = list_all-append is_token pair.1 (39 ∷ percent_encoded pair.0) ∙ and_true (list_all is_token pair.1) (list_all is_token (39 ∷ percent_encoded pair.0)) language behind in
+    let all : list_all is_token (tagged_word pair) ≡ true = list_all-append is_token (codes "UTF-8'") (pair.1 ++ 39 ∷ percent_encoded pair.0) ∙ and_true (list_all is_token (codes "UTF-8'")) (list_all is_token (pair.1 ++ 39 ∷ percent_encoded pair.0)) prefix_tokens rest in
+    and_true (not (length (tagged_word pair) == 0)) (list_all is_token (tagged_word pair)) (some_cons 85 (codes "TF-8'" ++ (pair.1 ++ 39 ∷ percent_encoded pair.0))) all
 
 pub mark_ends : is_language_byte 39 ≡ false
 unfolding is_language_byte

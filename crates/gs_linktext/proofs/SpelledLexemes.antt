@@ -12,7 +12,8 @@ use Rattle.gs_linktext_grammar.specs.Lexemes.{are_some, Chain, IsLexeme, Lexed, 
 use Rattle.gs_linktext_grammar.specs.declared.lexeme.Lexeme.{Lexeme}
 use Rattle.gs_linktext_grammar.specs.declared.lexeme.Lexeme.TheVariants.{Comma, Semicolon, Equals, Word, Target as Angled, Quoted}
 use Rattle.gs_linktext_grammar.proofs.ChainLemmas.{chain_append}
-use Rattle.gs_linktext.specs.Spelling.{escaped, quoted, quoted_byte, spelled_attr, spelled_behind, spelled_link, spelled_links}
+use Rattle.gs_ident.specs.Links.{percent_encoded}
+use Rattle.gs_linktext.specs.Spelling.{quoted, quoted_byte, spelled_attr, spelled_behind, spelled_link, spelled_links}
 use Rattle.gs_chars.proofs.TruthsAndLists.{and_first, and_second, and_true, not_false, or_first, or_second}
 
 -- a link: its anchor, its relation type and its target
@@ -55,7 +56,7 @@ is_spelt p = are_some is_token p.0 && is_spelt_value p.1
 
 -- the word of a text with its language
 abbrev pub tagged_word : List ℕ × List ℕ → List ℕ
-tagged_word pair = codes "UTF-8'" ++ (pair.1 ++ 39 ∷ escaped pair.0)
+tagged_word pair = codes "UTF-8'" ++ (pair.1 ++ 39 ∷ percent_encoded pair.0)
 
 -- the lexemes of the parameters of a value
 abbrev pub value_lexemes : AttrValue → List Lexeme

@@ -6,7 +6,7 @@ use Rattle.std.proofs.lemmas.Bool.Decides.{nat_tests}
 use Rattle.std.proofs.lemmas.List.Elements.{All-nil, All-cons, All-append}
 use Rattle.std.proofs.lemmas.Str.{IsUtf8-from_is_utf8}
 use lib.Utf8.{encode, scalar, scalars, scalar_cases}
-use Rattle.gs_linktext.proofs.TextEscapes.{IsByte}
+use Rattle.gs_ident.proofs.ValueEscapes.{IsByte}
 use Rattle.gs_chars.proofs.TruthsAndLists.{and_first, and_second, true_or_false}
 
 code_bytes : (c : ℕ) → c < 1114112 → All IsByte (encode c)

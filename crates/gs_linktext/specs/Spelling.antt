@@ -1,9 +1,9 @@
 -- The spelling of a linkset as text: RFC 9264, section 4.1; RFC 8288, section 3; RFC 8187, section 3.2.1. The order of the parts,
 -- and the line break after each comma, are this project's own.
-use Rattle.std.specs.Prelude.{ℕ, Bool, ◌==◌, ◌&&◌, ◌||◌, ◌/◌, ◌%◌, nat_le, not, if◌then◌else◌, List, [], ◌∷◌, ◌++◌, codes, length}
+use Rattle.std.specs.Prelude.{ℕ, Bool, ◌==◌, ◌&&◌, ◌||◌, nat_le, not, if◌then◌else◌, List, [], ◌∷◌, ◌++◌, codes, length}
 use Rattle.std.specs.List.{flat_map, list_any}
 use Rattle.std.specs.Str.{bytes_eq}
-use Rattle.gs_chars.specs.Escapes.{hex_digit}
+use Rattle.gs_ident.specs.Links.{percent_encoded}
 use Rattle.gs_linkset.specs.LinkShapes.{links_of_document}
 use Rattle.gs_linkset.specs.declared.link_types.Attr.{Attr}
 use Rattle.gs_linkset.specs.declared.link_types.AttrValue.{AttrValue}
@@ -22,26 +22,13 @@ quoted_byte c = if c == 34 || c == 92 then 92 ∷ c ∷ [] else c ∷ []
 abbrev pub quoted : List ℕ → List ℕ
 quoted text = 34 ∷ (flat_map quoted_byte text ++ 34 ∷ [])
 
--- trusted, RFC 8187, section 3.2.1, and own: a byte that stands for itself in a tagged text: a letter, a digit, `-`, `.` or `_`
-unfoldable pub is_unescaped : ℕ → Bool
-is_unescaped c =
-    list_any (λ x. x == c) (codes "-._0123456789ABCDEFGHIJKLMNOPQRSTUVWXYZabcdefghijklmnopqrstuvwxyz")
-
--- trusted, RFC 3986, section 2.1: a byte of a tagged text, or a percent sign and its two upper-case digits
-abbrev pub escaped_byte : ℕ → List ℕ
-escaped_byte c = if is_unescaped c then c ∷ [] else 37 ∷ hex_digit (c / 16) ∷ hex_digit (c % 16) ∷ []
-
--- trusted, RFC 8187, section 3.2.1: a tagged text with its escapes
-unfoldable pub escaped : List ℕ → List ℕ
-escaped text = flat_map escaped_byte text
-
 -- trusted, RFC 8288, section 3: a parameter with a quoted value
 abbrev pub spelled_text : List ℕ → List ℕ → List ℕ
 spelled_text name text = codes "; " ++ (name ++ 61 ∷ quoted text)
 
 -- trusted, RFC 8187, section 3.2.1: a parameter with a text and its language
 abbrev pub spelled_pair : List ℕ → List ℕ × List ℕ → List ℕ
-spelled_pair name pair = codes "; " ++ (name ++ (codes "=UTF-8'" ++ (pair.1 ++ 39 ∷ escaped pair.0)))
+spelled_pair name pair = codes "; " ++ (name ++ (codes "=UTF-8'" ++ (pair.1 ++ 39 ∷ percent_encoded pair.0)))
 
 -- trusted, own: the parameters of a value
 abbrev pub spelled_value : List ℕ → AttrValue → List ℕ

@@ -5,7 +5,6 @@ ghost use Rattle.gs_linkset.specs.declared.link_types.AttrValue.TheVariants.{One
 ghost use Rattle.gs_linktext.specs.Groups.{is_one};
 ghost use Rattle.std.specs.List.{cons_option, filter_map, list_all, prefix_len};
 ghost use Rattle.std.specs.Str.{bytes_eq, is_utf8};
-ghost use Rattle.percent_encoding.specs.Percent.{percent_decode};
 ghost use Rattle.gs_linkset.specs.Attributes.{is_single, is_tagged};
 ghost use Rattle.gs_linkset.specs.LinkShapes.{is_attr, is_tagged_text, is_value};
 ghost use Rattle.gs_linktext_grammar.specs.Bytes.{after_prefix, prefix_of};
@@ -14,9 +13,9 @@ ghost use Rattle.gs_linktext.specs.Groups.{attrs_of_entries};
 
 use crate::groups::groups_of;
 use gs_chars::{List, Memory, Text};
+use gs_dlink::decoded;
 use gs_linkset::{Attr, AttrValue};
 use gs_linktext_grammar::{CheckedText, Param, is_utf8};
-use percent_encoding::percent_decode;
 use std::alloc::Global;
 use std::collections::BTreeMap;
 
@@ -47,15 +46,6 @@ pub(crate) fn is_language_byte(c: u8) -> bool
     ensures { result ≡ is_language_byte c }
 {
     matches!(c, b'-' | b'0'..=b'9' | b'A'..=b'Z' | b'a'..=b'z')
-}
-
-/// Returns the text without its escapes.
-fn decoded(alloc: Global, text: &[u8]) -> Result<Text, Memory>
-    ensures { IfOk result (λ out. out ≡ percent_decode text.now) }
-{
-    let mut out = Vec::with_capacity(alloc, text.len())?;
-    percent_decode(text).append_to(&mut out)?;
-    Ok(Text::from_vec(out))
 }
 
 /// Returns the number of bytes of a language at the start of the text.

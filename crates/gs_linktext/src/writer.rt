@@ -2,14 +2,14 @@ ghost use Rattle.std.specs.Prelude.{◌≡◌, ◌++◌, IfOk, IfErr, map, posit
 ghost use Rattle.std.specs.List.{flat_map};
 ghost use Rattle.gs_linkset.specs.LinkShapes.{links_of_document};
 ghost use Rattle.gs_linktext.specs.Lent.{seen};
-ghost use Rattle.gs_linktext.specs.Spelling.{cannot_spell, escaped, quoted, quoted_byte, spelled, spelled_attr, spelled_behind, spelled_link, spelled_links, spelled_pair, spelled_text, spelled_types};
+ghost use Rattle.gs_linktext.specs.Spelling.{cannot_spell, quoted, quoted_byte, spelled, spelled_attr, spelled_behind, spelled_link, spelled_links, spelled_pair, spelled_text, spelled_types};
 ghost use Rattle.gs_linktext.specs.WriteAnswers.{IsUnspellable};
 
 use crate::lent_links::{LentLink, lent_links};
 use crate::spellable::first_unspellable;
 use gs_chars::{Memory, Text};
+use gs_ident::append_escaped;
 use gs_linkset::{Attr, AttrValue, LinkDoc};
-use percent_encoding::{AsciiSet, NON_ALPHANUMERIC, percent_encode};
 use std::alloc::Global;
 
 /// Why a linkset cannot be spelled as text. Links are counted from 0, in the order of the document.
@@ -29,21 +29,6 @@ impl From<Memory> for LinkTextWriteFault {
     fn from(_error: Memory) -> LinkTextWriteFault {
         LinkTextWriteFault::Memory
     }
-}
-
-/// The ASCII bytes that a tagged text escapes: all but letters, digits, `-`, `.` and `_`.
-const ESCAPED: AsciiSet = percent_encoding::ascii_set!(
-    NON_ALPHANUMERIC.remove(b'-').remove(b'.').remove(b'_')
-);
-
-/// Appends a text with its escapes.
-fn write_escaped(out: &mut Vec<u8>, text: &[u8]) -> Result<(), Memory>
-    ensures { IfOk result (λ _. out.new.items ≡ out.old.items ++ escaped text.now) }
-{
-    for piece in percent_encode(text, ESCAPED) {
-        out.extend_from_slice(piece.as_bytes())?;
-    }
-    Ok(())
 }
 
 /// Appends a byte of a quoted string.
@@ -98,7 +83,7 @@ fn write_pair(out: &mut Vec<u8>, name: &[u8], pair: &(Text, Text)) -> Result<(),
     out.extend_from_slice(b"=UTF-8'")?;
     out.extend_from_slice(pair.1.as_bytes())?;
     out.push(b'\'')?;
-    write_escaped(out, pair.0.as_bytes())
+    append_escaped(out, pair.0.as_bytes())
 }
 
 /// Appends a parameter for each text.

@@ -20,7 +20,8 @@ use Rattle.gs_linkset.specs.declared.link_types.Context.{Context}
 use Rattle.gs_linkset.specs.declared.link_types.Target.{Target}
 use Rattle.gs_links.specs.Shapes.{is_link}
 use Rattle.gs_links.specs.declared.link.Link.{Link}
-use Rattle.gs_links.proofs.ChoiceLemmas.{take_next}
+use Rattle.gs_linkset.proofs.ReadLemmas.{take_next}
+use Rattle.gs_links.proofs.RunLemmas.{equal_swapped}
 use Rattle.gs_merge.specs.Distinct.{distinct, is_same_target}
 use Rattle.gs_merge.specs.Groups.{AreGroups, AreTextsOf, entry_seen, found_at, group_at, grouped, groups_of, key_of, some_group, with_target}
 use Rattle.gs_merge.specs.MergedDocuments.{ascending, contexts_of, relations_of, targets_of, with_relation}
@@ -28,7 +29,7 @@ use Rattle.gs_merge.specs.declared.groups.Grouping.{Grouping}
 use Rattle.gs_merge.specs.declared.groups.Grouping.TheVariants.{ByAnchor, ByRelation}
 use Rattle.gs_merge.proofs.DistinctLemmas.{distinct_more, has_some}
 use Rattle.gs_linkset.proofs.NameSets.{Ascend, has}
-use Rattle.gs_merge.proofs.NameSets.{ascending_ascends, at_is_same, below_is_none, has_ascending, one_list, same_bytes_sym}
+use Rattle.gs_merge.proofs.NameSets.{ascending_ascends, at_is_same, below_is_none, has_ascending, one_list}
 use Rattle.gs_merge.proofs.SameTargets.{same_texts, target_itself, target_one}
 
 -- ---- the results of each name
@@ -105,7 +106,7 @@ module _ {G : Type 0} (seen : G → List Link) where
 -- a text is the key of a link if its group is not empty
 pub has_key : (key : Link → List ℕ) (t : List ℕ) (links : List Link) → has t (map key links) ≡ has_some (filter (λ link. bytes_eq (key link) t) links)
 has_key key t [] = refl
-has_key key t (link ∷ links) = rw (same_bytes_sym t (key link), has_key key t links) (by (bytes_eq (key link) t))
+has_key key t (link ∷ links) = rw (equal_swapped t (key link), has_key key t links) (by (bytes_eq (key link) t))
   where
     by : (b : Bool) → (b || has_some (filter (λ l. bytes_eq (key l) t) links)) ≡ has_some (if b then link ∷ filter (λ l. bytes_eq (key l) t) links else filter (λ l. bytes_eq (key l) t) links)
     by true = refl

@@ -8,7 +8,7 @@ use Rattle.std.proofs.lemmas.List.Elements.{All-append, All-head, All-tail}
 use Rattle.std.proofs.lemmas.List.Folds.{list_any-append}
 use Rattle.gs_ai.specs.Tables.{KeepsRules}
 use Rattle.gs_ai.specs.declared.row.AiRow.{AiRow}
-use Rattle.gs_chars.proofs.TruthsAndLists.{and_first, and_second, and_true, equal_bytes, same_bytes}
+use Rattle.gs_chars.proofs.TruthsAndLists.{and_first, and_second, and_true, equal_bytes, or_parts, or_true, same_bytes}
 use Rattle.gs_ident.specs.Elements.{Elements}
 use Rattle.gs_linkset.specs.declared.link_types.Target.{Target}
 use Rattle.gs_links.specs.Choices.{chosen_depth, depth_of, is_candidate, is_chosen, is_prefix, numbers_from}
@@ -18,13 +18,13 @@ use Rattle.gs_links.specs.declared.link.Link.{Link}
 use Rattle.gs_links.specs.declared.link.Want.{Want}
 use Rattle.gs_links.specs.declared.link.Want.TheVariants.{All as Any, Relation}
 use Rattle.gs_links.proofs.ChoiceLemmas.{chosen_anchor, depth_below, depth_within}
+use Rattle.gs_links.proofs.RunLemmas.{equal_swapped}
 use Rattle.gs_merge.specs.Distinct.{distinct, is_same_target}
 use Rattle.gs_merge.specs.MergedDocuments.{anchor_text, links_at, links_by, merged, targets_of}
 use Rattle.gs_merge.specs.Stores.{IsOfRelation, IsStore, chosen_targets, larger_depth, targets_at}
 use Rattle.gs_merge.proofs.DistinctLemmas.{has_some, some_distinct}
 use Rattle.gs_merge.proofs.KeptLinks.{IsKept, store_kept}
 use Rattle.gs_merge.proofs.MergedStores.{all_kept, merged_has}
-use Rattle.gs_merge.proofs.NameSets.{same_bytes_sym}
 use Rattle.gs_merge.proofs.SameTargets.{one_truth, target_itself, target_one}
 use Rattle.gs_merge.proofs.TargetsAt.{targets_are}
 
@@ -111,14 +111,6 @@ or_cases false b h = inr h
 or_left : (a b : Bool) → a ≡ true → (a || b) ≡ true
 or_left a b h = rw h refl
 
-or_right : (a b : Bool) → b ≡ true → (a || b) ≡ true
-or_right true b h = refl
-or_right false b h = h
-
-or_none : (a b : Bool) → (a || b) ≡ false → (a ≡ false) × (b ≡ false)
-or_none true b h = absurd (let bad : true ≡ false = h in cc)
-or_none false b h = (refl, h)
-
 some_append : (xs ys : List Target) → has_some (xs ++ ys) ≡ (has_some xs || has_some ys)
 some_append [] ys = refl
 some_append (x ∷ xs) ys = refl
@@ -180,8 +172,8 @@ module _ (table : List AiRow) (voc : List ℕ) (identity : Elements) (d : ℕ) w
           let x = first_at (a ++ (b ++ m)) (All-append (IsKept table voc) a (b ++ m) kept_a (All-append (IsKept table voc) b m kept_b kept_m)) e in
           rw (links_at_prefix x.link x.kept x.passes a kept_a, links_at_prefix x.link x.kept x.passes b kept_b, links_at_prefix x.link x.kept x.passes m kept_m) (each (anchor_text x.link))
       by false e =
-          let split = or_none (list_any is_at_prefix a) (list_any is_at_prefix (b ++ m)) (sym (list_any-append is_at_prefix a (b ++ m)) ∙ e) in
-          let more = or_none (list_any is_at_prefix b) (list_any is_at_prefix m) (sym (list_any-append is_at_prefix b m) ∙ split.1) in
+          let split = or_parts (list_any is_at_prefix a) (list_any is_at_prefix (b ++ m)) (sym (list_any-append is_at_prefix a (b ++ m)) ∙ e) in
+          let more = or_parts (list_any is_at_prefix b) (list_any is_at_prefix m) (sym (list_any-append is_at_prefix b m) ∙ split.1) in
           rw (none_at a name split.0, none_at b name more.0, none_at m name more.1) refl
 
 -- ---- the links that are chosen for a relation
@@ -199,7 +191,7 @@ unfolding is_candidate
 chosen_by identity name want d is links =
     ap targets_of (filter_agrees (is_chosen identity want d) (λ link. is_chosen identity Any d link && bytes_eq link.relation name)
     (λ link. ap (λ t. t && (depth_of link == d)) (is link) ∙ and_turned (is_prefix link.anchor identity) (bytes_eq name link.relation) (depth_of link == d)
-    ∙ ap (λ t. ((is_prefix link.anchor identity && true) && (depth_of link == d)) && t) (same_bytes_sym name link.relation))
+    ∙ ap (λ t. ((is_prefix link.anchor identity && true) && (depth_of link == d)) && t) (equal_swapped name link.relation))
     links
     ∙ sym (filter_both (is_chosen identity Any d) (λ link. bytes_eq link.relation name) links))
 
@@ -254,7 +246,7 @@ module _ (table : List AiRow) (rules : KeepsRules table) (voc : List ℕ) (keeps
   as_deep_second : chosen_depth b identity want ≤ chosen_depth m identity want
   as_deep_second = depth_below (is_candidate identity want) b (chosen_depth m identity want) (λ j link at own.
       let any = any_from (is_chosen identity want (depth_of link)) b j link at (chosen_itself link own) in
-      depth_reached (depth_of link) m (any_at_depth (depth_of link) ∙ or_right (list_any (is_chosen identity want (depth_of link)) a) (list_any (is_chosen identity want (depth_of link)) b) any))
+      depth_reached (depth_of link) m (any_at_depth (depth_of link) ∙ or_true (list_any (is_chosen identity want (depth_of link)) a) (list_any (is_chosen identity want (depth_of link)) b) any))
 
   chooses_named : (chosen_depth m identity want ≡ larger_depth a b identity want)
       × (chosen_targets m identity want (larger_depth a b identity want) ≡ distinct (chosen_targets a identity want (larger_depth a b identity want) ++ chosen_targets b identity want (larger_depth a b identity want)))

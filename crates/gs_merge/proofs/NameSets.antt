@@ -9,17 +9,12 @@ use Rattle.std.specs.Ordering.{is_eq, is_lt, nat_cmp, ordering_reverse}
 use Rattle.std.specs.Str.{bytes_eq}
 use Rattle.std.proofs.lemmas.Cmp.{nat_list_cmp_total, tied_itself}
 use Rattle.std.proofs.lemmas.Map.Lookups.{exact_bytes}
-use Rattle.gs_chars.proofs.TruthsAndLists.{and_true, equal_bytes, false_from, same_bytes}
+use Rattle.gs_chars.proofs.TruthsAndLists.{and_true, equal_bytes, false_from, or_false, same_bytes}
 use Rattle.gs_linkset.specs.LinkShapes.{ascend, is_below_first}
 use Rattle.gs_linkset.proofs.NameSets.{Ascend, IsBelow, ascend_put, below_trans, has, has_put}
+use Rattle.gs_links.proofs.RunLemmas.{equal_swapped}
 use Rattle.gs_merge.specs.MergedDocuments.{ascending}
 use Rattle.gs_merge.proofs.SameTargets.{one_truth}
-
-bytes_eq_sym : (a b : List ℕ) → bytes_eq a b ≡ true → bytes_eq b a ≡ true
-bytes_eq_sym a b h = let e = equal_bytes a b h in rw e (same_bytes b)
-
-pub same_bytes_sym : (a b : List ℕ) → bytes_eq a b ≡ bytes_eq b a
-same_bytes_sym a b = one_truth (bytes_eq a b) (bytes_eq b a) (bytes_eq_sym a b) (bytes_eq_sym b a)
 
 equal_from : (o : Ordering) → is_eq o ≡ true → o ≡ Equal
 equal_from Less h = absurd (cc)
@@ -35,10 +30,6 @@ at_is_same a b =
 
 -- ---- names each once
 
-or_nothing : (b : Bool) → (b || false) ≡ b
-or_nothing true = refl
-or_nothing false = refl
-
 or_front : (a b c : Bool) → ((a || b) || c) ≡ (b || (a || c))
 or_front true true c = refl
 or_front true false c = refl
@@ -46,7 +37,7 @@ or_front false true c = refl
 or_front false false c = refl
 
 has_fold : (t : List ℕ) (names : List (List ℕ)) (texts : List (List ℕ)) → has t (fold (insert_key (slice_cmp nat_cmp)) names texts) ≡ (has t names || has t texts)
-has_fold t names [] = sym (or_nothing (has t names))
+has_fold t names [] = sym (or_false (has t names))
 has_fold t names (x ∷ texts) =
     has_fold t (insert_key (slice_cmp nat_cmp) names x) texts
     ∙ ap (λ b. b || has t texts) (has_put t x names)
@@ -134,4 +125,4 @@ only_at t n names false e below h = h
 pub only_one : (t : List ℕ) (names : List (List ℕ)) → Ascend names → filter (λ m. bytes_eq m t) names ≡ (if has t names then t ∷ [] else [])
 unfolding IsStrictlySortedBy
 only_one t [] h = refl
-only_one t (n ∷ names) h = rw (same_bytes_sym t n) (only_at t n names (bytes_eq n t) refl h.0 (only_one t names h.1))
+only_one t (n ∷ names) h = rw (equal_swapped t n) (only_at t n names (bytes_eq n t) refl h.0 (only_one t names h.1))

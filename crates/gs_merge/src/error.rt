@@ -1,11 +1,14 @@
 use gs_chars::Memory;
+use thiserror::Error;
 
 /// Why two stores have no merged document.
-#[derive(Drop)]
+#[derive(Clone, Copy, Debug, PartialEq, Error)]
 pub enum MergeFault {
     /// It would have more than 65,536 targets.
+    #[error("the merged document has more than 65,536 targets")]
     TooMany,
     /// Out of memory.
+    #[error("out of memory")]
     Memory,
 }
 

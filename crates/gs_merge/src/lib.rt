@@ -21,13 +21,10 @@
 //! URI Syntax, section 5). It also chose the ascending orders, except that of targets, and the removal of duplicates.
 #![tactic(auto)]
 
-mod contexts;
-mod distinct;
 mod error;
 mod groups;
 mod laws;
 mod merger;
-mod store_links;
 
 pub use error::MergeFault;
 pub use laws::{

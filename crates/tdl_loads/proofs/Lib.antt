@@ -8,3 +8,4 @@ pub mod LoadLemmas
 pub mod ReadLemmas
 pub mod ClassLoads
 pub mod DecidedLoads
+pub mod TextForms

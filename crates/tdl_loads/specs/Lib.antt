@@ -1,3 +1,4 @@
 pub mod Loads
 pub mod LoadsSupport
 pub mod Reads
+pub mod TextForms

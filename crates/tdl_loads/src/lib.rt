@@ -4,6 +4,7 @@
 //!   rejected (`Unloaded`), and opens no later one.
 //! - `Loaded` holds the loaded contents of a run: the tables with their document (`TablesWithSource`), the company prefix
 //!   lengths (`Tabled`), the links and their merged document (`Linked`), the settings of replies, and the classes.
+//! - `text_form_loads_alike` is the law that a linkset and its text form load to the same links.
 //!
 //! # Example
 //!
@@ -20,6 +21,7 @@
 #![tactic(auto)]
 
 mod classes;
+mod laws;
 mod linked;
 mod links;
 mod loads;
@@ -28,4 +30,5 @@ mod places;
 mod prefixes;
 mod tables;
 
+pub use laws::text_form_loads_alike;
 pub use loads::{Linked, Loaded, Tabled, TablesWithSource, Unloaded, load_files};

@@ -1,5 +1,5 @@
 use Rattle.std.proofs.Common.{◌≤◌, length, take}
-use Rattle.gs_links.proofs.LanguageLemmas.{NoneBefore, SomeAt}
+use Rattle.gs_links.specs.Languages.{NoneBefore, SomeAt}
 use Rattle.gs_links.proofs.narrower.first_marked.Given as goal
 
 abbrev pub invariant-loop-i : goal.invariant-loop-i

@@ -1,7 +1,0 @@
-use Rattle.std.proofs.Common.{◌≡◌, ◌++◌}
-use Rattle.percent_encoding.specs.Iter.{encoded_text}
-use Rattle.gs_linktext.proofs.writer.write_escaped.Given as goal
-
--- the written bytes, and those left to write
-abbrev pub invariant-loop-piece : goal.invariant-loop-piece
-invariant-loop-piece l = l.out.items ++ encoded_text l.piece-iterator ≡ l.fn.out.items ++ encoded_text l.initial.piece-iterator
