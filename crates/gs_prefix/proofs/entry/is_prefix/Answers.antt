@@ -2,7 +2,7 @@ use Rattle.std.proofs.Common.{◌≡◌, ◌∙◌, ℕ, ◌≤◌, true, leb, L
 use Rattle.std.proofs.lemmas.Bool.{le-leb}
 use Rattle.gs_chars.specs.Characters.{are_digits}
 use Rattle.gs_prefix.specs.Lengths.{is_prefix}
-use Rattle.gs_prefix.proofs.rules.is_prefix.Goals as goal
+use Rattle.gs_prefix.proofs.entry.is_prefix.Goals as goal
 
 some_digits : (text : List ℕ) → are_digits text ≡ true → 1 ≤ length text → leb (length text) 12 ≡ is_prefix text
 some_digits text digits some = rw (digits, le-leb 1 (length text) some) refl

@@ -1,7 +1,7 @@
 use Rattle.std.proofs.lemmas.Result.{err_from_is_err_and}
 use Rattle.serde_json.specs.View.{view}
 use Rattle.gs_prefix.proofs.RejectionLemmas.{entries_judged, object_rejected, version_rejected}
-use Rattle.gs_prefix.proofs.form.judge_form.Goals as goal
+use Rattle.gs_prefix.proofs.document.judge_form.Goals as goal
 
 pub returns-in_err-judge_object : goal.returns-in_err-judge_object
 returns-in_err-judge_object c =

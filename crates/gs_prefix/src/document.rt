@@ -1,13 +1,16 @@
-ghost use Rattle.std.specs.Prelude.{◌≡◌, [], IfOk};
+ghost use Rattle.std.specs.Prelude.{◌≡◌, [], IfOk, map};
 ghost use Rattle.serde_json.specs.View.{view};
 ghost use Rattle.gs_json.specs.Members.{items_of};
-ghost use Rattle.gs_json.specs.Shapes.{shape_errors};
+ghost use Rattle.gs_json.specs.Shapes.{IsFirst as IsFirstFault, shape_errors};
 ghost use Rattle.gs_prefix.specs.AnswersSupport.{IsFirst, of_json};
-ghost use Rattle.gs_prefix.specs.Documents.{array_errors, entries_errors, entry_plan, form_errors, list_plan, version_errors};
+ghost use Rattle.gs_prefix.specs.Documents.{array_errors, entries_errors, entry_plan, form_errors, list_plan};
+ghost use Rattle.gs_prefix.specs.Documents.{version_errors, entries_of, entry_of};
 
+use crate::entry::PrefixEntry;
 use crate::error::PrefixFault;
 use gs_chars::{List, Memory, Text};
-use gs_json::{Entry, JsonFault, Node, Sort, number_in, plan_of};
+use gs_json::{Entry, JsonFault, Node, Sort, items_in, number_in, plan_of, text_in};
+use serde_json::Value;
 use std::alloc::Global;
 
 /// Returns the members of the document.
@@ -67,28 +70,29 @@ fn judge_version(alloc: Global, root: &Node<'_>) -> Result<(), PrefixFault>
     Err(PrefixFault::Json(JsonFault::Kind(place)))
 }
 
-/// Finds the first error of the entries of an array, entry by entry.
-fn judge_items(alloc: Global, array: &Node<'_>) -> Result<(), PrefixFault>
-    ensures { IsFirst result (array_errors array.now.place (items_of (view array.now.tree))) }
-{
-    let plan = entry_plan(alloc)?;
-    judge_by(alloc, array, plan.items())
-}
-
-/// Finds the first error of the entries of an array by the plan of an entry, entry by entry.
+/// Checks each item of an array against a plan, item by item, and returns the first error as `Node::shaped` does. May return
+/// `Memory` instead.
 #[tactic(auto, unfolding(crate::specs::Documents::array_errors))]
-fn judge_by(alloc: Global, array: &Node<'_>, plan: &[Entry]) -> Result<(), PrefixFault>
-    requires { plan.now ≡ entry_plan }
-    ensures { IsFirst result (array_errors array.now.place (items_of (view array.now.tree))) }
+pub fn judge_rows(alloc: Global, array: &Node<'_>, plan: &[Entry]) -> Result<(), JsonFault>
+    ensures { IsFirstFault result (array_errors plan.now array.now.place (items_of (view array.now.tree))) }
 {
     let count = array.items_len().unwrap_or(0);
     for i in 0..count {
-        let Ok(entry) = array.item(alloc, i) else {
-            return Err(PrefixFault::Memory);
-        };
-        judge_object(alloc, &entry, plan)?;
+        let row = array.item(alloc, i)?;
+        row.shaped(alloc, plan)?;
     }
     Ok(())
+}
+
+/// Finds the first error of the entries of an array, entry by entry.
+fn judge_items(alloc: Global, array: &Node<'_>) -> Result<(), PrefixFault>
+    ensures { IsFirst result (array_errors entry_plan array.now.place (items_of (view array.now.tree))) }
+{
+    let plan = entry_plan(alloc)?;
+    match judge_rows(alloc, array, plan.items()) {
+        Ok(()) => Ok(()),
+        Err(error) => Err(of_json(error)),
+    }
 }
 
 /// Finds the first error of the entries of a document, entry by entry.
@@ -112,4 +116,25 @@ pub(crate) fn judge_form(alloc: Global, root: &Node<'_>) -> Result<(), PrefixFau
     judge_object(alloc, root, plan.items())?;
     judge_version(alloc, root)?;
     judge_entries(alloc, root)
+}
+
+/// Returns the entry that an object is.
+fn read_entry(alloc: Global, object: &Value) -> Result<PrefixEntry, Memory>
+    ensures { IfOk result (λ entry. entry ≡ entry_of (view object.now)) }
+{
+    Ok(PrefixEntry {
+        prefix: Text::from_bytes(alloc, text_in(object, "prefix").as_bytes())?,
+        length: number_in(object, "length"),
+    })
+}
+
+/// Returns the entries of a document, in their order.
+pub(crate) fn read_entries(alloc: Global, root: &Value) -> Result<Vec<PrefixEntry>, Memory>
+    ensures { IfOk result (λ entries. entries.items ≡ entries_of (view root.now)) }
+{
+    let mut entries = Vec::new(alloc);
+    for item in items_in(root, "prefixes") {
+        entries.push(read_entry(alloc, item)?)?;
+    }
+    Ok(entries)
 }

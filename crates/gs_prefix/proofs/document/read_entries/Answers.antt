@@ -3,7 +3,7 @@ use Rattle.serde_json.specs.View.{view}
 use Rattle.gs_prefix.specs.Documents.{entry_of}
 use Rattle.gs_prefix.proofs.FirstRejections.{mapped_all, mapped_step}
 use Rattle.gs_prefix.proofs.Parts.{mapped_views}
-use Rattle.gs_prefix.proofs.read.read_entries.Goals as goal
+use Rattle.gs_prefix.proofs.document.read_entries.Goals as goal
 
 pub loop-item-preserved : goal.loop-item-preserved
 loop-item-preserved c =

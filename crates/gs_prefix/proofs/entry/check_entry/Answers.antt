@@ -1,7 +1,7 @@
 use Rattle.std.proofs.Common.{sym, ◌∙◌}
 use Rattle.gs_prefix.proofs.FindLemmas.{found_any}
 use Rattle.gs_prefix.proofs.RejectionLemmas.{bad_length, bad_prefix, in_order, twice}
-use Rattle.gs_prefix.proofs.rules.check_entry.Goals as goal
+use Rattle.gs_prefix.proofs.entry.check_entry.Goals as goal
 
 pub returns-then-not-is_prefix : goal.returns-then-not-is_prefix
 returns-then-not-is_prefix c =
