@@ -1,6 +1,6 @@
 use Rattle.std.proofs.Common.{◌≡◌, ◌/◌, ◌<◌, ◌≤◌, ap, arith, length}
 use Rattle.gs_membank.proofs.WriteLemmas.{dump_written, too_long}
-use Rattle.gs_membank.proofs.writing.write_dump.Goals as goal
+use Rattle.gs_membank.proofs.dump.write_dump.Goals as goal
 
 pub returns-then-words-gt-MOST_WORDS : goal.returns-then-words-gt-MOST_WORDS
 returns-then-words-gt-MOST_WORDS c =

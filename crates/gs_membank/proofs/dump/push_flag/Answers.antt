@@ -1,8 +1,8 @@
 use Rattle.std.proofs.Common.{◌≡◌, ◌++◌, ◌∙◌, ap, refl}
 use Rattle.gs_membank.specs.Banks.{bit_of}
 use Rattle.gs_membank.proofs.ControlLemmas.{flag_bit}
-use Rattle.gs_membank.proofs.control.push_flag.Goals as goal
-use Rattle.gs_membank.proofs.control.push_flag.Goals.{else-set, then-set}
+use Rattle.gs_membank.proofs.dump.push_flag.Goals as goal
+use Rattle.gs_membank.proofs.dump.push_flag.Goals.{else-set, then-set}
 
 pub returns : goal.returns
 returns c =

@@ -1,6 +1,6 @@
 use Rattle.std.proofs.Common.{◌<◌, length, arith}
 use Rattle.gs_membank.proofs.ControlLemmas.{taken_joined, taken_small}
-use Rattle.gs_membank.proofs.control.take_bits.Goals as goal
+use Rattle.gs_membank.proofs.dump.take_bits.Goals as goal
 
 pub returns-clause-small : goal.returns-clause-small
 returns-clause-small c =

@@ -1,7 +1,7 @@
 use Rattle.std.proofs.Common.{arith, refl}
 use Rattle.std.proofs.lemmas.Result.{err_from_is_err_and}
 use Rattle.gs_membank.proofs.ControlLemmas.{taken_length, word_taken}
-use Rattle.gs_membank.proofs.control.take_word.Goals as goal
+use Rattle.gs_membank.proofs.dump.take_word.Goals as goal
 
 pub returns-in_err-take_bits-2-clause-short : goal.returns-in_err-take_bits-2-clause-short
 returns-in_err-take_bits-2-clause-short c =

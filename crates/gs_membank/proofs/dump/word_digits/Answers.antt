@@ -1,6 +1,6 @@
 use Rattle.std.proofs.Common.{ap, arith, length}
 use Rattle.gs_membank.proofs.ControlLemmas.{flag_length, pushed_length, word_pushed}
-use Rattle.gs_membank.proofs.control.word_digits.Goals as goal
+use Rattle.gs_membank.proofs.dump.word_digits.Goals as goal
 
 pub push_flag-requires : goal.push_flag-requires
 push_flag-requires c =
