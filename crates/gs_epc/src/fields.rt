@@ -11,7 +11,7 @@ use gs_chars::Text;
 use gs_tables::Field;
 
 /// Returns the place of the first item that stands for a field.
-fn place_of(field: Field, fields: &[Option<Field>]) -> Option<usize>
+pub fn place_of(field: Field, fields: &[Option<Field>]) -> Option<usize>
     ensures { result ≡ position (is_field field) fields.now }
 {
     fields.iter().position(|named| *named == Some(field))

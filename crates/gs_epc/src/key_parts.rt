@@ -21,7 +21,7 @@ fn take_first(value: &[u8], count: usize) -> &[u8]
 }
 
 /// Returns the bytes of a value after the first `count`.
-fn skip_first(value: &[u8], count: usize) -> &[u8]
+pub fn skip_first(value: &[u8], count: usize) -> &[u8]
     ensures { result.now ≡ drop count value.now }
 {
     &value[count.min(value.len())..]
@@ -103,7 +103,7 @@ fn total_in<'a>(parts: &[Part], further: &[u8], value: &'a [u8]) -> &'a [u8]
 }
 
 /// Returns the company prefix.
-fn prefix_in<'a>(parts: &[Part], lead: u8, gcp: u8, value: &'a [u8]) -> &'a [u8]
+pub fn prefix_in<'a>(parts: &[Part], lead: u8, gcp: u8, value: &'a [u8]) -> &'a [u8]
     ensures { result.now ≡ prefix_in parts.now lead gcp value.now }
 {
     if are_characters(parts) {
@@ -116,7 +116,7 @@ fn prefix_in<'a>(parts: &[Part], lead: u8, gcp: u8, value: &'a [u8]) -> &'a [u8]
 }
 
 /// Returns the two texts joined.
-pub(crate) fn joined(alloc: Global, first: &[u8], others: &[u8]) -> Result<Text, Memory>
+pub fn joined(alloc: Global, first: &[u8], others: &[u8]) -> Result<Text, Memory>
     ensures { IfOk result (λ text. text ≡ first.now ++ others.now) }
 {
     let mut text = Text::from_bytes(alloc, first)?;
@@ -125,7 +125,7 @@ pub(crate) fn joined(alloc: Global, first: &[u8], others: &[u8]) -> Result<Text,
 }
 
 /// Returns the part after the company prefix: the lead digits, and the digits after them.
-fn rest_in<'a>(parts: &[Part], lead: u8, gcp: u8, value: &'a [u8]) -> (&'a [u8], &'a [u8])
+pub fn rest_in<'a>(parts: &[Part], lead: u8, gcp: u8, value: &'a [u8]) -> (&'a [u8], &'a [u8])
     ensures { result.0.now ++ result.1.now ≡ rest_in parts.now lead gcp value.now }
 {
     let gcp = usize::from(gcp);
@@ -141,7 +141,7 @@ fn rest_in<'a>(parts: &[Part], lead: u8, gcp: u8, value: &'a [u8]) -> (&'a [u8],
 }
 
 /// Returns the parts of the key of a code.
-fn parts_at<'a>(ais: &'a AiTable, code: &[u8]) -> &'a [Part]
+pub fn parts_at<'a>(ais: &'a AiTable, code: &[u8]) -> &'a [Part]
     ensures { result.now ≡ parts_at ais.now code.now }
 {
     match ais.row_with(code) {
@@ -168,7 +168,7 @@ fn unless_empty(text: &[u8]) -> Option<&[u8]>
 }
 
 /// Returns the first pair with the code.
-fn pair_with<'a>(pairs: &'a [Pair], code: &[u8]) -> Option<&'a Pair>
+pub fn pair_with<'a>(pairs: &'a [Pair], code: &[u8]) -> Option<&'a Pair>
     ensures { option_copied result ≡ pair_with pairs.now code.now }
 {
     pairs.iter().find(|pair| code == pair.code.as_bytes())

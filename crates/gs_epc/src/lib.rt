@@ -42,7 +42,11 @@ mod writer;
 pub use epc::Epc;
 pub use epc_ref::EpcRef;
 pub use error::EpcFault;
-pub use key_parts::{fields_of, lent_fields_of, value_from_prefix};
+pub use fields::place_of;
+pub use key_parts::{
+    fields_of, joined, lent_fields_of, pair_with, parts_at, prefix_in, rest_in, skip_first,
+    value_from_prefix,
+};
 pub use laws::{
     laying_out_undoes_taking_apart, taking_apart_undoes_laying_out, what_is_written_is_read,
 };

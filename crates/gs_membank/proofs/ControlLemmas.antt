@@ -4,7 +4,7 @@ use Rattle.std.proofs.lemmas.List.{length-take-le, take-append-drop, drop_at}
 use Rattle.std.proofs.lemmas.List.Elements.{All-take}
 use Rattle.gs_bits.specs.Bits.{AreBits, bits_of, number_of}
 use Rattle.gs_bits.specs.BitLaws.{bits_of-number_of, number_of-below, length-bits_of}
-use Rattle.gs_membank.specs.declared.control.ControlWord.{ControlWord}
+use Rattle.gs_membank.specs.declared.dump.ControlWord.{ControlWord}
 use Rattle.gs_membank.specs.Banks.{BeginsWith, bit_of, control_bits}
 
 -- ---- bits that are taken

@@ -13,7 +13,7 @@ use Rattle.gs_tables.specs.Tables.{TableRows, level_rows}
 use Rattle.gs_epc.specs.declared.epc.Epc.{Epc}
 use Rattle.gs_epc.specs.Epcs.{epc_of, options_of}
 use Rattle.gs_epc.specs.Readings.{IsHex, Says}
-use Rattle.gs_membank.specs.declared.control.ControlWord.{ControlWord}
+use Rattle.gs_membank.specs.declared.dump.ControlWord.{ControlWord}
 use Rattle.gs_membank.specs.declared.dump.Dump.{Dump}
 use Rattle.gs_membank.specs.declared.error.DumpFault.{DumpFault}
 use Rattle.gs_membank.specs.declared.error.DumpFault.TheVariants.{Hex, NoWord, Extended, Toggle, Words, NoReading, Memory}

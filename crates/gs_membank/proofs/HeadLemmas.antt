@@ -11,7 +11,7 @@ use Rattle.gs_epc.specs.declared.epc.Epc.{Epc}
 use Rattle.gs_epc.specs.declared.error.EpcFault.{EpcFault}
 use Rattle.gs_epc.specs.declared.error.EpcFault.TheVariants.{Hex as HexOf, NoReading as NoEpc}
 use Rattle.gs_epc.specs.Readings.{IsHex, IsHexFault, ReadsHex, Says}
-use Rattle.gs_membank.specs.declared.control.ControlWord.{ControlWord}
+use Rattle.gs_membank.specs.declared.dump.ControlWord.{ControlWord}
 use Rattle.gs_membank.specs.declared.error.DumpFault.{DumpFault}
 use Rattle.gs_membank.specs.declared.error.DumpFault.TheVariants.{Hex, NoWord, Extended, Toggle, Words, NoReading, Memory}
 use Rattle.gs_membank.specs.Answers.{IsWordError, ReadsDump}

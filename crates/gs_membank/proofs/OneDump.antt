@@ -17,7 +17,7 @@ use Rattle.gs_epc.specs.declared.epc.Epc.{Epc}
 use Rattle.gs_epc.specs.declared.error.EpcFault.{EpcFault}
 use Rattle.gs_epc.specs.declared.error.EpcFault.TheVariants as epc
 use Rattle.gs_epc.specs.Readings.{IsHex, IsHexFault, ReadsHex}
-use Rattle.gs_membank.specs.declared.control.ControlWord.{ControlWord}
+use Rattle.gs_membank.specs.declared.dump.ControlWord.{ControlWord}
 use Rattle.gs_membank.specs.declared.dump.Dump.{Dump}
 use Rattle.gs_membank.specs.declared.error.DumpFault.{DumpFault}
 use Rattle.gs_membank.specs.declared.error.DumpFault.TheVariants as reading

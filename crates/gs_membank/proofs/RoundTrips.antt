@@ -14,7 +14,7 @@ use Rattle.gs_epc.specs.Readings.{IsHex, Says}
 use Rattle.gs_epc.specs.Writes.{same_fields}
 use Rattle.gs_epc.proofs.HexRead.{hex_digits, hex_read}
 use Rattle.gs_epc.proofs.ReadLaws.{read_back}
-use Rattle.gs_membank.specs.declared.control.ControlWord.{ControlWord}
+use Rattle.gs_membank.specs.declared.dump.ControlWord.{ControlWord}
 use Rattle.gs_membank.specs.declared.dump.Dump.{Dump}
 use Rattle.gs_membank.specs.Answers.{IsShown, ReadsDump, ShownDump, WrittenDump, word_of}
 use Rattle.gs_membank.specs.Banks.{bit_of, control_bits}

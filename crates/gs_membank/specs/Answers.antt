@@ -10,7 +10,7 @@ use Rattle.gs_epc.specs.declared.write_error.EpcWriteFault.TheVariants.{NoOption
 use Rattle.gs_epc.specs.Epcs.{options_of}
 use Rattle.gs_epc.specs.Readings.{IsHex, IsHexFault, Says}
 use Rattle.gs_epc.specs.Writes.{Writes, WritesAs}
-use Rattle.gs_membank.specs.declared.control.ControlWord.{ControlWord}
+use Rattle.gs_membank.specs.declared.dump.ControlWord.{ControlWord}
 use Rattle.gs_membank.specs.declared.dump.Dump.{Dump}
 use Rattle.gs_membank.specs.declared.error.DumpFault.{DumpFault}
 use Rattle.gs_membank.specs.declared.error.DumpFault.TheVariants.{Hex, NoWord, Extended, Toggle, Words, NoReading, Memory}

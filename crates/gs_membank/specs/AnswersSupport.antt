@@ -3,7 +3,7 @@ use Rattle.std.specs.Prelude.{◌≡◌, ◌*◌, List, ℕ, length, Err}
 use Rattle.gs_bits.specs.HexText.{bits_of_hex}
 use Rattle.gs_tables.specs.Tables.{TableRows}
 use Rattle.gs_epc.specs.Readings.{IsHex}
-use Rattle.gs_membank.specs.declared.control.ControlWord.{ControlWord}
+use Rattle.gs_membank.specs.declared.dump.ControlWord.{ControlWord}
 use Rattle.gs_membank.specs.declared.error.DumpFault.{DumpFault}
 use Rattle.gs_membank.specs.Answers.{ReadsDump}
 use Rattle.gs_membank.specs.Banks.{BeginsWith, IsPlain}

@@ -2,7 +2,7 @@
 -- contents of the bank).
 use Rattle.std.specs.Prelude.{◌≡◌, ◌<◌, ℕ, Bool, false, if◌then◌else◌, List, ◌∷◌, ◌++◌}
 use Rattle.gs_bits.specs.Bits.{bits_of}
-use Rattle.gs_membank.specs.declared.control.ControlWord.{ControlWord}
+use Rattle.gs_membank.specs.declared.dump.ControlWord.{ControlWord}
 
 -- trusted, own: a bit is 1 if it is set, otherwise 0
 abbrev pub bit_of : Bool → ℕ

@@ -21,22 +21,15 @@
 //! - The attribute bits are a number of 8 bits, for every version of the standard.
 #![tactic(auto)]
 
-mod control;
 mod dump;
 mod error;
 mod laws;
-mod reading;
-mod showing;
 mod shown;
-mod writing;
 
-pub use dump::Dump;
+pub use dump::{Dump, read_dump, write_dump};
 pub use error::{DumpFault, DumpLineFault, DumpWriteFault};
 pub use laws::{
     bits_are_one_dump, dump_read_is_written, dump_written_is_read, shown_is_read,
     texts_begin_as_one_line, what_is_rejected_is_no_dump,
 };
-pub use reading::read_dump;
-pub use showing::show_dump;
-pub use shown::read_shown;
-pub use writing::write_dump;
+pub use shown::{read_shown, show_dump};

@@ -8,7 +8,7 @@ use Rattle.gs_json.specs.Answers.{OrMemory as JsonOrMemory}
 use Rattle.gs_json.specs.Shapes.{first_error}
 use Rattle.gs_json.specs.declared.error.JsonFault.{JsonFault}
 use Rattle.gs_json.specs.declared.error.JsonFault.TheVariants as json
-use Rattle.gs_chars.specs.Answers.{first_or}
+use Rattle.gs_chars.specs.Answers.{OrError, first_or}
 use Rattle.gs_prefix.specs.Answers.{OrMemory}
 use Rattle.gs_prefix.specs.AnswersSupport.{of_json}
 use Rattle.gs_prefix.specs.declared.error.PrefixFault.{PrefixFault}
@@ -16,18 +16,28 @@ use Rattle.gs_prefix.specs.declared.error.PrefixFault.TheVariants.{Json, Memory}
 
 -- ---- one list after another
 
-pub first_in_front : {X Y : Type 0} (a b : List PrefixFault) (x : X) (y : Y) (e : PrefixFault) → OrMemory (Err e) (first_or a x) → OrMemory (Err e) (first_or (a ++ b) y)
-first_in_front a b x y e (inl h) = inl (let same : e ≡ Memory = cc in ap Err same)
-first_in_front [] b x y e (inr h) = absurd (let g : Err e ≡ Ok x = h in cc)
-first_in_front (f ∷ a) b x y e (inr h) = inr (let same : e ≡ f = cc in ap Err same)
+module _ {F : Type 0} (memory : F) where
+  pub first_in_front : {X Y : Type 0} (a b : List F) (x : X) (y : Y) (e : F) → OrError memory (Err e) (first_or a x) → OrError memory (Err e) (first_or (a ++ b) y)
+  first_in_front a b x y e (inl h) = inl (let same : e ≡ memory = cc in ap Err same)
+  first_in_front [] b x y e (inr h) = absurd (let g : Err e ≡ Ok x = h in cc)
+  first_in_front (f ∷ a) b x y e (inr h) = inr (let same : e ≡ f = cc in ap Err same)
 
-pub nothing_in_front : {X : Type 0} (a : List PrefixFault) (x z : X) → OrMemory (Ok z) (first_or a x) → a ≡ []
-nothing_in_front a x z (inl h) = absurd (let g : Ok z ≡ Err Memory = h in cc)
-nothing_in_front [] x z (inr h) = refl
-nothing_in_front (f ∷ a) x z (inr h) = absurd (let g : Ok z ≡ Err f = h in cc)
+  pub nothing_in_front : {X : Type 0} (a : List F) (x z : X) → OrError memory (Ok z) (first_or a x) → a ≡ []
+  nothing_in_front a x z (inl h) = absurd (let g : Ok z ≡ Err memory = h in cc)
+  nothing_in_front [] x z (inr h) = refl
+  nothing_in_front (f ∷ a) x z (inr h) = absurd (let g : Ok z ≡ Err f = h in cc)
 
-pub first_behind : {X Y : Type 0} (a b : List PrefixFault) (x z : X) (y : Y) (answer : Result Y PrefixFault) → OrMemory (Ok z) (first_or a x) → OrMemory answer (first_or b y) → OrMemory answer (first_or (a ++ b) y)
-first_behind a b x z y answer none h = rw (nothing_in_front a x z none) h
+  pub first_behind : {X Y : Type 0} (a b : List F) (x z : X) (y : Y) (answer : Result Y F) → OrError memory (Ok z) (first_or a x) → OrError memory answer (first_or b y) → OrError memory answer (first_or (a ++ b) y)
+  first_behind a b x z y answer none h = rw (nothing_in_front a x z none) h
+
+-- the same of answers that are never out of memory
+pub no_rejections : {F X : Type 0} (a : List F) (x z : X) → Ok z ≡ first_or a x → a ≡ []
+no_rejections [] x z h = refl
+no_rejections (f ∷ a) x z h = absurd (let g : Ok z ≡ Err f = h in cc)
+
+pub rejected_in_front : {F X Y : Type 0} (a b : List F) (x : X) (y : Y) (e : F) → Err e ≡ first_or a x → Err e ≡ first_or (a ++ b) y
+rejected_in_front [] b x y e h = absurd (let g : Err e ≡ Ok x = h in cc)
+rejected_in_front (f ∷ a) b x y e h = let same : e ≡ f = cc in ap Err same
 
 -- ---- rows
 

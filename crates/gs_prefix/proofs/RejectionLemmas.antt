@@ -11,7 +11,8 @@ use Rattle.serde_json.specs.Data.{Data}
 use Rattle.serde_json.specs.Find.{as_object}
 use Rattle.serde_json.specs.Read.{read as read_text}
 use Rattle.gs_json.specs.Places.{item_place}
-use Rattle.gs_json.specs.Shapes.{members_errors}
+use Rattle.gs_json.specs.Shapes.{IsFirst as IsFirstFault, members_errors}
+use Rattle.gs_json.specs.declared.plan.Entry.{Entry}
 use Rattle.gs_json.specs.declared.error.JsonFault.{JsonFault}
 use Rattle.gs_json.specs.declared.error.JsonFault.TheVariants as json
 use Rattle.gs_prefix.specs.declared.entry.PrefixEntry.{PrefixEntry}
@@ -21,7 +22,7 @@ use Rattle.gs_chars.specs.Answers.{first_or}
 use Rattle.gs_json.specs.Members.{document_of}
 use Rattle.gs_prefix.specs.Answers.{OrMemory, document_answer, load_answer}
 use Rattle.gs_prefix.specs.AnswersSupport.{AddsEntry, of_json}
-use Rattle.gs_prefix.specs.Documents.{array_errors, entries_errors, entries_of, entry_plan, form_errors, list_plan, version_errors}
+use Rattle.gs_prefix.specs.Documents.{array_errors, entries_errors, entries_of, form_errors, list_plan, version_errors}
 use Rattle.gs_prefix.specs.Lengths.{has_prefix, is_prefix}
 use Rattle.gs_prefix.specs.LengthsSupport.{is_entry, with_entry}
 use Rattle.gs_prefix.specs.Rules.{entry_rejections, rejections, rejections_at}
@@ -68,7 +69,7 @@ module _ (earlier : List PrefixEntry) (i : ℕ) (e : PrefixEntry) where
   ]
 
   nothing : Ok (tt {0}) ≡ first_or (entry_rejections earlier i e) (tt {0}) → entry_rejections earlier i e ≡ []
-  nothing h = nothing_in_front (entry_rejections earlier i e) (tt {0}) (tt {0}) (inr h)
+  nothing h = nothing_in_front Memory (entry_rejections earlier i e) (tt {0}) (tt {0}) (inr h)
 
 -- ---- the entries of a list
 
@@ -97,7 +98,7 @@ entry_rejected : (entries index : List PrefixEntry) (i : ℕ) (x : PrefixEntry) 
 entry_rejected entries index i x e few so_far at h =
     let own = rw so_far.held at h in
     let split = split_at (rejections_at entries) entries i x at so_far.none in
-    rw (within_limit entries few, split.1) (first_in_front (rejections_at entries (i, x)) split.0 (tt {0}) entries e own)
+    rw (within_limit entries few, split.1) (first_in_front Memory (rejections_at entries (i, x)) split.0 (tt {0}) entries e own)
 
 one_entry_more : (entries index new : List PrefixEntry) (i : ℕ) (x : PrefixEntry) → SoFar entries index i → slice_get entries i ≡ Some x → Ok (tt {0}) ≡ first_or (entry_rejections index i x) (tt {0}) → new ≡ with_entry index x.prefix x.length → SoFar entries new (i + 1)
 one_entry_more entries index new i x so_far at h e =
@@ -129,25 +130,21 @@ all_entries entries index i few all so_far =
 
 -- ---- the form of a document
 
-module _ (place : List ℕ) (items : List Data) where
+module _ (plan : List Entry) (place : List ℕ) (items : List Data) where
   abbrev errors_at : ℕ × Data → List JsonFault
-  errors_at row = members_errors (item_place place row.0) entry_plan (as_object row.1)
+  errors_at row = members_errors (item_place place row.0) plan (as_object row.1)
 
-  pub item_rejected : (i : ℕ) (x : Data) (e : PrefixFault) → slice_get items i ≡ Some x → array_errors place (take i items) ≡ [] → OrMemory {X = Unit {0}} (Err e) (first_or (map Json (errors_at (i, x))) (tt {0})) → OrMemory {X = Unit {0}} (Err e) (first_or (map Json (array_errors place items)) (tt {0}))
+  pub item_rejected : (i : ℕ) (x : Data) (e : JsonFault) → slice_get items i ≡ Some x → array_errors plan place (take i items) ≡ [] → IsFirstFault (Err e) (errors_at (i, x)) → IsFirstFault (Err e) (array_errors plan place items)
   unfolding array_errors
   item_rejected i x e at none h =
       let split = split_at errors_at items i x at none in
-      rw (split.1, map-append) (first_in_front (map Json (errors_at (i, x))) (map Json split.0) (tt {0}) (tt {0}) e h)
+      rw split.1 (first_in_front json.Memory (errors_at (i, x)) split.0 (tt {0}) (tt {0}) e h)
 
-  no_json : (errors : List JsonFault) → map Json errors ≡ [] → errors ≡ []
-  no_json [] h = refl
-  no_json (f ∷ errors) h = absurd (let g : Json f ∷ map Json errors ≡ [] = h in cc)
-
-  pub one_item_more : (i : ℕ) (x : Data) (z : Unit {0}) → slice_get items i ≡ Some x → array_errors place (take i items) ≡ [] → OrMemory {X = Unit {0}} (Ok z) (first_or (map Json (errors_at (i, x))) (tt {0})) → array_errors place (take (i + 1) items) ≡ []
+  pub one_item_more : (i : ℕ) (x : Data) (z : Unit {0}) → slice_get items i ≡ Some x → array_errors plan place (take i items) ≡ [] → IsFirstFault (Ok z) (errors_at (i, x)) → array_errors plan place (take (i + 1) items) ≡ []
   unfolding array_errors
-  one_item_more i x z at none h = one_more errors_at items i x at none (no_json (errors_at (i, x)) (nothing_in_front (map Json (errors_at (i, x))) (tt {0}) z h))
+  one_item_more i x z at none h = one_more errors_at items i x at none (nothing_in_front json.Memory (errors_at (i, x)) (tt {0}) z h)
 
-  pub all_items : (i : ℕ) → length items ≤ i → array_errors place (take i items) ≡ [] → OrMemory {X = Unit {0}} (Ok (tt {0})) (first_or (map Json (array_errors place items)) (tt {0}))
+  pub all_items : (i : ℕ) → length items ≤ i → array_errors plan place (take i items) ≡ [] → IsFirstFault (Ok (tt {0})) (array_errors plan place items)
   unfolding array_errors
   all_items i all none = rw (all_rows errors_at items i all none) (inr refl)
 
@@ -160,19 +157,19 @@ module _ (d : Data) where
 
   pub object_rejected : (e : PrefixFault) → OrMemory {X = Unit {0}} (Err e) (first_or (map Json object_errors) (tt {0})) → OrMemory {X = Unit {0}} (Err e) (first_or (map Json (form_errors d)) (tt {0}))
   unfolding form_errors
-  object_rejected e h = rw (joined object_errors (version_errors d ++ entries_errors d)) (first_in_front (map Json object_errors) (map Json (version_errors d ++ entries_errors d)) (tt {0}) (tt {0}) e h)
+  object_rejected e h = rw (joined object_errors (version_errors d ++ entries_errors d)) (first_in_front Memory (map Json object_errors) (map Json (version_errors d ++ entries_errors d)) (tt {0}) (tt {0}) e h)
 
   pub version_rejected : (e : PrefixFault) (y : Unit {0}) → OrMemory {X = Unit {0}} (Ok y) (first_or (map Json object_errors) (tt {0})) → OrMemory {X = Unit {0}} (Err e) (first_or (map Json (version_errors d)) (tt {0})) → OrMemory {X = Unit {0}} (Err e) (first_or (map Json (form_errors d)) (tt {0}))
   unfolding form_errors
   version_rejected e y none h =
-      rw (joined object_errors (version_errors d ++ entries_errors d), joined (version_errors d) (entries_errors d)) (first_behind (map Json object_errors) (map Json (version_errors d) ++ map Json (entries_errors d)) (tt {0}) y (tt {0}) (Err e) none
-      (first_in_front (map Json (version_errors d)) (map Json (entries_errors d)) (tt {0}) (tt {0}) e h))
+      rw (joined object_errors (version_errors d ++ entries_errors d), joined (version_errors d) (entries_errors d)) (first_behind Memory (map Json object_errors) (map Json (version_errors d) ++ map Json (entries_errors d)) (tt {0}) y (tt {0}) (Err e) none
+      (first_in_front Memory (map Json (version_errors d)) (map Json (entries_errors d)) (tt {0}) (tt {0}) e h))
 
   pub entries_judged : (answer : Result (Unit {0}) PrefixFault) (y z : Unit {0}) → OrMemory {X = Unit {0}} (Ok y) (first_or (map Json object_errors) (tt {0})) → OrMemory {X = Unit {0}} (Ok z) (first_or (map Json (version_errors d)) (tt {0})) → OrMemory answer (first_or (map Json (entries_errors d)) (tt {0})) → OrMemory answer (first_or (map Json (form_errors d)) (tt {0}))
   unfolding form_errors
   entries_judged answer y z none same h =
-      rw (joined object_errors (version_errors d ++ entries_errors d), joined (version_errors d) (entries_errors d)) (first_behind (map Json object_errors) (map Json (version_errors d) ++ map Json (entries_errors d)) (tt {0}) y (tt {0}) answer none
-      (first_behind (map Json (version_errors d)) (map Json (entries_errors d)) (tt {0}) z (tt {0}) answer same h))
+      rw (joined object_errors (version_errors d ++ entries_errors d), joined (version_errors d) (entries_errors d)) (first_behind Memory (map Json object_errors) (map Json (version_errors d) ++ map Json (entries_errors d)) (tt {0}) y (tt {0}) answer none
+      (first_behind Memory (map Json (version_errors d)) (map Json (entries_errors d)) (tt {0}) z (tt {0}) answer same h))
 
 -- ---- the answer to bytes
 
@@ -193,10 +190,10 @@ document_is bytes d answer is h = rw (is_json bytes d is) h
 
 pub form_rejected : (d : Data) (e : PrefixFault) → OrMemory {X = Unit {0}} (Err e) (first_or (map Json (form_errors d)) (tt {0})) → OrMemory {X = List PrefixEntry} (Err e) (document_answer d)
 unfolding document_answer
-form_rejected d e h = first_in_front (map Json (form_errors d)) (rejections (entries_of d)) (tt {0}) (entries_of d) e h
+form_rejected d e h = first_in_front Memory (map Json (form_errors d)) (rejections (entries_of d)) (tt {0}) (entries_of d) e h
 
 pub entries_answer : (d : Data) (entries : List PrefixEntry) (z : Unit {0}) (answer : Result (List PrefixEntry) PrefixFault) → OrMemory {X = Unit {0}} (Ok z) (first_or (map Json (form_errors d)) (tt {0})) → entries ≡ entries_of d → OrMemory answer (first_or (rejections entries) entries) → OrMemory answer (document_answer d)
 unfolding document_answer
 entries_answer d entries z answer none e h =
     let own = rw e at h in
-    first_behind (map Json (form_errors d)) (rejections (entries_of d)) (tt {0}) z (entries_of d) answer none own
+    first_behind Memory (map Json (form_errors d)) (rejections (entries_of d)) (tt {0}) z (entries_of d) answer none own

@@ -24,14 +24,14 @@ entry_plan = must (codes "prefix") Text ∷ must (codes "length") Number ∷ []
 abbrev pub version_errors : Data → List JsonFault
 version_errors d = if number_in (codes "version") d == 1 then [] else Kind (codes "/version") ∷ []
 
--- trusted, own: the errors of the entries of the array at a place, entry by entry
-unfoldable pub array_errors : List ℕ → List Data → List JsonFault
-array_errors place items =
-    flat_map (λ row. members_errors (item_place place row.0) entry_plan (as_object row.1)) (enumerate_from 0 items)
+-- trusted, own: the errors of the items of the array at a place, which are objects of this plan, item by item
+unfoldable pub array_errors : List Entry → List ℕ → List Data → List JsonFault
+array_errors plan place items =
+    flat_map (λ row. members_errors (item_place place row.0) plan (as_object row.1)) (enumerate_from 0 items)
 
 -- trusted, own: the errors of the entries of a document
 unfoldable pub entries_errors : Data → List JsonFault
-entries_errors d = array_errors (member_place [] (codes "prefixes")) (items_in (codes "prefixes") d)
+entries_errors d = array_errors entry_plan (member_place [] (codes "prefixes")) (items_in (codes "prefixes") d)
 
 -- trusted, own: the errors of the form of a document: those of its object, then of its version, then of its entries
 unfoldable pub form_errors : Data → List JsonFault

@@ -1,20 +1,27 @@
 use gs_chars::Memory;
 use gs_json::JsonFault;
+use thiserror::Error;
 
 /// Why a list of company prefix lengths is rejected. Entries are counted from 0.
-#[derive(Debug, Drop)]
+#[derive(Debug, Drop, Error)]
 pub enum PrefixFault {
     /// The document is not of the form of such a list.
+    #[error("another form than that of a list of company prefix lengths")]
     Json(JsonFault),
     /// The prefix of the entry at this index is not 1 to 12 digits.
+    #[error("the prefix of entry {0} is not 1 to 12 digits")]
     BadPrefix(usize),
     /// The length of the entry at this index is above 12.
+    #[error("the length of entry {0} is above 12")]
     BadLength(usize),
     /// An earlier entry has the prefix of the entry at this index.
+    #[error("an earlier entry has the prefix of entry {0}")]
     Twice(usize),
     /// There are more than 65,536 entries.
+    #[error("more than 65,536 entries")]
     Limit,
     /// Out of memory.
+    #[error("out of memory")]
     Memory,
 }
 

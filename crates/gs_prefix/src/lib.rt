@@ -2,6 +2,7 @@
 //!
 //! - `PrefixList::load` reads a list, or gives its first error; `length_of` gives the number of digits of the company prefix
 //!   that digits begin with, by the longest row that fits.
+//! - `judge_rows` checks the items of an array against a plan, for gs_class too.
 //!
 //! # Example
 //!
@@ -19,14 +20,12 @@
 //! - A length of 0 says that the digits belong to no company prefix. The longest row that begins the digits decides.
 #![tactic(auto)]
 
+mod document;
 mod entry;
 mod error;
-mod form;
-mod index;
 mod prefix_list;
-mod read;
-mod rules;
 
+pub use document::judge_rows;
 pub use entry::PrefixEntry;
 pub use error::PrefixFault;
 pub use prefix_list::PrefixList;

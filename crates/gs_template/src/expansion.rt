@@ -7,7 +7,7 @@ ghost use Rattle.gs_ident.specs.Links.{percent_encoded};
 ghost use Rattle.gs_template.specs.Progress.{is_inert};
 ghost use Rattle.gs_template.specs.Templates.{bytes_behind, filled, is_delimiter, is_place_byte, part_of, place_size, stands_for, value_of, value_under};
 
-use crate::parts::place_size;
+use crate::places::place_size;
 use gs_ai::Pair;
 use gs_chars::{Memory, Text};
 use gs_ident::{Identity, append_escaped, is_coded};

@@ -23,7 +23,6 @@
 mod error;
 mod expansion;
 mod laws;
-mod parts;
 mod places;
 
 pub use error::PlaceFault;

@@ -1,14 +1,48 @@
-ghost use Rattle.std.specs.Prelude.{◌≡◌, [], ◌∷◌, IfErr, IfOk, bytes_eq, find};
+ghost use Rattle.std.specs.Prelude.{◌≡◌, [], ◌∷◌, IfErr, IfOk, bytes_eq, find, ◌≤◌, length};
 ghost use Rattle.std.specs.List.{list_any};
 ghost use Rattle.std.specs.Option.{option_map_or};
 ghost use Rattle.gs_ai.specs.Values.{has_code};
 ghost use Rattle.gs_template.specs.Errors.{first_error, is_brace, part_errors, place_errors};
-ghost use Rattle.gs_template.specs.Templates.{bytes_behind, part_of, place_size};
+ghost use Rattle.gs_template.specs.Templates.{bytes_behind, part_of, place_size, code_size, is_closed};
 
 use crate::error::PlaceFault;
-use crate::parts::place_size;
 use gs_ai::AiTable;
-use gs_chars::Text;
+use gs_chars::{Text, are_digits};
+
+/// Returns whether a text begins with that many digits and then a closing brace.
+fn is_closed(size: usize, text: &[u8]) -> bool
+    ensures { result ≡ is_closed size text.now }
+{
+    match text.get(size) {
+        Some(byte) => *byte == b'}' && are_digits(&text[..size]),
+        None => false,
+    }
+}
+
+/// Returns how many digits, 2 to 4, are before a closing brace, and 0 if there is no such code.
+#[tactic(auto, unfolding(crate::specs::Templates::code_size))]
+fn code_size(text: &[u8]) -> usize
+    ensures size { result ≡ code_size text.now }
+    ensures within { result ≤ length text.now }
+{
+    if is_closed(2, text) {
+        2
+    } else if is_closed(3, text) {
+        3
+    } else if is_closed(4, text) {
+        4
+    } else {
+        0
+    }
+}
+
+/// Returns how many digits the code of a place has that begins with this byte and these after it; 0 if none begins there.
+pub(crate) fn place_size(byte: u8, behind: &[u8]) -> usize
+    ensures size { result ≡ place_size byte behind.now }
+    ensures within { result ≤ length behind.now }
+{
+    if byte == b'{' { code_size(behind) } else { 0 }
+}
 
 /// Returns the codes of the qualifiers of a key, and none if no row has it.
 fn qualifiers_of<'a>(table: &'a AiTable, key: &[u8]) -> &'a [Text]
@@ -27,6 +61,13 @@ fn is_brace(byte: u8) -> bool
     byte == b'{' || byte == b'}'
 }
 
+/// Returns whether one of the codes is this code.
+fn is_listed(codes: &[Text], code: &[u8]) -> bool
+    ensures { result ≡ list_any (bytes_eq code.now) codes.now }
+{
+    codes.iter().any(|listed| code == listed.as_bytes())
+}
+
 /// Returns whether a place may have this AI for a key with these qualifiers.
 fn is_beside(key: &[u8], qualifiers: &[Text], code: &[u8]) -> bool
     ensures { result ≡ list_any (bytes_eq code.now) (key.now ∷ qualifiers.now) }
@@ -34,12 +75,7 @@ fn is_beside(key: &[u8], qualifiers: &[Text], code: &[u8]) -> bool
     if code == key {
         return true;
     }
-    for i in 0..qualifiers.len() {
-        if code == qualifiers[i].as_bytes() {
-            return true;
-        }
-    }
-    false
+    is_listed(qualifiers, code)
 }
 
 /// Checks the part that begins at an offset of a template, and returns the number of its bytes after the first.
