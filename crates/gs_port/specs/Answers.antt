@@ -1,8 +1,9 @@
 -- The facts of each result of a source, a sink, a file or a connection, by its variant.
-use Rattle.std.specs.Prelude.{◌≡◌, ◌↔◌, ◌⊎◌, ℕ, List, [], Option, Result, Ok, Err, IfSome, take}
+use Rattle.std.specs.Prelude.{◌≡◌, ◌↔◌, ◌⊎◌, ℕ, Bool, true, false, List, [], ◌∷◌, Option, Result, Ok, Err, IfSome, take}
 use Rattle.gs_port.specs.Contents.{append_known, prepend_known}
+use Rattle.gs_port.specs.Connections.{Aside}
 use Rattle.gs_port.specs.Counts.{Rises, counted}
-use Rattle.gs_port.specs.Files.{FilesHeld, IsAbsent, counted_if_there}
+use Rattle.gs_port.specs.Files.{AddsNames, FilesHeld, IsAbsent, counted_if_there}
 use Rattle.gs_port.specs.declared.source.ReadAnswer.{ReadAnswer}
 use Rattle.gs_port.specs.declared.source.ReadAnswer.TheVariants as read
 use Rattle.gs_port.specs.declared.sink.WriteAnswer.{WriteAnswer}
@@ -113,7 +114,21 @@ OnOpenFailed opening.Opened fact = Unit {0}
 OnOpenFailed opening.Failed fact = fact
 OnOpenFailed opening.Memory fact = Unit {0}
 
--- trusted, own: the same, but no error is counted if the files are known and the file is not among them
+-- trusted, own: whether memory ran out at an open
+abbrev pub is_open_short : OpenAnswer → Bool
+is_open_short opening.Opened = false
+is_open_short opening.Failed = false
+is_open_short opening.Memory = true
+
+-- trusted, own: the name is the last of the opened ones, after those before; only an open that is out of memory may forget them
+abbrev pub AddsOpened : OpenAnswer → List ℕ → Option (List (List ℕ)) → Option (List (List ℕ)) → Type 0
+AddsOpened answer name before now = AddsNames (is_open_short answer) before (name ∷ []) now
+
+-- trusted, own: the same for an address of a listener
+abbrev pub AddsAddress : OpenAnswer → List ℕ → Aside → Aside → Type 0
+AddsAddress answer address before now = AddsOpened answer address before.addresses now.addresses
+
+-- trusted, own: the count of errors after an open: one more if it failed, but none if the files are known and the file is not among them
 abbrev pub count_after_named : OpenAnswer → Option FilesHeld → List ℕ → ℕ → ℕ
 count_after_named opening.Opened files name count = count
 count_after_named opening.Failed files name count = counted_if_there files name count
@@ -166,6 +181,17 @@ OnFileFailed (Ok text) fact = Unit {0}
 OnFileFailed (Err (file.Over text)) fact = Unit {0}
 OnFileFailed (Err file.Failed) fact = fact
 OnFileFailed (Err file.Memory) fact = Unit {0}
+
+-- trusted, own: whether memory ran out when a file was read
+abbrev pub is_file_short : Result (List ℕ) FileFault → Bool
+is_file_short (Ok text) = false
+is_file_short (Err (file.Over text)) = false
+is_file_short (Err file.Failed) = false
+is_file_short (Err file.Memory) = true
+
+-- trusted, own: the name is the last of the opened ones, after those before; they may be forgotten only where memory ran out
+abbrev pub AddsRead : Result (List ℕ) FileFault → List ℕ → Option (List (List ℕ)) → Option (List (List ℕ)) → Type 0
+AddsRead answer name before now = AddsNames (is_file_short answer) before (name ∷ []) now
 
 -- trusted, own: the count of errors after a file was read: one more if that failed, unless the files are known and it is not
 -- among them

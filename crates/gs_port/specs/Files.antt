@@ -1,5 +1,5 @@
 -- Files, each a name and its bytes.
-use Rattle.std.specs.Prelude.{◌≡◌, ℕ, ◌+◌, List, ◌++◌, ◌⊎◌, Option, Some, None, bytes_eq, find, option_map}
+use Rattle.std.specs.Prelude.{◌≡◌, ℕ, ◌+◌, Bool, true, List, ◌++◌, ◌⊎◌, Option, Some, None, bytes_eq, find, option_map}
 use Rattle.gs_port.specs.Contents.{TakesAtMost}
 use Rattle.gs_port.specs.Counts.{counted}
 
@@ -38,9 +38,9 @@ ReadsOf files name most left = TakesAtMost (most + 1) (known_file files name) le
 abbrev pub with_names : Option (List (List ℕ)) → List (List ℕ) → Option (List (List ℕ))
 with_names names more = option_map (λ before. before ++ more) names
 
--- trusted, own: the opened names are the known ones before and then these, or they are now unknown
-abbrev pub AddsNames : Option (List (List ℕ)) → List (List ℕ) → Option (List (List ℕ)) → Type 0
-AddsNames before more after = (after ≡ None) ⊎ (after ≡ with_names before more)
+-- trusted, own: the opened names are those before and then these; only where memory was lost they may be unknown instead
+abbrev pub AddsNames : Bool → Option (List (List ℕ)) → List (List ℕ) → Option (List (List ℕ)) → Type 0
+AddsNames lost before more after = (after ≡ with_names before more) ⊎ ((lost ≡ true) × (after ≡ None))
 
 -- trusted, own: the count after an error at a file, if one was found
 abbrev pub counted_if_found : Option (List ℕ) → ℕ → ℕ

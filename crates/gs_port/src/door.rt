@@ -1,7 +1,7 @@
-ghost use Rattle.std.specs.Prelude.{◌≡◌, ◌≢◌, ◌≤◌, [], ◌∷◌, true, false, IfSome, Some};
+ghost use Rattle.std.specs.Prelude.{◌≡◌, ◌≢◌, ◌≤◌, [], true, false, IfSome, Some};
 ghost use Rattle.gs_port.specs.Connections.{ErrorRises, SameOpened, after_accept, after_finish_of, after_open, begun_next};
 ghost use Rattle.gs_port.specs.Connections.{first_input};
-ghost use Rattle.gs_port.specs.Files.{AddsNames};
+ghost use Rattle.gs_port.specs.Answers.{AddsAddress};
 ghost use Rattle.gs_port.specs.Answers.{OnAcceptFailed, OnAccepted, OnClosed, OnNotAccepted, OnNotOpened, OnOpenFailed, OnOpened};
 
 use crate::conn::Conn;
@@ -24,14 +24,13 @@ pub enum AcceptAnswer {
 pub trait Door: Conn {
     /// Begins to listen at the address. Returns `Failed` only if an error was counted; `Failed` and `Memory` begin nothing. An
     /// opened listener stays open, and the connections are unchanged. After any result the address is the last of the
-    /// listener's addresses, if these are still known.
+    /// listener's addresses, if these are known; only `Memory` may forget them.
     fn open(&mut self, address: &str) -> OpenAnswer
         ensures opened { OnOpened result ((Self.aside self.new).opened ≡ true) }
         ensures not_opened { OnNotOpened result (SameOpened (Self.aside self.old) (Self.aside self.new)) }
         ensures failed { OnOpenFailed result (ErrorRises (Self.aside self.old) (Self.aside self.new)) }
         ensures counts { (Self.aside self.old).errors ≤ (Self.aside self.new).errors }
-        ensures addressed { AddsNames (Self.aside self.old).addresses (address.now ∷ [])
-            (Self.aside self.new).addresses }
+        ensures addressed { AddsAddress result address.now (Self.aside self.old) (Self.aside self.new) }
         ensures aside { Self.aside self.new
             ≡ after_open result (Self.aside self.new).addresses (Self.aside self.old) }
         ensures same_current { Self.is_open self.new ≡ Self.is_open self.old }

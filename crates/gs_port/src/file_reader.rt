@@ -1,8 +1,8 @@
-ghost use Rattle.std.specs.Prelude.{◌≡◌, ◌≤◌, ◌+◌, true, [], ◌∷◌, IfOk, IfSome, length, vec_len};
+ghost use Rattle.std.specs.Prelude.{◌≡◌, ◌≤◌, ◌+◌, true, IfOk, IfSome, length, vec_len};
 ghost use Rattle.gs_port.specs.Contents.{TakesAtMost, prepend_known};
 ghost use Rattle.gs_port.specs.Counts.{Rises};
-ghost use Rattle.gs_port.specs.Files.{AddsNames, BeginsFile, IsAbsent, IsFile, ReadsOf};
-ghost use Rattle.gs_port.specs.Answers.{CountsFile, FileFails, IfOver, OnFileFailed};
+ghost use Rattle.gs_port.specs.Files.{BeginsFile, IsAbsent, IsFile, ReadsOf};
+ghost use Rattle.gs_port.specs.Answers.{AddsRead, CountsFile, FileFails, IfOver, OnFileFailed};
 ghost use Rattle.gs_port.specs.AnswersSupport.{count_after_rest};
 
 use crate::files::{Files, OpenAnswer};
@@ -36,7 +36,8 @@ const BLOCK: usize = 65_536;
 
 /// Reads the named file whole if it has at most `max` bytes. Returns `Over` if and only if `max + 1` bytes could be read, with
 /// these bytes. Returns `Failed` only if the files counted an error, or if they are known and the named one is not among them.
-/// After any result the name is the last opened one, if the opened names are still known. `max` is at most 16,777,216.
+/// After any result the name is the last opened one, if the opened names are known; only `Memory` may forget them. `max` is at
+/// most 16,777,216.
 pub fn read_file<F: Files>(
     alloc: Global,
     files: &mut F,
@@ -54,7 +55,7 @@ pub fn read_file<F: Files>(
     ensures files { F.files files.new ≡ F.files files.old }
     ensures counts { F.errors files.old ≤ F.errors files.new }
     ensures count { CountsFile result (F.files files.old) name.now (F.errors files.old) (F.errors files.new) }
-    ensures named { AddsNames (F.opened files.old) (name.now ∷ []) (F.opened files.new) }
+    ensures named { AddsRead result name.now (F.opened files.old) (F.opened files.new) }
 {
     match files.open(name) {
         OpenAnswer::Opened => read_current(alloc, files, max),

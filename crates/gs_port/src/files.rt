@@ -1,6 +1,7 @@
-ghost use Rattle.std.specs.Prelude.{◌≡◌, ◌<◌, ◌≤◌, ℕ, Bool, true, false, List, [], ◌∷◌, Option, length};
+ghost use Rattle.std.specs.Prelude.{◌≡◌, ◌<◌, ◌≤◌, ℕ, Bool, true, false, List, Option, length};
 ghost use Rattle.gs_port.specs.Counts.{Rises};
-ghost use Rattle.gs_port.specs.Files.{AddsNames, FilesHeld, IsAbsent, known_file};
+ghost use Rattle.gs_port.specs.Files.{FilesHeld, IsAbsent, known_file};
+ghost use Rattle.gs_port.specs.Answers.{AddsOpened};
 ghost use Rattle.gs_port.specs.Answers.{CountsOpen, IfGot, IsZeroAtEnd, MovesFront, OnNotOpened, OnOpened, OnReadFailed, OpenFails};
 ghost use Rattle.gs_port.specs.Answers.{count_after_read};
 
@@ -32,13 +33,13 @@ pub trait Files {
     /// saturates at 2^64 - 1.
     ghost errors: { Self → ℕ };
 
-    /// The opened names in order, whether or not such a file exists, if they are known. They can become unknown if memory runs
-    /// out, and never become known again.
+    /// The opened names in order, whether or not such a file exists, if they are known. They become unknown only at an open that
+    /// returns `Memory`, and never become known again.
     ghost opened: { Self → Option (List (List ℕ)) };
 
     /// Makes the named file the current one, with all its bytes left. Returns `Failed` only if an error was counted, or if the
     /// files are known and do not have this name, which is not an error. After any result but `Opened` no file is current.
-    /// After any result the name is the last opened one, if the opened names are still known.
+    /// After any result the name is the last opened one, if the opened names are known; only `Memory` may forget them.
     fn open(&mut self, name: &str) -> OpenAnswer
         ensures opened { OnOpened result (is_open self.new ≡ true) }
         ensures whole { OnOpened result (left self.new ≡ known_file (files self.old) name.now) }
@@ -49,7 +50,7 @@ pub trait Files {
         ensures files { files self.new ≡ files self.old }
         ensures counts { errors self.old ≤ errors self.new }
         ensures count { CountsOpen result (files self.old) name.now (errors self.old) (errors self.new) }
-        ensures named { AddsNames (opened self.old) (name.now ∷ []) (opened self.new) };
+        ensures named { AddsOpened result name.now (opened self.old) (opened self.new) };
 
     /// Moves the next of the bytes left of the current file to the start of `buf`, at most its length. It moves 0 if and only
     /// if nothing is left. Returns `Failed` only if an error was counted; it then moves nothing.

@@ -1,5 +1,5 @@
-ghost use Rattle.std.specs.Prelude.{◌≡◌, [], ◌∷◌, ◌++◌, IfOk, None, OnErr, OnOk, Some, option_map};
-ghost use Rattle.gs_port.specs.Files.{AddsNames, with_names};
+ghost use Rattle.std.specs.Prelude.{◌≡◌, [], ◌∷◌, ◌++◌, IfOk, None, OnErr, OnOk, Some, is_some, option_map, true};
+ghost use Rattle.gs_port.specs.Files.{with_names};
 
 use gs_chars::{List, Memory, Text};
 use std::alloc::Global;
@@ -40,16 +40,10 @@ impl OpenedNames {
         }
     }
 
-    /// Adds a name, or forgets all names if memory runs out for it.
-    pub fn add(&mut self, name: &str)
-        ensures { AddsNames self.old (name.now ∷ []) self.new }
-    {
-        let _ = self.try_add(name);
-    }
-
-    /// Adds a name, if names are known. Fails only with `Memory`; the names are then no longer known.
-    pub fn try_add(&mut self, name: &str) -> Result<(), Memory>
+    /// Adds a name, if names are known. Fails only with `Memory`, and only if names were known, which are then forgotten.
+    pub fn add(&mut self, name: &str) -> Result<(), Memory>
         ensures added { OnOk result (self.new ≡ with_names self.old (name.now ∷ [])) }
+        ensures known { OnErr result (is_some self.old ≡ true) }
         ensures forgotten { OnErr result (self.new ≡ None) }
     {
         if let Some(names) = self.names.take() {

@@ -1,8 +1,14 @@
 -- Files and listeners in memory.
-use Rattle.std.specs.Prelude.{ℕ, Bool, List, [], Option, Some, None}
+use Rattle.std.specs.Prelude.{◌≡◌, ℕ, Bool, true, List, [], Option, Some, None, is_some}
 use Rattle.gs_port.specs.Connections.{Finished}
 use Rattle.gs_port.specs.Files.{FilesHeld}
 use Rattle.gs_port.specs.Memory.{Plan, uncalled}
+use Rattle.gs_port.specs.declared.files.OpenAnswer.{OpenAnswer}
+use Rattle.gs_port.specs.declared.files.OpenAnswer.TheVariants as opening
+
+-- trusted, own: holds if an open is out of memory only where the opened names were known and are now forgotten
+abbrev pub ForgetsOnMemory : OpenAnswer → Option (List (List ℕ)) → Option (List (List ℕ)) → Type 0
+ForgetsOnMemory answer before now = answer ≡ opening.Memory → (is_some before ≡ true) × (now ≡ None)
 
 -- trusted, own: files in memory: the name and bytes of each, the unread part of the current one, and the plan of the calls.
 -- They also have the count of errors, and the names that were opened, in order, if they are known

@@ -1,8 +1,8 @@
-ghost use Rattle.std.specs.Prelude.{◌≡◌, ◌<◌, ◌≤◌, [], ◌∷◌, true, false, None, Some, is_some, length};
+ghost use Rattle.std.specs.Prelude.{◌≡◌, ◌<◌, ◌≤◌, [], true, false, None, Some, is_some, length};
+ghost use Rattle.gs_port.specs.Answers.{AddsOpened};
 ghost use Rattle.gs_port.specs.Answers.{CountsOpen, IfGot, IsZeroAtEnd, MovesFront, OnNotOpened, OnOpened, OnReadFailed, OpenFails};
 ghost use Rattle.gs_port.specs.Answers.{count_after_read};
 ghost use Rattle.gs_port.specs.Counts.{Rises};
-ghost use Rattle.gs_port.specs.Files.{AddsNames};
 ghost use Rattle.gs_port_system.specs.Calls.{OpensNamed, ReadsCurrent};
 
 use crate::calls::FileCalls;
@@ -70,10 +70,10 @@ impl<S: FileCalls> Files for HostFiles<S, S::File> {
         ensures failed { OpenFails result None name.now self.old.errors self.new.errors }
         ensures counts { self.old.errors ≤ self.new.errors }
         ensures count { CountsOpen result None name.now self.old.errors self.new.errors }
-        ensures named { AddsNames self.old.opened (name.now ∷ []) self.new.opened }
+        ensures named { AddsOpened result name.now self.old.opened self.new.opened }
     {
         self.current = None;
-        if self.opened.try_add(name).is_err() {
+        if self.opened.add(name).is_err() {
             return OpenAnswer::Memory;
         }
         match self.system.open_once(name) {

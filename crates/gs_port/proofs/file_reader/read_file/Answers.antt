@@ -1,5 +1,6 @@
 use Rattle.std.proofs.Common.{arith, sym, ◌∙◌}
 use Rattle.std.proofs.lemmas.Bool.{false≢true}
+use Rattle.gs_port.proofs.Names.{added_anyway}
 use Rattle.gs_port.proofs.Readings.{over_read, rest_counted, rest_failed}
 use Rattle.gs_port.proofs.file_reader.read_file.Goals as goal
 
@@ -13,7 +14,7 @@ pub returns-in-Opened-clause-counts : goal.returns-in-Opened-clause-counts
 returns-in-Opened-clause-counts g c = omega (arith, c.in-Opened.ensures.counts, c.read_current.ensures.counts)
 
 pub returns-in-Opened-clause-named : goal.returns-in-Opened-clause-named
-returns-in-Opened-clause-named g c = rw c.read_current.ensures.same_names c.in-Opened.ensures.named
+returns-in-Opened-clause-named g c = rw c.read_current.ensures.same_names (added_anyway _ _ _ _ c.in-Opened.ensures.named)
 
 pub returns-in-Failed-clause-files : goal.returns-in-Failed-clause-files
 returns-in-Failed-clause-files g c = c.in-Failed.ensures.files

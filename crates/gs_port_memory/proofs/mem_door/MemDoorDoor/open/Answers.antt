@@ -1,35 +1,35 @@
 use Rattle.std.proofs.Common.{refl, arith}
 use Rattle.gs_port_memory.proofs.mem_door.MemDoorDoor.open.Goals as goal
 
-pub returns-then-next_fails-clause-same_current : goal.returns-then-next_fails-clause-same_current
-returns-then-next_fails-clause-same_current c = rw (← c.self.view_is) refl
+pub returns-then-fails-clause-same_current : goal.returns-then-fails-clause-same_current
+returns-then-fails-clause-same_current c = rw (← c.self.view_is) refl
 
-pub returns-then-next_fails-clause-same_left : goal.returns-then-next_fails-clause-same_left
-returns-then-next_fails-clause-same_left c = rw (← c.self.view_is) refl
+pub returns-then-fails-clause-same_left : goal.returns-then-fails-clause-same_left
+returns-then-fails-clause-same_left c = rw (← c.self.view_is) refl
 
-pub returns-then-next_fails-clause-same_taken : goal.returns-then-next_fails-clause-same_taken
-returns-then-next_fails-clause-same_taken c = rw (← c.self.view_is) refl
+pub returns-then-fails-clause-same_taken : goal.returns-then-fails-clause-same_taken
+returns-then-fails-clause-same_taken c = rw (← c.self.view_is) refl
 
-pub returns-then-next_fails-clause-same_held : goal.returns-then-next_fails-clause-same_held
-returns-then-next_fails-clause-same_held c = rw (← c.self.view_is) refl
+pub returns-then-fails-clause-same_held : goal.returns-then-fails-clause-same_held
+returns-then-fails-clause-same_held c = rw (← c.self.view_is) refl
 
-pub returns-then-next_fails-clause-same_reads : goal.returns-then-next_fails-clause-same_reads
-returns-then-next_fails-clause-same_reads c = rw (← c.self.view_is) refl
+pub returns-then-fails-clause-same_reads : goal.returns-then-fails-clause-same_reads
+returns-then-fails-clause-same_reads c = rw (← c.self.view_is) refl
 
-pub returns-then-next_fails-clause-same_writes : goal.returns-then-next_fails-clause-same_writes
-returns-then-next_fails-clause-same_writes c = rw (← c.self.view_is) refl
+pub returns-then-fails-clause-same_writes : goal.returns-then-fails-clause-same_writes
+returns-then-fails-clause-same_writes c = rw (← c.self.view_is) refl
 
-pub returns-then-next_fails-clause-same_most : goal.returns-then-next_fails-clause-same_most
-returns-then-next_fails-clause-same_most c = rw (← c.self.view_is) refl
+pub returns-then-fails-clause-same_most : goal.returns-then-fails-clause-same_most
+returns-then-fails-clause-same_most c = rw (← c.self.view_is) refl
 
-pub returns-then-next_fails-clause-failed : goal.returns-then-next_fails-clause-failed
-returns-then-next_fails-clause-failed c = rw (← c.self.view_is) (omega (arith, c.saturating_add-self-inside.ensures))
+pub returns-then-fails-clause-failed : goal.returns-then-fails-clause-failed
+returns-then-fails-clause-failed c = rw (← c.self.view_is) (omega (arith, c.saturating_add-self-inside.ensures))
 
-pub returns-then-next_fails-clause-counts : goal.returns-then-next_fails-clause-counts
-returns-then-next_fails-clause-counts c = rw (← c.self.view_is) (omega (arith, c.saturating_add-self-inside.ensures))
+pub returns-then-fails-clause-counts : goal.returns-then-fails-clause-counts
+returns-then-fails-clause-counts c = rw (← c.self.view_is) (omega (arith, c.saturating_add-self-inside.ensures))
 
-pub returns-then-next_fails-clause-plan : goal.returns-then-next_fails-clause-plan
-returns-then-next_fails-clause-plan c = rw (← c.self.view_is) c.next_fails.ensures.after
+pub returns-then-fails-clause-plan : goal.returns-then-fails-clause-plan
+returns-then-fails-clause-plan c = rw (← c.self.view_is) c.next_fails-fails.ensures.after
 
 pub returns-clause-same_current : goal.returns-clause-same_current
 returns-clause-same_current c = rw (← c.self.view_is) refl
@@ -59,7 +59,7 @@ pub returns-clause-counts : goal.returns-clause-counts
 returns-clause-counts c = rw (← c.self.view_is) (omega arith)
 
 pub returns-clause-plan : goal.returns-clause-plan
-returns-clause-plan c = rw (← c.self.view_is) c.next_fails.ensures.after
+returns-clause-plan c = rw (← c.self.view_is) c.next_fails-fails.ensures.after
 
 pub invariant_of-self : goal.invariant_of-self
 invariant_of-self c = c.self.invariant
@@ -67,17 +67,17 @@ invariant_of-self c = c.self.invariant
 pub invariant_of-self-2 : goal.invariant_of-self-2
 invariant_of-self-2 c = c.self.invariant
 
-pub returns-then-next_fails-clause-opened : goal.returns-then-next_fails-clause-opened
-returns-then-next_fails-clause-opened c = tt
+pub returns-then-fails-clause-opened : goal.returns-then-fails-clause-opened
+returns-then-fails-clause-opened c = tt
 
-pub returns-then-next_fails-clause-not_opened : goal.returns-then-next_fails-clause-not_opened
-returns-then-next_fails-clause-not_opened c = rw (← c.self.view_is) refl
+pub returns-then-fails-clause-not_opened : goal.returns-then-fails-clause-not_opened
+returns-then-fails-clause-not_opened c = rw (← c.self.view_is) refl
 
-pub returns-then-next_fails-clause-aside : goal.returns-then-next_fails-clause-aside
-returns-then-next_fails-clause-aside c = rw (← c.self.view_is) (rw c.saturating_add-self-inside.ensures refl)
+pub returns-then-fails-clause-aside : goal.returns-then-fails-clause-aside
+returns-then-fails-clause-aside c = rw (← c.self.view_is) (rw c.saturating_add-self-inside.ensures refl)
 
-pub returns-then-next_fails-clause-planned : goal.returns-then-next_fails-clause-planned
-returns-then-next_fails-clause-planned c = rw (← c.self.view_is) (c.next_fails.ensures.answer.0 c.if-next_fails.true)
+pub returns-then-fails-clause-planned : goal.returns-then-fails-clause-planned
+returns-then-fails-clause-planned c = rw (← c.self.view_is) (c.next_fails-fails.ensures.answer.0 c.if-fails.true)
 
-pub returns-then-next_fails-clause-unplanned : goal.returns-then-next_fails-clause-unplanned
-returns-then-next_fails-clause-unplanned c = tt
+pub returns-then-fails-clause-unplanned : goal.returns-then-fails-clause-unplanned
+returns-then-fails-clause-unplanned c = tt

@@ -51,9 +51,6 @@ returns-in-Some-clause-absent c = rw (← c.self.view_is) (λ none. absurd (is_t
 pub returns-in-Some-clause-count : goal.returns-in-Some-clause-count
 returns-in-Some-clause-count c = rw (← c.self.view_is) (rw (found_at _ _ _ _ c.in-Some.field-0 c.place_of-found.ensures c.as_slice.ensures.value c.in-Some.is).1 c.saturating_add-self-inside.ensures)
 
-pub returns-in-Some-clause-named : goal.returns-in-Some-clause-named
-returns-in-Some-clause-named c = rw (← c.self.view_is) c.add.ensures
-
 pub returns-in-Some-clause-planned : goal.returns-in-Some-clause-planned
 returns-in-Some-clause-planned c = rw (← c.self.view_is) (inl (c.next_fails-fails.ensures.answer.0 c.if-fails.true))
 
@@ -78,9 +75,6 @@ returns-in-Some-2-clause-absent c = rw (← c.self.view_is) (λ _. refl)
 pub returns-in-Some-2-clause-count : goal.returns-in-Some-2-clause-count
 returns-in-Some-2-clause-count c = rw (← c.self.view_is) refl
 
-pub returns-in-Some-2-clause-named : goal.returns-in-Some-2-clause-named
-returns-in-Some-2-clause-named c = rw (← c.self.view_is) c.add.ensures
-
 pub returns-in-Some-2-clause-unplanned : goal.returns-in-Some-2-clause-unplanned
 returns-in-Some-2-clause-unplanned c = rw (← c.self.view_is) (λ fails. false≢true (sym c.if-fails.false ∙ c.next_fails-fails.ensures.answer.1 fails))
 
@@ -104,9 +98,6 @@ returns-in-None-clause-absent c = rw (← c.self.view_is) (λ _. refl)
 
 pub returns-in-None-clause-count : goal.returns-in-None-clause-count
 returns-in-None-clause-count c = rw (← c.self.view_is) (rw (found_none _ _ _ _ c.place_of-found.ensures c.as_slice.ensures.value c.in-None.is) refl)
-
-pub returns-in-None-clause-named : goal.returns-in-None-clause-named
-returns-in-None-clause-named c = rw (← c.self.view_is) c.add.ensures
 
 pub returns-in-None-clause-planned : goal.returns-in-None-clause-planned
 returns-in-None-clause-planned c = rw (← c.self.view_is) (inr (found_none _ _ _ _ c.place_of-found.ensures c.as_slice.ensures.value c.in-None.is))
