@@ -7,7 +7,13 @@
 //!
 //! # Example
 //!
-//! EXAMPLE
+//! The first option's words are `12`, the second's `1` and one digit, so their machines share `12`. The gate runs this case, for
+//! which crates/vectors_grammars/src/machines.rt makes the call.
+//!
+//! ```text
+//! gs_ambig::check text lit:12 | lit:1 digits:1:1
+//! 0 1 12
+//! ```
 //!
 //! # Differences from the standards
 //!
