@@ -6,7 +6,7 @@
 //!
 //! # Example
 //!
-//! A GTIN whose check digit is wrong. The gate runs this case, for which crates/vectors_texts/src/identifiers.rt makes the
+//! A GTIN whose check digit is wrong. The gate runs this case, for which crates/vectors_translation/src/identifiers.rt makes the
 //! call.
 //!
 //! ```text

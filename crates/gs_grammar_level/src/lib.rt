@@ -11,7 +11,7 @@
 //!
 //! # Example
 //!
-//! A pure identity URI by the second of two options. The gate runs this case, for which crates/vectors_values/src/levels.rt makes
+//! A pure identity URI by the second of two options. The gate runs this case, for which crates/vectors_grammars/src/levels.rt makes
 //! the calls; `\e` is the empty value of a literal.
 //!
 //! ```text

@@ -11,7 +11,7 @@
 //!
 //! # Example
 //!
-//! A lot that has its own link. The gate runs this case, for which crates/vectors_replies/src/heads.rt makes the call; the head
+//! A lot that has its own link. The gate runs this case, for which crates/vectors_resolver/src/heads.rt makes the call; the head
 //! of crates/vectors_cases/src/lib.rt describes how bytes are written, and `lots` is a linkset of that file.
 //!
 //! ```text
@@ -20,7 +20,7 @@
 //! ```
 //!
 //! A document that is requested as text. Its one target URI has a place for the serial number. The gate runs this case, for which
-//! crates/vectors_texts/src/documents.rt makes the call; a 1 means that target URIs are templates.
+//! crates/vectors_links/src/documents.rt makes the call; a 1 means that target URIs are templates.
 //!
 //! ```text
 //! gs_http::render Text 1 {"linkset":[{"anchor":"/01/09506000134352","r":[{"href":"https://s.example/{21}"}]}]} 01 09506000134352 21 A/B

@@ -10,7 +10,7 @@
 //! # Example
 //!
 //! Files in memory, each read up to a number of bytes. The last name is not among them. The gate runs this case, for which
-//! crates/vectors_runs/src/outside.rt makes the calls.
+//! crates/vectors_program/src/outside.rt makes the calls.
 //!
 //! ```text
 //! gs_port::read_file - long abcdefgh empty \e / long 8 long 7 long 0 empty 0 other 8

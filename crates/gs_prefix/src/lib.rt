@@ -6,7 +6,7 @@
 //!
 //! # Example
 //!
-//! A GTIN whose company prefix has 7 digits. The gate runs this case, for which crates/vectors_values/src/prefixes.rt makes the
+//! A GTIN whose company prefix has 7 digits. The gate runs this case, for which crates/vectors_translation/src/prefixes.rt makes the
 //! calls.
 //!
 //! ```text

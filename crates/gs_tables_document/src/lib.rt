@@ -6,7 +6,7 @@
 //!
 //! # Example
 //!
-//! An item of a tag URI: a company prefix of seven digits. The gate runs this case, for which crates/vectors_texts/src/rows.rt makes
+//! An item of a tag URI: a company prefix of seven digits. The gate runs this case, for which crates/vectors_translation/src/rows.rt makes
 //! the call.
 //!
 //! ```text

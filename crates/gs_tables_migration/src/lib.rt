@@ -5,7 +5,7 @@
 //!
 //! # Example
 //!
-//! A document of one kind. The gate runs this case, for which crates/vectors_texts/src/tables.rt makes the call, over the load
+//! A document of one kind. The gate runs this case, for which crates/vectors_translation/src/tables.rt makes the call, over the load
 //! of gs_tables.
 //!
 //! ```text

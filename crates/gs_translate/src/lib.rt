@@ -9,7 +9,7 @@
 //!
 //! # Example
 //!
-//! The bits of a tag as a tag URI. The gate runs this case, for which crates/vectors_texts/src/translations.rt makes the call;
+//! The bits of a tag as a tag URI. The gate runs this case, for which crates/vectors_translation/src/translations.rt makes the call;
 //! its head names the arguments.
 //!
 //! ```text

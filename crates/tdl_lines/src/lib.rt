@@ -6,7 +6,7 @@
 //! # Example
 //!
 //! Three lines, read three bytes at a time and written two at a time, the last without a line feed: the status, the answers and
-//! the bytes left to read. The gate runs this case: crates/vectors_runs/src/lines.rt makes the call, with an answerer that accepts
+//! the bytes left to read. The gate runs this case: crates/vectors_program/src/lines.rt makes the call, with an answerer that accepts
 //! each text.
 //!
 //! ```text

@@ -8,7 +8,7 @@
 //!
 //! # Example
 //!
-//! The line of tables with a missing member. The gate runs this case, for which crates/vectors_runs/src/messages.rt makes the
+//! The line of tables with a missing member. The gate runs this case, for which crates/vectors_program/src/messages.rt makes the
 //! call.
 //!
 //! ```text
