@@ -3,7 +3,7 @@ use gs_chars::Memory;
 use thiserror::Error;
 
 /// Why a text is not a link, or a target none of a link.
-#[derive(Clone, Copy, Debug, Error)]
+#[derive(Clone, Copy, Debug, PartialEq, Error)]
 pub enum LinkFault {
     /// It does not begin with `http://` or `https://` and an authority.
     #[error("the text does not begin with http:// or https:// and an authority")]

@@ -5,7 +5,7 @@ use gs_chars::Memory;
 use thiserror::Error;
 
 /// Why a text gives no pairs.
-#[derive(Clone, Copy, Debug, Error)]
+#[derive(Clone, Copy, Debug, PartialEq, Error)]
 pub enum RawFault {
     /// The text is not an element string: where, and why.
     #[error("{0}")]
