@@ -1,6 +1,6 @@
 -- The results of the files one at a time, and part by part.
 use Rattle.std.proofs.Common.{◌≡◌, ℕ, List, Option, refl, ap, ◌∙◌, inl, inr}
-use Rattle.std.specs.Prelude.{Result, Ok, Err}
+use Rattle.std.specs.Prelude.{Bool, Result, Ok, Err}
 use Rattle.gs_links.specs.declared.link.Link.{Link}
 use Rattle.gs_linkset.specs.declared.link_types.Context.{Context}
 use Rattle.gs_translate.specs.Steps.{Then, goes_on, rejects}
@@ -122,5 +122,5 @@ pub loads_flat : {As : Type 0} {before now : FilesKnown} (asked : Asked) (names 
 loads_flat {before = before} {now = now} asked names answer l =
     record { loaded = loaded_flat before.files asked before.errors now.errors answer l.loaded; opened = l.opened; all_opened = l.all_opened; unopened = l.unopened; known = l.known; counts = l.counts }
 
-pub stops_flat : {before now : FilesKnown} (asked : Asked) (up_to : FileKind → List (List ℕ)) → StopsOpening (λ known. PartsGive known asked) up_to before now → StopsOpening (λ known. FilesGive known asked) up_to before now
+pub stops_flat : {before now : FilesKnown} {lost : Bool} (asked : Asked) (up_to : FileKind → List (List ℕ)) → StopsOpening (λ known. PartsGive known asked) up_to lost before now → StopsOpening (λ known. FilesGive known asked) up_to lost before now
 stops_flat {before = before} asked up_to d = record { decided = λ known stop is gives. d.decided known stop is (flat_parts before.files asked (Err stop) gives) }

@@ -1,7 +1,8 @@
 -- The effect of a load on the files, by that of its steps.
 use Rattle.std.proofs.Common.{ℕ, ◌≤◌, List, Option, Some, None, [], ◌++◌, ◌∷◌, ◌≡◌, suc, zero, take, length, refl, sym, ap, subst, ◌∙◌, inl, inr, arith}
-use Rattle.std.specs.Prelude.{Result, Ok, Err}
+use Rattle.std.specs.Prelude.{Bool, false, Result, Ok, Err}
 use Rattle.gs_port.specs.Files.{AddsNames, IsFile}
+use Rattle.gs_port.proofs.Names.{surely_added}
 use Rattle.gs_translate.specs.Steps.{Then, goes_on}
 use Rattle.tdl_messages.specs.declared.file_kind.FileKind.{FileKind}
 use Rattle.tdl_messages.specs.declared.rejection.FileFault.{FileFault}
@@ -9,11 +10,11 @@ use Rattle.tdl_messages.specs.declared.rejection.FileFault.TheVariants.{Over}
 use Rattle.tdl_messages.specs.Rejections.{file_limit}
 use Rattle.tdl_loads.specs.declared.loads.Unloaded.{Unloaded}
 use Rattle.tdl_loads.specs.declared.loads.Unloaded.TheVariants as unloaded
-use Rattle.tdl_loads.specs.Loads.{BytesGive, FileGives, FilesInMemory, Gives, OpensFirst, Stop, absent, judged, missing, of_verdict, rejected, too_large}
+use Rattle.tdl_loads.specs.Loads.{BytesGive, FileGives, FilesInMemory, Gives, OpensFirst, Stop, absent, is_load_short, is_short, judged, missing, of_verdict, rejected, too_large}
 use Rattle.tdl_loads.specs.LoadsSupport.{AreBytes, FilesKnown, LoadedBy, Loads}
 use Rattle.tdl_loads.specs.Reads.{ReadBy}
 use Rattle.tdl_loads.proofs.FileLoads.{file_unloaded, loads_on, not_loaded}
-use Rattle.tdl_loads.proofs.OpenedNames.{adds_given, opens_all, opens_both, whatever_given}
+use Rattle.tdl_loads.proofs.OpenedNames.{adds_given, opens_all, opens_anyway, opens_both, whatever_given}
 
 -- ---- the bytes of a file that is named
 
@@ -74,7 +75,7 @@ module _ {A : Type 0} (files : Option FilesInMemory) (kind : FileKind) (Judges :
 
 pub loads_given : {A B : Type 0} (Give : Option FilesInMemory → Result A Stop → Type 0) (Made : Option FilesInMemory → Result B Stop → Type 0) (names : List (List ℕ)) (As : Type 0) (before now : FilesKnown) (a : A) (result : Result B Unloaded) → Loads Give names As before now (Ok a) → LoadedBy (Made before.files) before.errors now.errors result → Loads Made names As before now result
 loads_given Give Made names As before now a result l g =
-    record { loaded = g; opened = l.opened; all_opened = whatever_given result _ l.all_opened; unopened = l.unopened; known = l.known; counts = l.counts }
+    record { loaded = g; opened = opens_anyway (is_load_short result) names before.opened now.opened l.opened; all_opened = whatever_given result _ l.all_opened; unopened = l.unopened; known = l.known; counts = l.counts }
 
 pub loads_failed : {A B : Type 0} (Give : Option FilesInMemory → Result A Stop → Type 0) (Made : Option FilesInMemory → Result B Stop → Type 0) (names : List (List ℕ)) (As : Type 0) (before now : FilesKnown) (u : Unloaded) → Loads Give names As before now (Err u) → LoadedBy (Made before.files) before.errors now.errors (Err u) → Loads Made names As before now (Err u)
 loads_failed Give Made names As before now u l g =
@@ -88,10 +89,10 @@ first_of_both [] other (suc count) = (0, refl)
 first_of_both (x ∷ one) other zero = (0, refl)
 first_of_both (x ∷ one) other (suc count) = let m = first_of_both one other count in (suc m.0, ap (λ xs. x ∷ xs) m.1)
 
-pub opens_fewer : (one other : List (List ℕ)) (before now : Option (List (List ℕ))) → OpensFirst one before now → OpensFirst (one ++ other) before now
-opens_fewer one other before now o =
+pub opens_fewer : (lost : Bool) (one other : List (List ℕ)) (before now : Option (List (List ℕ))) → OpensFirst lost one before now → OpensFirst lost (one ++ other) before now
+opens_fewer lost one other before now o =
     let m = first_of_both one other o.0 in
-    (m.0, subst (λ names. AddsNames before names now) (sym m.1) o.1)
+    (m.0, subst (λ names. AddsNames lost before names now) (sym m.1) o.1)
 
 no_name : (one other : List (List ℕ)) → one ++ other ≡ [] → (one ≡ []) × (other ≡ [])
 no_name [] other e = (refl, e)
@@ -105,7 +106,7 @@ Steps First Next files answer = Then (First files) (Next files) answer
 pub loads_stop : {A B : Type 0} (First : Option FilesInMemory → Result A Stop → Type 0) (Next : Option FilesInMemory → A → Result B Stop → Type 0) (one other : List (List ℕ)) (As : Type 0) (before now : FilesKnown) (u : Unloaded) → Loads First one As before now (Err u) → Loads (Steps First Next) (one ++ other) As before now (Err u)
 loads_stop First Next one other As before now u l = record {
   loaded = not_loaded (First before.files) (Next before.files) before.errors now.errors u l.loaded;
-  opened = opens_fewer one other before.opened now.opened l.opened;
+  opened = opens_fewer (is_short u) one other before.opened now.opened l.opened;
   all_opened = tt;
   unopened = λ none. l.unopened (no_name one other none).0;
   known = l.known;
@@ -118,7 +119,7 @@ loads_then First Next one other AsOne AsOther As before between now a result bot
     let next : LoadedBy (Next before.files a) between.errors now.errors result = subst (λ files. LoadedBy (Next files a) between.errors now.errors result) l.known m.loaded in
     record {
       loaded = loads_on (First before.files) (Next before.files) before.errors between.errors now.errors a result l.loaded l.counts next;
-      opened = opens_both before.opened between.opened now.opened one other l.all_opened m.opened;
+      opened = opens_both (is_load_short result) before.opened between.opened now.opened one other l.all_opened m.opened;
       all_opened = adds_given result before.opened between.opened now.opened one other l.all_opened m.all_opened;
       unopened = λ none. let n = no_name one other none in both (l.unopened n.0) (m.unopened n.1);
       known = m.known ∙ l.known;
@@ -127,20 +128,20 @@ loads_then First Next one other AsOne AsOther As before between now a result bot
 
 -- ---- a file that is named
 
-pub loads_read : (kind : FileKind) (file bytes : List ℕ) (As : Type 0) (before now : FilesKnown) → ReadBy before.files kind file before.errors now.errors (Ok bytes) → AddsNames before.opened (file ∷ []) now.opened → now.files ≡ before.files → before.errors ≤ now.errors → Loads (λ files. BytesGive files kind (Some file)) (file ∷ []) As before now (Ok (Some bytes))
+pub loads_read : (kind : FileKind) (file bytes : List ℕ) (As : Type 0) (before now : FilesKnown) → ReadBy before.files kind file before.errors now.errors (Ok bytes) → AddsNames false before.opened (file ∷ []) now.opened → now.files ≡ before.files → before.errors ≤ now.errors → Loads (λ files. BytesGive files kind (Some file)) (file ∷ []) As before now (Ok (Some bytes))
 loads_read kind file bytes As before now read adds known counts = record {
   loaded = judged bytes (Ok (Some bytes)) read.0 read.1 refl refl;
-  opened = opens_all (file ∷ []) before.opened now.opened adds;
-  all_opened = adds;
+  opened = opens_all false (file ∷ []) before.opened now.opened adds;
+  all_opened = surely_added before.opened now.opened (file ∷ []) adds;
   unopened = λ none. absurd (let e : file ∷ [] ≡ [] = none in cc);
   known = known;
   counts = counts;
 }
 
-pub loads_unread : (kind : FileKind) (file : List ℕ) (As : Type 0) (before now : FilesKnown) (u : Unloaded) → ReadBy before.files kind file before.errors now.errors (Err u) → AddsNames before.opened (file ∷ []) now.opened → now.files ≡ before.files → before.errors ≤ now.errors → Loads (λ files. BytesGive files kind (Some file)) (file ∷ []) As before now (Err u)
+pub loads_unread : (kind : FileKind) (file : List ℕ) (As : Type 0) (before now : FilesKnown) (u : Unloaded) → ReadBy before.files kind file before.errors now.errors (Err u) → AddsNames (is_short u) before.opened (file ∷ []) now.opened → now.files ≡ before.files → before.errors ≤ now.errors → Loads (λ files. BytesGive files kind (Some file)) (file ∷ []) As before now (Err u)
 loads_unread kind file As before now u read adds known counts = record {
   loaded = file_unloaded before.files kind AreBytes file before.errors now.errors u read;
-  opened = opens_all (file ∷ []) before.opened now.opened adds;
+  opened = opens_all (is_short u) (file ∷ []) before.opened now.opened adds;
   all_opened = tt;
   unopened = λ none. absurd (let e : file ∷ [] ≡ [] = none in cc);
   known = known;

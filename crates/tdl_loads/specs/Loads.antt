@@ -22,7 +22,7 @@ use Rattle.gs_linktext_grammar.specs.declared.error.LinkTextFault.{LinkTextFault
 use Rattle.gs_linktext_grammar.specs.declared.error.LinkTextFault.TheVariants as text
 use Rattle.gs_merge.specs.MergedDocuments.{merge_answer}
 use Rattle.gs_merge.specs.declared.error.MergeFault.{MergeFault}
-use Rattle.gs_port.specs.Files.{AddsNames, IsAbsent, IsFile}
+use Rattle.gs_port.specs.Files.{AddsNames, IsAbsent, IsFile, with_names}
 use Rattle.gs_prefix.specs.Answers.{load_answer}
 use Rattle.gs_prefix.specs.declared.entry.PrefixEntry.{PrefixEntry}
 use Rattle.gs_prefix.specs.declared.error.PrefixFault.{PrefixFault}
@@ -42,6 +42,7 @@ use Rattle.tdl_arguments.specs.Requests.{Asked, FileNames, LinksName, as_text, d
 use Rattle.tdl_loads.specs.declared.loads.Loaded.{Loaded}
 use Rattle.tdl_loads.specs.declared.loads.TablesWithSource.{TablesWithSource}
 use Rattle.tdl_loads.specs.declared.loads.Unloaded.{Unloaded}
+use Rattle.tdl_loads.specs.declared.loads.Unloaded.TheVariants.{Refused, ReadFault, Memory as OutOfMemory}
 
 -- trusted, own: the type of known files, each a name and its bytes
 abbrev pub FilesInMemory : Type 0
@@ -248,9 +249,21 @@ Loading files asked Fact = (loaded : Loaded) × FilesGive files asked (Ok loaded
 abbrev pub Stopping : Option FilesInMemory → Asked → (Stop → Type 0) → Type 0
 Stopping files asked Fact = (stop : Stop) × FilesGive files asked (Err stop) × Fact stop
 
--- trusted, own: holds if only the first of these names were opened, in their order, or the opened ones are unknown
-abbrev pub OpensFirst : List (List ℕ) → Option (List (List ℕ)) → Option (List (List ℕ)) → Type 0
-OpensFirst names before now = (count : ℕ) × AddsNames before (take count names) now
+-- trusted, own: whether files are not loaded because memory ran out
+abbrev pub is_short : Unloaded → Bool
+is_short (Refused rejection) = false
+is_short ReadFault = false
+is_short OutOfMemory = true
+
+-- trusted, own: whether memory ran out in a load
+abbrev pub is_load_short : {A : Type 0} → Result A Unloaded → Bool
+is_load_short (Ok a) = false
+is_load_short (Err unloaded) = is_short unloaded
+
+-- trusted, own: holds if only the first of these names were opened, in their order; only where memory was lost the opened ones
+-- may be unknown instead
+abbrev pub OpensFirst : Bool → List (List ℕ) → Option (List (List ℕ)) → Option (List (List ℕ)) → Type 0
+OpensFirst lost names before now = (count : ℕ) × AddsNames lost before (take count names) now
 
 -- trusted, own: the names of the files up to the one of a kind, in their order; second and third links are merged after both are
 -- loaded
@@ -264,14 +277,14 @@ named_up_to kind.Classes files = names_in_order files
 named_up_to other files = tables_named files ++ links_named files
 
 -- trusted, own: holds if only the first of the named files were opened, in their order; if the files are known, none was opened
--- after the one at which the run stops
-pub record OpensUpTo (files : Option FilesInMemory) (asked : Asked) (before now : Option (List (List ℕ))) : Type 0 where
-  pub first : OpensFirst (names_in_order asked.files) before now
-  pub decided : (known : FilesInMemory) (stop : Stop) → files ≡ Some known → FilesGive files asked (Err stop) → OpensFirst (named_up_to (kind_of stop) asked.files) before now
+-- after the one at which the run stops. Only where memory was lost the opened ones may be unknown instead
+pub record OpensUpTo (lost : Bool) (files : Option FilesInMemory) (asked : Asked) (before now : Option (List (List ℕ))) : Type 0 where
+  pub first : OpensFirst lost (names_in_order asked.files) before now
+  pub decided : (known : FilesInMemory) (stop : Stop) → files ≡ Some known → FilesGive files asked (Err stop) → OpensFirst lost (named_up_to (kind_of stop) asked.files) before now
 
--- trusted, own: holds if all of these names were opened, in their order, once the load succeeded, or the opened ones are unknown
+-- trusted, own: holds if all of these names, and no others, were opened, in their order, once the load succeeded
 abbrev pub Opens : {A : Type 0} → List (List ℕ) → Option (List (List ℕ)) → Option (List (List ℕ)) → Result A Unloaded → Type 0
-Opens names before now answer = IfOk answer (λ _. AddsNames before names now)
+Opens names before now answer = IfOk answer (λ _. now ≡ with_names before names)
 
 -- trusted, own: the place of an ambiguity, at which a text has two derivations: a level of the tables and a pair of its
 -- options, or a pair of classes

@@ -1,5 +1,5 @@
 -- Definitions next to those of Loads.antt, for proofs and private functions.
-use Rattle.std.specs.Prelude.{◌≡◌, ◌⊎◌, ℕ, ◌≤◌, false, true, List, [], ◌++◌, Option, Some, None, is_some, option_to_list, Result, Ok, Err}
+use Rattle.std.specs.Prelude.{◌≡◌, ◌⊎◌, ℕ, ◌≤◌, Bool, false, true, List, [], ◌++◌, Option, Some, None, is_some, option_to_list, Result, Ok, Err}
 use Rattle.gs_ai.specs.declared.row.AiRow.{AiRow}
 use Rattle.gs_class.specs.Sets.{ClassRows, IsClear, IsOfTable}
 use Rattle.gs_http.specs.declared.resolver.Settings.{Settings}
@@ -23,7 +23,7 @@ use Rattle.tdl_loads.specs.declared.loads.Tabled.{Tabled}
 use Rattle.tdl_loads.specs.declared.loads.TablesWithSource.{TablesWithSource}
 use Rattle.tdl_loads.specs.declared.loads.Unloaded.{Unloaded}
 use Rattle.tdl_loads.specs.declared.loads.Unloaded.TheVariants.{Refused, ReadFault, Memory}
-use Rattle.tdl_loads.specs.Loads.{BytesGive, ClassesGive, FilesInMemory, LinksGive, Opens, OpensFirst, OtherGives, PrefixesGive, StandsFor, Stop, TablesGive, UnnamedClasses, is_of_classes, kind_of, links_verdict, merging, missing, of_verdict, other_verdict, prefixes_verdict, rejected}
+use Rattle.tdl_loads.specs.Loads.{BytesGive, ClassesGive, FilesInMemory, LinksGive, Opens, OpensFirst, OtherGives, PrefixesGive, StandsFor, Stop, TablesGive, UnnamedClasses, is_load_short, is_of_classes, kind_of, links_verdict, merging, missing, of_verdict, other_verdict, prefixes_verdict, rejected}
 
 -- ---- the results of the files, part by part: tables and prefixes, links, settings, classes
 
@@ -149,20 +149,20 @@ abbrev pub files_known : Option FilesInMemory → Option (List (List ℕ)) → �
 files_known files opened errors = record { files = files; opened = opened; errors = errors }
 
 -- trusted, own: Holds if a load of the files of these names had this answer between two moments: the result of the files. The
--- first of the names were opened, in their order, and all if the load succeeded. If there are no names, the files are
--- unchanged.
+-- first of the names were opened, in their order, and all if the load succeeded; the opened ones may be unknown only if memory
+-- ran out. If there are no names, the files are unchanged.
 pub record Loads {A : Type 0} (Give : Option FilesInMemory → Result A Stop → Type 0) (names : List (List ℕ)) (AsTheyWere : Type 0) (before now : FilesKnown) (answer : Result A Unloaded) : Type 0 where
   pub loaded : LoadedBy (Give before.files) before.errors now.errors answer
-  pub opened : OpensFirst names before.opened now.opened
+  pub opened : OpensFirst (is_load_short answer) names before.opened now.opened
   pub all_opened : Opens names before.opened now.opened answer
   pub unopened : names ≡ [] → AsTheyWere
   pub known : now.files ≡ before.files
   pub counts : before.errors ≤ now.errors
 
 -- trusted, own: holds if no file was opened after the one at which the load stops, if the files are known; `up_to` gives the names up
--- to the file of a kind
-pub record StopsOpening {A : Type 0} (Give : Option FilesInMemory → Result A Stop → Type 0) (up_to : FileKind → List (List ℕ)) (before now : FilesKnown) : Type 0 where
-  pub decided : (known : FilesInMemory) (stop : Stop) → before.files ≡ Some known → Give before.files (Err stop) → OpensFirst (up_to (kind_of stop)) before.opened now.opened
+-- to the file of a kind. Only where memory was lost the opened names may be unknown
+pub record StopsOpening {A : Type 0} (Give : Option FilesInMemory → Result A Stop → Type 0) (up_to : FileKind → List (List ℕ)) (lost : Bool) (before now : FilesKnown) : Type 0 where
+  pub decided : (known : FilesInMemory) (stop : Stop) → before.files ≡ Some known → Give before.files (Err stop) → OpensFirst lost (up_to (kind_of stop)) before.opened now.opened
 
 -- the names of the files of links after the first, up to the one of a kind
 abbrev pub others_up_to : FileKind → FileNames → List (List ℕ)

@@ -3,7 +3,7 @@ ghost use Rattle.gs_merge.specs.MergedDocuments.{merge_answer};
 ghost use Rattle.tdl_messages.specs.declared.file_kind.FileKind.TheVariants.{Merge as OfMerge};
 ghost use Rattle.tdl_arguments.specs.Ranges.{is_vocabulary};
 ghost use Rattle.tdl_arguments.specs.Requests.{known_files, known_values, links_named};
-ghost use Rattle.tdl_loads.specs.Loads.{merge_verdict, merged_with, merging};
+ghost use Rattle.tdl_loads.specs.Loads.{is_load_short, merge_verdict, merged_with, merging};
 ghost use Rattle.tdl_loads.specs.LoadsSupport.{LinkedGive, Loads, StopsOpening, files_known, links_up_to};
 ghost use Rattle.tdl_loads.specs.Reads.{JudgedAs};
 ghost use Rattle.std.specs.Prelude.{Ok};
@@ -98,6 +98,7 @@ pub fn load_linked<F: Files>(
     ensures decided { StopsOpening
         (λ known. LinkedGive known (known_files named.entry) (known_values values.entry) ais.now)
         (λ kind. links_up_to kind (known_files named.entry))
+        (is_load_short result)
         (files_known (F.files files.old) (F.opened files.old) (F.errors files.old))
         (files_known (F.files files.new) (F.opened files.new) (F.errors files.new)) }
 {

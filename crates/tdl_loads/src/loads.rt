@@ -1,7 +1,7 @@
 ghost use Rattle.std.specs.Prelude.{◌≡◌, true};
 ghost use Rattle.tdl_arguments.specs.Ranges.{is_vocabulary};
 ghost use Rattle.tdl_arguments.specs.Requests.{all_named, description_named, known_files, known_request, known_values, tables_named};
-ghost use Rattle.tdl_loads.specs.Loads.{FilesGive, named_up_to};
+ghost use Rattle.tdl_loads.specs.Loads.{FilesGive, is_load_short, named_up_to};
 ghost use Rattle.tdl_loads.specs.LoadsSupport.{Loads, SettingsGive, StopsOpening, TabledGive, files_known};
 
 use crate::classes::load_classes;
@@ -118,6 +118,7 @@ fn load_tabled<F: Files>(
         (files_known (F.files files.new) (F.opened files.new) (F.errors files.new)) result }
     ensures decided { StopsOpening (λ known. TabledGive known (known_files named.entry))
         (λ kind. named_up_to kind (known_files named.entry))
+        (is_load_short result)
         (files_known (F.files files.old) (F.opened files.old) (F.errors files.old))
         (files_known (F.files files.new) (F.opened files.new) (F.errors files.new)) }
 {
@@ -169,6 +170,7 @@ pub fn load_files<F: Files>(
         (files_known (F.files files.new) (F.opened files.new) (F.errors files.new)) result }
     ensures decided { StopsOpening (λ known. FilesGive known (known_request request.entry))
         (λ kind. named_up_to kind (known_request request.entry).files)
+        (is_load_short result)
         (files_known (F.files files.old) (F.opened files.old) (F.errors files.old))
         (files_known (F.files files.new) (F.opened files.new) (F.errors files.new)) }
 {

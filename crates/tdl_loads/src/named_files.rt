@@ -1,7 +1,7 @@
 ghost use Rattle.std.specs.Prelude.{◌≡◌, ◌≤◌, [], ◌∷◌, option_to_list};
 ghost use Rattle.gs_port.specs.Files.{AddsNames};
 ghost use Rattle.tdl_arguments.specs.Requests.{known_name};
-ghost use Rattle.tdl_loads.specs.Loads.{BytesGive};
+ghost use Rattle.tdl_loads.specs.Loads.{BytesGive, is_load_short};
 ghost use Rattle.tdl_loads.specs.LoadsSupport.{Loads, files_known};
 ghost use Rattle.tdl_loads.specs.Reads.{ReadBy};
 
@@ -19,7 +19,8 @@ fn read_named<F: Files>(
     files: &mut F,
 ) -> Result<Text, Unloaded>
     ensures read { ReadBy (F.files files.old) kind name.now (F.errors files.old) (F.errors files.new) result }
-    ensures opened { AddsNames (F.opened files.old) (name.now ∷ []) (F.opened files.new) }
+    ensures opened { AddsNames (is_load_short result) (F.opened files.old) (name.now ∷ [])
+        (F.opened files.new) }
     ensures known { F.files files.new ≡ F.files files.old }
     ensures counts { F.errors files.old ≤ F.errors files.new }
 {

@@ -1,7 +1,9 @@
 -- A whole run at a listener.
-use Rattle.std.proofs.Common.{◌≡◌, ℕ, ◌-◌, false, List, [], length, take, drop, refl, sym, ap, ◌∙◌, inl, inr, arith, take-append-drop}
+use Rattle.std.proofs.Common.{◌≡◌, ℕ, ◌-◌, Bool, false, List, [], Option, length, take, drop, refl, sym, ap, ◌∙◌, inl, inr, arith, take-append-drop}
 use Rattle.std.proofs.lemmas.List.Folds.{list_any-append}
 use Rattle.gs_chars.proofs.TruthsAndLists.{or_first}
+use Rattle.gs_port.specs.Files.{AddsNames}
+use Rattle.gs_port.proofs.Names.{surely_added}
 use Rattle.tdl_lines.specs.declared.status.Status.{Status}
 use Rattle.tdl_lines.specs.declared.status.Status.TheVariants.{Done, SomeRefused, Usage, Refused, ReadFault, WriteFault, InputLong, Memory}
 use Rattle.tdl_lines.specs.Printers.{PrintedAs}
@@ -13,6 +15,10 @@ use Rattle.gs_http.specs.Sites.{SiteData}
 use Rattle.tdl_serve.specs.Turns.{SessionDid}
 use Rattle.tdl_serve.specs.Visits.{DoorState, Visit, Visited, is_want, wants_memory}
 use Rattle.tdl_serve.proofs.VisitLemmas.{visited_twice}
+
+-- addresses that an open added where no memory was lost, and that stayed
+pub stays_added : (lost : Bool) (before opened now : Option (List (List ℕ))) (more : List (List ℕ)) → AddsNames false before more opened → now ≡ opened → AddsNames lost before more now
+stays_added lost before opened now more adds same = inl (same ∙ surely_added before opened more adds)
 
 -- nothing was served
 pub nothing_served : (site : SiteData) (count : ℕ) (a b : DoorState) (status : Status) → Visited site a b [] → ServePrints status count b [] [] → ServeRan site count a b [] status

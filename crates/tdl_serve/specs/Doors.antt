@@ -1,5 +1,5 @@
 -- A run at a listener.
-use Rattle.std.specs.Prelude.{◌≡◌, ◌⊎◌, ℕ, ◌≤◌, ◌-◌, true, false, List, [], ◌∷◌, ◌++◌, IfSome, codes, decimal, length, take}
+use Rattle.std.specs.Prelude.{◌≡◌, ◌⊎◌, ℕ, ◌≤◌, ◌-◌, Bool, true, false, List, [], ◌∷◌, ◌++◌, IfSome, codes, decimal, length, take}
 use Rattle.tdl_lines.specs.declared.status.Status.{Status}
 use Rattle.tdl_lines.specs.declared.status.Status.TheVariants.{Done, ReadFault, WriteFault, Memory}
 use Rattle.tdl_lines.specs.Printers.{IsInitialPart}
@@ -42,9 +42,10 @@ ServePrints _ count now visits output = ⊥
 abbrev pub CountsErrors : Status → Aside → Aside → Type 0
 CountsErrors status before now = now.errors ≡ count_if (is_status status ReadFault) before.errors
 
--- trusted, own: holds if the listener was to be opened once, at this address
-abbrev pub OpensAt : List ℕ → Aside → Aside → Type 0
-OpensAt address before now = AddsNames before.addresses (address ∷ []) now.addresses
+-- trusted, own: holds if the listener was to be opened once, at this address; only where memory was lost its addresses may be
+-- unknown instead
+abbrev pub OpensAt : Bool → List ℕ → Aside → Aside → Type 0
+OpensAt lost address before now = AddsNames lost before.addresses (address ∷ []) now.addresses
 
 -- trusted, own: holds if at most `count` of the waiting connections were served between two moments, and `output` is the one
 -- that belongs to the status; memory ran out at most at the last of them

@@ -104,7 +104,8 @@ pub fn serve<D: Door, K: Sink>(
         (state_of (D.aside door.old) (D.reads door.old) (D.writes door.old))
         (state_of (D.aside door.new) (D.reads door.new) (D.writes door.new)) out result) }
     ensures closed { D.is_open door.new ≡ false }
-    ensures opens { OpensAt address.now (D.aside door.old) (D.aside door.new) }
+    ensures opens { OpensAt (is_status result Status.Memory) address.now
+        (D.aside door.old) (D.aside door.new) }
     ensures read_error { OnTrue (is_status result Status.ReadFault)
         (Rises (D.aside door.old).errors (D.aside door.new).errors) }
     ensures write_error { OnTrue (is_status result Status.WriteFault)

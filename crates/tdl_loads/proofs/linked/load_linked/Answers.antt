@@ -4,7 +4,7 @@ use Rattle.tdl_messages.specs.declared.file_kind.FileKind.TheVariants as kind
 use Rattle.tdl_arguments.specs.Requests.{first_named, known_files, known_values, others_named}
 use Rattle.tdl_loads.specs.Loads.{LinksGive, OtherGives}
 use Rattle.tdl_loads.specs.LoadsSupport.{AreLinked, GivesOthers, GivesThird}
-use Rattle.tdl_loads.proofs.DecidedLoads.{links_stop, others_stop, second_stops, third_stops}
+use Rattle.tdl_loads.proofs.DecidedLoads.{links_stop, others_stop, second_stops, stops_anyway, third_stops}
 use Rattle.tdl_loads.proofs.LinkLoads.{linked_is, linked_not}
 use Rattle.tdl_loads.proofs.LoadSteps.{gives_last, loads_given, loads_stop, loads_then, stops_first}
 use Rattle.tdl_loads.proofs.linked.load_linked.Goals as goal
@@ -63,16 +63,24 @@ returns-clause-loads g c =
     (linked_is ais voc c.in_ok-links.links c.in_ok-second.second c.in_ok-third.third c.in_ok-merged.merged c.in_ok-merged.ensures)))
 
 pub returns-in_err-links-clause-decided : goal.returns-in_err-links-clause-decided
-returns-in_err-links-clause-decided g c = links_stop (known_files c.args.named) (known_values c.args.values) c.args.ais.now c.in_err-links.ensures
+returns-in_err-links-clause-decided g c =
+    let p = err_from_is_err_and c.from_residual.result c.from_residual.ensures.1 in
+    rw (p.1, p.2) (links_stop (known_files c.args.named) (known_values c.args.values) c.args.ais.now c.in_err-links.ensures)
 
 pub returns-in_err-second-clause-decided : goal.returns-in_err-second-clause-decided
-returns-in_err-second-clause-decided g c = others_stop (known_files c.args.named) (known_values c.args.values) c.args.ais.now c.in_ok-links.ensures (second_stops (known_files c.args.named) c.args.ais.now c.args.values.voc.now c.in_ok-links.links c.in_err-second.ensures)
+returns-in_err-second-clause-decided g c =
+    let p = err_from_is_err_and c.from_residual-in_err-second.result c.from_residual-in_err-second.ensures.1 in
+    rw (p.1, p.2) (others_stop (known_files c.args.named) (known_values c.args.values) c.args.ais.now c.in_ok-links.ensures (second_stops (known_files c.args.named) c.args.ais.now c.args.values.voc.now c.in_ok-links.links c.in_err-second.ensures))
 
 pub returns-in_err-third-clause-decided : goal.returns-in_err-third-clause-decided
-returns-in_err-third-clause-decided g c = others_stop (known_files c.args.named) (known_values c.args.values) c.args.ais.now c.in_ok-links.ensures (third_stops (known_files c.args.named) c.args.ais.now c.args.values.voc.now c.in_ok-links.links c.in_ok-second.ensures c.in_err-third.ensures)
+returns-in_err-third-clause-decided g c =
+    let p = err_from_is_err_and c.from_residual-in_err-third.result c.from_residual-in_err-third.ensures.1 in
+    rw (p.1, p.2) (others_stop (known_files c.args.named) (known_values c.args.values) c.args.ais.now c.in_ok-links.ensures (third_stops (known_files c.args.named) c.args.ais.now c.args.values.voc.now c.in_ok-links.links c.in_ok-second.ensures c.in_err-third.ensures))
 
 pub returns-in_err-merged-clause-decided : goal.returns-in_err-merged-clause-decided
-returns-in_err-merged-clause-decided g c = others_stop (known_files c.args.named) (known_values c.args.values) c.args.ais.now c.in_ok-links.ensures (third_stops (known_files c.args.named) c.args.ais.now c.args.values.voc.now c.in_ok-links.links c.in_ok-second.ensures c.in_ok-third.ensures)
+returns-in_err-merged-clause-decided g c =
+    let p = err_from_is_err_and c.from_residual-in_err-merged.result c.from_residual-in_err-merged.ensures.1 in
+    rw (p.1, p.2) (stops_anyway _ (others_stop (known_files c.args.named) (known_values c.args.values) c.args.ais.now c.in_ok-links.ensures (third_stops (known_files c.args.named) c.args.ais.now c.args.values.voc.now c.in_ok-links.links c.in_ok-second.ensures c.in_ok-third.ensures)))
 
 pub returns-clause-decided : goal.returns-clause-decided
 returns-clause-decided g c = others_stop (known_files c.args.named) (known_values c.args.values) c.args.ais.now c.in_ok-links.ensures (third_stops (known_files c.args.named) c.args.ais.now c.args.values.voc.now c.in_ok-links.links c.in_ok-second.ensures c.in_ok-third.ensures)

@@ -3,7 +3,7 @@ use Rattle.std.specs.Prelude.{Ok, Err}
 use Rattle.std.proofs.lemmas.Result.{err_from_is_err_and}
 use Rattle.gs_ai.specs.declared.row.AiRow.{AiRow}
 use Rattle.tdl_arguments.specs.Requests.{classes_named, description_named, known_request, links_named, tables_named}
-use Rattle.tdl_loads.specs.Loads.{ClassesGive}
+use Rattle.tdl_loads.specs.Loads.{ClassesGive, is_short}
 use Rattle.tdl_loads.specs.LoadsSupport.{GivesClasses, GivesLinks, GivesSettings, IsLoadedOf, LinkedGive, Loads, SettingsGive, StopsOpening, TabledGive, files_known, links_up_to}
 use Rattle.tdl_loads.proofs.DecidedLoads.{after_links, after_tables, classes_stop, linked_stops, settings_stop, tabled_stops}
 use Rattle.tdl_loads.proofs.FlatLoads.{loads_flat, stops_flat}
@@ -56,29 +56,33 @@ returns-clause-loads g c =
 
 pub returns-in_err-tabled-clause-decided : goal.returns-in_err-tabled-clause-decided
 returns-in_err-tabled-clause-decided g c =
-    stops_flat (known_request c.args.request) _
-    (tabled_stops (known_request c.args.request) c.in_err-tabled.ensures.loads c.in_err-tabled.ensures.decided)
+    let p = err_from_is_err_and c.from_residual.result c.from_residual.ensures.1 in
+    rw (p.1, p.2) (stops_flat (known_request c.args.request) _
+    (tabled_stops (known_request c.args.request) c.in_err-tabled.ensures.loads c.in_err-tabled.ensures.decided))
 
 pub returns-in_err-linked-clause-decided : goal.returns-in_err-linked-clause-decided
 returns-in_err-linked-clause-decided g c =
-    stops_flat (known_request c.args.request) _
+    let p = err_from_is_err_and c.from_residual-in_err-linked.result c.from_residual-in_err-linked.ensures.1 in
+    rw (p.1, p.2) (stops_flat (known_request c.args.request) _
     (after_tables (known_request c.args.request) c.in_ok-tabled.ensures.loads
     (linked_stops (known_request c.args.request) c.in_ok-tabled.tabled (subst (λ (rows : List AiRow). Loads (λ known. LinkedGive known (known_request c.args.request).files (known_request c.args.request).values rows) (links_named (known_request c.args.request).files) (c.load_linked.new.files ≡ c.load_tabled.new.files) (files_known (g.F.Files.files c.load_tabled.new.files) (g.F.Files.opened c.load_tabled.new.files) (g.F.Files.errors c.load_tabled.new.files)) (files_known (g.F.Files.files c.load_linked.new.files) (g.F.Files.opened c.load_linked.new.files) (g.F.Files.errors c.load_linked.new.files)) (Err c.in_err-linked.field-0.0)) c.ais-table.ensures.rows c.in_err-linked.ensures.loads)
-    (subst (λ (rows : List AiRow). StopsOpening (λ known. LinkedGive known (known_request c.args.request).files (known_request c.args.request).values rows) (λ k. links_up_to k (known_request c.args.request).files) (files_known (g.F.Files.files c.load_tabled.new.files) (g.F.Files.opened c.load_tabled.new.files) (g.F.Files.errors c.load_tabled.new.files)) (files_known (g.F.Files.files c.load_linked.new.files) (g.F.Files.opened c.load_linked.new.files) (g.F.Files.errors c.load_linked.new.files))) c.ais-table.ensures.rows c.in_err-linked.ensures.decided)))
+    (subst (λ (rows : List AiRow). StopsOpening (λ known. LinkedGive known (known_request c.args.request).files (known_request c.args.request).values rows) (λ k. links_up_to k (known_request c.args.request).files) (is_short c.in_err-linked.field-0.0) (files_known (g.F.Files.files c.load_tabled.new.files) (g.F.Files.opened c.load_tabled.new.files) (g.F.Files.errors c.load_tabled.new.files)) (files_known (g.F.Files.files c.load_linked.new.files) (g.F.Files.opened c.load_linked.new.files) (g.F.Files.errors c.load_linked.new.files))) c.ais-table.ensures.rows c.in_err-linked.ensures.decided))))
 
 pub returns-in_err-settings-clause-decided : goal.returns-in_err-settings-clause-decided
 returns-in_err-settings-clause-decided g c =
-    stops_flat (known_request c.args.request) _
+    let p = err_from_is_err_and c.from_residual-in_err-settings.result c.from_residual-in_err-settings.ensures.1 in
+    rw (p.1, p.2) (stops_flat (known_request c.args.request) _
     (after_tables (known_request c.args.request) c.in_ok-tabled.ensures.loads
     (after_links (known_request c.args.request) c.in_ok-tabled.tabled (subst (λ (rows : List AiRow). Loads (λ known. LinkedGive known (known_request c.args.request).files (known_request c.args.request).values rows) (links_named (known_request c.args.request).files) (c.load_linked.new.files ≡ c.load_tabled.new.files) (files_known (g.F.Files.files c.load_tabled.new.files) (g.F.Files.opened c.load_tabled.new.files) (g.F.Files.errors c.load_tabled.new.files)) (files_known (g.F.Files.files c.load_linked.new.files) (g.F.Files.opened c.load_linked.new.files) (g.F.Files.errors c.load_linked.new.files)) (Ok c.in_ok-linked.linked)) c.ais-table.ensures.rows c.in_ok-linked.ensures.loads)
-    (settings_stop (known_request c.args.request) c.in_ok-tabled.tabled c.in_ok-linked.linked c.in_err-settings.ensures)))
+    (settings_stop (known_request c.args.request) c.in_ok-tabled.tabled c.in_ok-linked.linked c.in_err-settings.ensures))))
 
 pub returns-in_err-classes-clause-decided : goal.returns-in_err-classes-clause-decided
 returns-in_err-classes-clause-decided g c =
-    stops_flat (known_request c.args.request) _
+    let p = err_from_is_err_and c.from_residual-in_err-classes.result c.from_residual-in_err-classes.ensures.1 in
+    rw (p.1, p.2) (stops_flat (known_request c.args.request) _
     (after_tables (known_request c.args.request) c.in_ok-tabled.ensures.loads
     (after_links (known_request c.args.request) c.in_ok-tabled.tabled (subst (λ (rows : List AiRow). Loads (λ known. LinkedGive known (known_request c.args.request).files (known_request c.args.request).values rows) (links_named (known_request c.args.request).files) (c.load_linked.new.files ≡ c.load_tabled.new.files) (files_known (g.F.Files.files c.load_tabled.new.files) (g.F.Files.opened c.load_tabled.new.files) (g.F.Files.errors c.load_tabled.new.files)) (files_known (g.F.Files.files c.load_linked.new.files) (g.F.Files.opened c.load_linked.new.files) (g.F.Files.errors c.load_linked.new.files)) (Ok c.in_ok-linked.linked)) c.ais-table.ensures.rows c.in_ok-linked.ensures.loads)
-    (classes_stop (known_request c.args.request) c.in_ok-tabled.tabled c.in_ok-linked.linked c.in_ok-settings.ensures c.in_err-classes.ensures)))
+    (classes_stop (known_request c.args.request) c.in_ok-tabled.tabled c.in_ok-linked.linked c.in_ok-settings.ensures c.in_err-classes.ensures))))
 
 pub returns-clause-decided : goal.returns-clause-decided
 returns-clause-decided g c =

@@ -27,10 +27,14 @@ returns-clause-loads g c =
     (gives_last (λ known. PrefixesGive known names.prefixes) (λ known. AreTabled c.in_ok-given.given) (option_to_list names.prefixes) _ _ _ c.in_ok-prefixes.prefixes _ c.in_ok-prefixes.ensures refl)
 
 pub returns-in_err-given-clause-decided : goal.returns-in_err-given-clause-decided
-returns-in_err-given-clause-decided g c = tables_stop (known_files c.args.named) c.in_err-given.ensures
+returns-in_err-given-clause-decided g c =
+    let p = err_from_is_err_and c.from_residual.result c.from_residual.ensures.1 in
+    rw (p.1, p.2) (tables_stop (known_files c.args.named) c.in_err-given.ensures)
 
 pub returns-in_err-prefixes-clause-decided : goal.returns-in_err-prefixes-clause-decided
-returns-in_err-prefixes-clause-decided g c = prefixes_stop (known_files c.args.named) c.in_ok-given.ensures c.in_err-prefixes.ensures
+returns-in_err-prefixes-clause-decided g c =
+    let p = err_from_is_err_and c.from_residual-in_err-prefixes.result c.from_residual-in_err-prefixes.ensures.1 in
+    rw (p.1, p.2) (prefixes_stop (known_files c.args.named) c.in_ok-given.ensures c.in_err-prefixes.ensures)
 
 pub returns-clause-decided : goal.returns-clause-decided
 returns-clause-decided g c = prefixes_stop (known_files c.args.named) c.in_ok-given.ensures c.in_ok-prefixes.ensures

@@ -7,7 +7,7 @@ pub returns-in-Ok-clause-counts : goal.returns-in-Ok-clause-counts
 returns-in-Ok-clause-counts g c = c.read_file.ensures.counts
 
 pub returns-in-Ok-clause-opened : goal.returns-in-Ok-clause-opened
-returns-in-Ok-clause-opened g c = c.read_file.ensures.named
+returns-in-Ok-clause-opened g c = c.in-Ok.ensures.named
 
 pub returns-in-Err-Over-clause-known : goal.returns-in-Err-Over-clause-known
 returns-in-Err-Over-clause-known g c = c.read_file.ensures.files
@@ -16,7 +16,7 @@ pub returns-in-Err-Over-clause-counts : goal.returns-in-Err-Over-clause-counts
 returns-in-Err-Over-clause-counts g c = c.read_file.ensures.counts
 
 pub returns-in-Err-Over-clause-opened : goal.returns-in-Err-Over-clause-opened
-returns-in-Err-Over-clause-opened g c = c.read_file.ensures.named
+returns-in-Err-Over-clause-opened g c = rw c.in-Err-Over.field-0-is at c.in-Err-Over.ensures.named
 
 pub returns-in-Err-Failed-clause-known : goal.returns-in-Err-Failed-clause-known
 returns-in-Err-Failed-clause-known g c = c.read_file.ensures.files
@@ -25,7 +25,7 @@ pub returns-in-Err-Failed-clause-counts : goal.returns-in-Err-Failed-clause-coun
 returns-in-Err-Failed-clause-counts g c = c.read_file.ensures.counts
 
 pub returns-in-Err-Failed-clause-opened : goal.returns-in-Err-Failed-clause-opened
-returns-in-Err-Failed-clause-opened g c = c.read_file.ensures.named
+returns-in-Err-Failed-clause-opened g c = rw c.in-Err-Failed.field-0-is at c.in-Err-Failed.ensures.named
 
 pub returns-in-Err-Failed-clause-read : goal.returns-in-Err-Failed-clause-read
 returns-in-Err-Failed-clause-read g c = rw c.in-Err-Failed.field-0-is at c.in-Err-Failed.ensures.failed

@@ -1,9 +1,9 @@
-use Rattle.std.proofs.Common.{[], ◌∙◌, arith, refl, sym, ap, inr}
+use Rattle.std.proofs.Common.{[], ◌∷◌, ◌∙◌, arith, refl, sym, ap, inr}
 use Rattle.gs_port.specs.Connections.{Aside}
 use Rattle.gs_port.specs.Counts.{counted}
 use Rattle.gs_port.specs.Contents.{append_nothing}
 use Rattle.tdl_lines.specs.declared.status.Status.TheVariants.{ReadFault, Memory}
-use Rattle.tdl_serve.proofs.RunLemmas.{nothing_served, printed_errorless, run_failed, run_over, run_short}
+use Rattle.tdl_serve.proofs.RunLemmas.{nothing_served, printed_errorless, run_failed, run_over, run_short, stays_added}
 use Rattle.tdl_serve.proofs.VisitLemmas.{visited_none}
 use Rattle.tdl_serve.specs.Visits.{DoorState}
 use Rattle.tdl_serve.proofs.sessions.serve.Goals as goal
@@ -155,3 +155,21 @@ returns-in-Over-clause-read_error g c = rw (printed_errorless _ c.print_tally.en
 
 pub returns-in-Over-clause-door_count : goal.returns-in-Over-clause-door_count
 returns-in-Over-clause-door_count g c = rw (printed_errorless _ c.print_tally.ensures.written.0 c.print_tally.result c.print_tally.ensures.written.2) (c.in-Over.ensures.left.own_count ∙ ap (λ (a : Aside). a.errors) c.in-Opened.ensures.aside)
+
+pub returns-in-Failed-clause-opens : goal.returns-in-Failed-clause-opens
+returns-in-Failed-clause-opens g c = c.in-Failed.ensures.addressed
+
+pub returns-in-Memory-clause-opens : goal.returns-in-Memory-clause-opens
+returns-in-Memory-clause-opens g c = c.in-Memory.ensures.addressed
+
+pub returns-in-Over-clause-opens : goal.returns-in-Over-clause-opens
+returns-in-Over-clause-opens g c =
+    stays_added _ (g.D.Conn.aside c.args.door.now).addresses (g.D.Conn.aside c.open.new.self).addresses (g.D.Conn.aside c.serve_all.new.door).addresses (c.args.address.now ∷ []) c.in-Opened.ensures.addressed c.in-Over.ensures.left.same_addresses
+
+pub returns-in-Failed-serve_all-clause-opens : goal.returns-in-Failed-serve_all-clause-opens
+returns-in-Failed-serve_all-clause-opens g c =
+    stays_added _ (g.D.Conn.aside c.args.door.now).addresses (g.D.Conn.aside c.open.new.self).addresses (g.D.Conn.aside c.serve_all.new.door).addresses (c.args.address.now ∷ []) c.in-Opened.ensures.addressed c.in-Failed-serve_all.ensures.left.same_addresses
+
+pub returns-in-Memory-serve_all-clause-opens : goal.returns-in-Memory-serve_all-clause-opens
+returns-in-Memory-serve_all-clause-opens g c =
+    stays_added _ (g.D.Conn.aside c.args.door.now).addresses (g.D.Conn.aside c.open.new.self).addresses (g.D.Conn.aside c.serve_all.new.door).addresses (c.args.address.now ∷ []) c.in-Opened.ensures.addressed c.in-Memory-serve_all.ensures.left.same_addresses
