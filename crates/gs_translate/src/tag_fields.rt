@@ -193,14 +193,10 @@ fn with_tag<'a>(
     ensures tagged { UnlessMemory result (result ≡ with_tag options.now level meaning.now epc.entry) }
     ensures filter { IfOk result (λ epc. HasFilterOn level epc.filter) }
 {
-    let filter = filter_for(options, meaning.filter);
-    if lacks_filter(level, filter) {
-        return Err(Reason::Missing(FieldName::Filter));
-    }
     let mut epc = epc;
-    epc.encoding = encoding_for(options, meaning.encoding.as_bytes());
-    epc.filter = filter;
-    Ok(epc)
+    epc.encoding = meaning.encoding.as_bytes();
+    epc.filter = meaning.filter;
+    retagged(options, level, epc)
 }
 
 /// Returns the EPC that is written of a meaning as a tag or an EPC URI, or the first reason why there is none.
