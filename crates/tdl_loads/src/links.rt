@@ -1,6 +1,8 @@
-ghost use Rattle.std.specs.Prelude.{◌≡◌, [], Ok, Some, false, option_map, option_to_list, true};
+ghost use Rattle.std.specs.Prelude.{◌≡◌, [], IfErr, IfOk, Ok, Some, false, option_map, option_to_list, true};
 ghost use Rattle.gs_links.specs.Loads.{load_answer};
+ghost use Rattle.gs_json.specs.Answers.{OrMemory};
 ghost use Rattle.gs_linkset.specs.Answers.{read_answer};
+ghost use Rattle.gs_linktext.specs.ReadAnswers.{IsReadAs, IsReadError};
 ghost use Rattle.tdl_messages.specs.declared.file_kind.FileKind.TheVariants.{Links as OfLinks};
 ghost use Rattle.tdl_arguments.specs.Ranges.{is_vocabulary};
 ghost use Rattle.tdl_arguments.specs.Requests.{known_links, known_name, name_of_links};
@@ -12,7 +14,7 @@ use crate::loads::Unloaded;
 use crate::named_files::read_if_named;
 use crate::places::judge_places;
 use gs_ai::AiTable;
-use gs_chars::List;
+use gs_chars::{List, Text};
 use gs_json::JsonFault;
 use gs_links::{Store, StoreFault};
 use gs_linkset::{LinkDoc, read};
@@ -68,13 +70,20 @@ pub fn load_store(alloc: Global, judging: Judging<'_>, doc: LinkDoc) -> Result<S
     }
 }
 
-/// Loads the links of bytes in JSON.
-fn judge_json(alloc: Global, judging: Judging<'_>, bytes: &[u8]) -> Result<Store, Unloaded>
+/// Reads a linkset in JSON and gives its bytes up.
+fn read_json(alloc: Global, bytes: Text) -> Result<LinkDoc, JsonFault>
+    ensures { OrMemory result (read_answer bytes) }
+{
+    read(alloc, bytes.as_bytes())
+}
+
+/// Loads the links of bytes in JSON, which it gives up before it makes the store.
+fn judge_json(alloc: Global, judging: Judging<'_>, bytes: Text) -> Result<Store, Unloaded>
     requires { is_vocabulary judging.voc.now ≡ true }
     ensures { JudgedAs judging.entry.kind (links_verdict judging.entry.templates judging.entry.ais.now
-        judging.entry.voc.now (read_answer bytes.now)) result }
+        judging.entry.voc.now (read_answer bytes)) result }
 {
-    match read(alloc, bytes) {
+    match read_json(alloc, bytes) {
         Ok(doc) => load_store(alloc, judging, doc),
         Err(JsonFault::Memory) => Err(Unloaded::Memory),
         Err(error) => Err(Unloaded::Refused(Rejection {
@@ -99,13 +108,21 @@ fn unread_text(kind: FileKind, error: LinkTextFault) -> Unloaded
     }
 }
 
-/// Loads the links of bytes as text.
-fn judge_text(alloc: Global, judging: Judging<'_>, bytes: &[u8]) -> Result<Store, Unloaded>
+/// Reads a linkset as text and gives its bytes up.
+fn read_text(alloc: Global, bytes: Text) -> Result<LinkDoc, LinkTextFault>
+    ensures read { IfOk result (λ doc. IsReadAs bytes doc) }
+    ensures rejected { IfErr result (IsReadError bytes) }
+{
+    gs_linktext::read(alloc, bytes.as_bytes())
+}
+
+/// Loads the links of bytes as text, which it gives up before it makes the store.
+fn judge_text(alloc: Global, judging: Judging<'_>, bytes: Text) -> Result<Store, Unloaded>
     requires { is_vocabulary judging.voc.now ≡ true }
     ensures { JudgedBy judging.entry.kind (JudgesText judging.entry.templates judging.entry.ais.now
-        judging.entry.voc.now bytes.now) result }
+        judging.entry.voc.now bytes) result }
 {
-    match gs_linktext::read(alloc, bytes) {
+    match read_text(alloc, bytes) {
         Ok(doc) => load_store(alloc, judging, doc),
         Err(error) => Err(unread_text(judging.kind, error)),
     }
@@ -127,11 +144,11 @@ fn judge_named(
     alloc: Global,
     judging: Judging<'_>,
     file: LinksFile<'_>,
-    bytes: &[u8],
+    bytes: Text,
 ) -> Result<Store, Unloaded>
     requires { is_vocabulary judging.voc.now ≡ true }
     ensures { JudgedBy judging.entry.kind (JudgesFile judging.entry.templates judging.entry.ais.now
-        judging.entry.voc.now (known_links (Some file.entry)) bytes.now) result }
+        judging.entry.voc.now (known_links (Some file.entry)) bytes) result }
 {
     match file {
         LinksFile::Text(_) => judge_text(alloc, judging, bytes),
@@ -144,11 +161,11 @@ fn judge_file(
     alloc: Global,
     judging: Judging<'_>,
     file: Option<LinksFile<'_>>,
-    bytes: &[u8],
+    bytes: Text,
 ) -> Result<Store, Unloaded>
     requires { is_vocabulary judging.voc.now ≡ true }
     ensures { JudgedBy judging.entry.kind (JudgesFile judging.entry.templates judging.entry.ais.now
-        judging.entry.voc.now (known_links file.entry) bytes.now) result }
+        judging.entry.voc.now (known_links file.entry) bytes) result }
 {
     match file {
         Some(file) => judge_named(alloc, judging, file, bytes),
@@ -202,7 +219,7 @@ pub fn load_links<F: Files>(
         templates,
     };
     match read_if_named(alloc, FileKind::Links, name_of(file), files) {
-        Ok(Some(bytes)) => judge_file(alloc, judging, file, bytes.as_bytes()),
+        Ok(Some(bytes)) => judge_file(alloc, judging, file, bytes),
         Ok(None) => load_no_link(alloc, ais, voc),
         Err(unloaded) => Err(unloaded),
     }
@@ -214,10 +231,10 @@ fn judge_other(
     kind: FileKind,
     ais: &AiTable,
     voc: &str,
-    bytes: &[u8],
+    bytes: Text,
 ) -> Result<Option<Store>, Unloaded>
     requires { is_vocabulary voc.now ≡ true }
-    ensures { JudgedAs kind (other_verdict (links_verdict false ais.now voc.now (read_answer bytes.now)))
+    ensures { JudgedAs kind (other_verdict (links_verdict false ais.now voc.now (read_answer bytes)))
         result }
 {
     let judging = Judging {
@@ -249,7 +266,7 @@ pub fn load_other<F: Files>(
         (files_known (F.files files.new) (F.opened files.new) (F.errors files.new)) result }
 {
     match read_if_named(alloc, kind, name, files) {
-        Ok(Some(bytes)) => judge_other(alloc, kind, ais, voc, bytes.as_bytes()),
+        Ok(Some(bytes)) => judge_other(alloc, kind, ais, voc, bytes),
         Ok(None) => Ok(None),
         Err(unloaded) => Err(unloaded),
     }

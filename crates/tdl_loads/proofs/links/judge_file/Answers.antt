@@ -9,5 +9,5 @@ returns-in-Some c = rw c.in-Some.is c.judge_named.ensures
 
 pub returns-in-None : goal.returns-in-None
 returns-in-None c =
-    let verdict = links_verdict c.args.judging.templates c.args.judging.ais.now c.args.judging.voc.now (read_answer c.args.bytes.now) in
-    rw c.in-None.is (judged_by c.args.judging.kind (JudgesLinks c.args.judging.templates c.args.judging.ais.now c.args.judging.voc.now c.args.bytes.now) verdict c.judge_json.result refl c.judge_json.ensures)
+    let verdict = links_verdict c.args.judging.templates c.args.judging.ais.now c.args.judging.voc.now (read_answer c.args.bytes) in
+    rw c.in-None.is (judged_by c.args.judging.kind (JudgesLinks c.args.judging.templates c.args.judging.ais.now c.args.judging.voc.now c.args.bytes) verdict c.judge_json.result refl c.judge_json.ensures)

@@ -6,8 +6,8 @@ use Rattle.tdl_loads.proofs.links.judge_named.Goals as goal
 
 pub returns-in-Json : goal.returns-in-Json
 returns-in-Json c =
-    let verdict = links_verdict c.args.judging.templates c.args.judging.ais.now c.args.judging.voc.now (read_answer c.args.bytes.now) in
-    rw c.in-Json.is (judged_by c.args.judging.kind (JudgesLinks c.args.judging.templates c.args.judging.ais.now c.args.judging.voc.now c.args.bytes.now) verdict c.judge_json.result refl c.judge_json.ensures)
+    let verdict = links_verdict c.args.judging.templates c.args.judging.ais.now c.args.judging.voc.now (read_answer c.args.bytes) in
+    rw c.in-Json.is (judged_by c.args.judging.kind (JudgesLinks c.args.judging.templates c.args.judging.ais.now c.args.judging.voc.now c.args.bytes) verdict c.judge_json.result refl c.judge_json.ensures)
 
 pub returns-in-Text : goal.returns-in-Text
 returns-in-Text c = rw c.in-Text.is c.judge_text.ensures

@@ -20,7 +20,7 @@ returns-in-Ok-Some g c =
     loads_given (λ known. BytesGive known kind.Links name) (λ known. LinksGive known c.args.templates c.args.ais.now c.args.voc.now file) _ _ before now _ c.judge_file.result l
     (subst (λ (named : Option (List ℕ)). LoadedBy (Gives files kind.Links (JudgesFile c.args.templates c.args.ais.now c.args.voc.now file) IsNoLink named) before.errors now.errors c.judge_file.result) (sym n.is_named)
     (file_judged_by files kind.Links (JudgesFile c.args.templates c.args.ais.now c.args.voc.now file) n.file c.in-Ok-Some.bytes _ _ c.judge_file.result n.is_file n.few
-    (rw c.as_bytes.ensures at c.judge_file.ensures)))
+    c.judge_file.ensures))
 
 pub returns-in-Ok-None : goal.returns-in-Ok-None
 returns-in-Ok-None g c =

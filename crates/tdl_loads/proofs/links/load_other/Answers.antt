@@ -19,7 +19,7 @@ returns-in-Ok-Some g c =
     let n = bytes_named files c.args.kind name c.in-Ok-Some.bytes l.loaded in
     loads_given (λ known. BytesGive known c.args.kind name) (λ known. OtherGives known c.args.kind c.args.ais.now c.args.voc.now name) _ _ before now _ c.judge_other.result l
     (rw n.is_named (file_judged files c.args.kind (JudgesOther c.args.ais.now c.args.voc.now) n.file c.in-Ok-Some.bytes _ _
-    (other_verdict (links_verdict false c.args.ais.now c.args.voc.now (read_answer c.in-Ok-Some.bytes))) c.judge_other.result n.is_file n.few refl (rw c.as_bytes.ensures at c.judge_other.ensures)))
+    (other_verdict (links_verdict false c.args.ais.now c.args.voc.now (read_answer c.in-Ok-Some.bytes))) c.judge_other.result n.is_file n.few refl c.judge_other.ensures))
 
 pub returns-in-Ok-None : goal.returns-in-Ok-None
 returns-in-Ok-None g c =
