@@ -24,29 +24,27 @@ fn is_blank(c: u8) -> bool
 }
 
 /// Returns the text without the spaces and tabs at its start.
-fn without_front(text: &[u8]) -> &[u8]
+fn trim_start(mut text: &[u8]) -> &[u8]
     ensures { result.now ≡ skip_ows text.now }
 {
-    for i in 0..text.len() {
-        if !is_blank(text[i]) {
-            return &text[i..];
-        }
+    while let [first, rest @ ..] = text
+        && is_blank(*first)
+    {
+        text = rest;
     }
-    &[]
+    text
 }
 
 /// Returns the text without the spaces and tabs at its end.
-fn without_end(text: &[u8]) -> &[u8]
+fn trim_end(mut text: &[u8]) -> &[u8]
     ensures { result.now ≡ reverse (skip_ows (reverse text.now)) }
 {
-    let mut end = text.len();
-    while 0 < end {
-        if !is_blank(text[end - 1]) {
-            return &text[..end];
-        }
-        end -= 1;
+    while let [rest @ .., last] = text
+        && is_blank(*last)
+    {
+        text = rest;
     }
-    &[]
+    text
 }
 
 /// Returns the text without the spaces and tabs at both ends.
@@ -54,7 +52,7 @@ fn without_end(text: &[u8]) -> &[u8]
 pub(crate) fn trimmed(text: &[u8]) -> &[u8]
     ensures { result.now ≡ trim_ows text.now }
 {
-    without_end(without_front(text))
+    trim_end(trim_start(text))
 }
 
 /// Returns whether a part of a value is the word `close`.
