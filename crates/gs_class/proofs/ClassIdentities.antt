@@ -11,7 +11,7 @@ use Rattle.gs_ident.specs.Elements.{Elements}
 use Rattle.gs_ident.specs.Identities.{identity_of_pairs, stands_for_none}
 use Rattle.gs_ident.specs.QualifiedKeys.{IsQualifiedKey, pairs_in}
 use Rattle.gs_grammar.specs.Derivations.{EachWord}
-use Rattle.gs_tables_document.specs.declared.kind.SerialAt.TheVariants.{Ai}
+use Rattle.gs_tables_document.specs.declared.document.SerialAt.TheVariants.{Ai}
 use Rattle.gs_tables_document.specs.Items.{alone, present}
 use Rattle.gs_tables.specs.declared.form.Behind.TheVariants.{Nothing}
 use Rattle.gs_tables.specs.declared.form.KeyForm.TheVariants.{Digits}
@@ -27,7 +27,7 @@ use Rattle.gs_ident.proofs.KeyPairs.{found_place}
 use Rattle.gs_epc.proofs.LayoutLaws.{is_qualified, made_is}
 use Rattle.gs_epc.proofs.LayoutValues.{are_key_digits}
 use Rattle.gs_class.specs.declared.class.Class.{Class}
-use Rattle.gs_class.specs.declared.row.ClassRow.{ClassRow}
+use Rattle.gs_class.specs.declared.class.ClassRow.{ClassRow}
 use Rattle.gs_class.specs.Meanings.{class_identity, said_by}
 use Rattle.gs_class.specs.MeaningsSupport.{FitsClass, kind_of}
 use Rattle.gs_class.specs.Sets.{class_of}

@@ -18,7 +18,7 @@ use Rattle.gs_ai.proofs.Searches.{cons_none, position-cons}
 use Rattle.gs_grammar.specs.Items.{is_bad, size_of_all}
 use Rattle.gs_grammar.specs.Levels.{KeepBounds}
 use Rattle.gs_grammar.specs.Limits.{most_symbols}
-use Rattle.gs_tables_document.specs.declared.field.Field.TheVariants.{Gcp, Rest, Serial}
+use Rattle.gs_tables_document.specs.declared.document.Field.TheVariants.{Gcp, Rest, Serial}
 use Rattle.gs_tables_document.specs.Items.{FieldItem, alone, present}
 use Rattle.gs_tables.specs.declared.form.Behind.TheVariants.{Nothing}
 use Rattle.gs_tables.specs.declared.form.KeyForm.TheVariants.{Digits}
@@ -28,7 +28,7 @@ use Rattle.gs_tables.specs.Rules.{items_of_field, keeps_gcp, keeps_rest, keeps_s
 use Rattle.gs_tables.proofs.KeptRows.{gcp_kept}
 use Rattle.gs_class.specs.declared.error.ClassLoadFault.{ClassLoadFault}
 use Rattle.gs_class.specs.declared.error.ClassLoadFault.TheVariants.{Limit, BadItem, Size, Mismatch, Duplicate}
-use Rattle.gs_class.specs.declared.row.ClassRow.{ClassRow}
+use Rattle.gs_class.specs.declared.class.ClassRow.{ClassRow}
 use Rattle.gs_class.specs.Rules.{agrees, are_many, class_rejections, digits_alone, element_room, fits_key, fits_parts, is_bad_item, is_class, is_class_item, is_same_row, keeps_items, row_rejections}
 
 -- ---- parts of rejections

@@ -15,7 +15,7 @@ use Rattle.gs_json.specs.declared.error.JsonFault.TheVariants as json
 use Rattle.gs_class.specs.declared.class.Class.{Class}
 use Rattle.gs_class.specs.declared.error.ClassLoadFault.{ClassLoadFault}
 use Rattle.gs_class.specs.declared.error.ClassLoadFault.TheVariants.{Json, Version, Limit, BadItem, Size, Mismatch, Duplicate, Ambiguous, Memory}
-use Rattle.gs_class.specs.declared.row.ClassRow.{ClassRow}
+use Rattle.gs_class.specs.declared.class.ClassRow.{ClassRow}
 use Rattle.gs_class.specs.Answers.{IsJudged, Judged, LoadAnswer, OrMemory, ruled_bytes, ruled_document, ruled_rows}
 use Rattle.gs_class.specs.AnswersSupport.{IsFirst, IsFormFirst, IsLevelJudged, of_json}
 use Rattle.gs_class.specs.Documents.{form_errors, rows_of}

@@ -9,7 +9,7 @@ use Rattle.gs_ident.specs.Identities.{IsMadeWith}
 use Rattle.gs_ident.proofs.KeyPairs.{found_place}
 use Rattle.gs_ident.proofs.PairLemmas.{found_passes}
 use Rattle.gs_class.specs.declared.class.Class.{Class}
-use Rattle.gs_class.specs.declared.row.ClassRow.{ClassRow}
+use Rattle.gs_class.specs.declared.class.ClassRow.{ClassRow}
 use Rattle.gs_class.specs.Rules.{agrees, class_rejections, is_same_pair}
 use Rattle.gs_class.specs.Sets.{ClassRows, IsOfTable, option_of}
 use Rattle.gs_class.specs.Written.{has_key, is_named_by}

@@ -23,14 +23,14 @@ use Rattle.gs_grammar.specs.WrittenWords.{why_not, written}
 use Rattle.gs_grammar.proofs.HoldLemmas.{word_held}
 use Rattle.gs_grammar.proofs.WordLaws.{all_items, greatest_small}
 use Rattle.gs_prefix.specs.declared.entry.PrefixEntry.{PrefixEntry}
-use Rattle.gs_tables_document.specs.declared.field.Field.{Field}
-use Rattle.gs_tables_document.specs.declared.field.Field.TheVariants.{Serial}
+use Rattle.gs_tables_document.specs.declared.document.Field.{Field}
+use Rattle.gs_tables_document.specs.declared.document.Field.TheVariants.{Serial}
 use Rattle.gs_tables_document.specs.Items.{alone, present}
 use Rattle.gs_tables.specs.Rules.{is_field}
 use Rattle.gs_epc.specs.Epcs.{value_of}
 use Rattle.gs_epc.specs.Layout.{KeyFields}
 use Rattle.gs_class.specs.declared.class.Class.{Class}
-use Rattle.gs_class.specs.declared.row.ClassRow.{ClassRow}
+use Rattle.gs_class.specs.declared.class.ClassRow.{ClassRow}
 use Rattle.gs_class.specs.Meanings.{IsClass, class_identity, said_by}
 use Rattle.gs_class.specs.Rules.{agrees, class_rejections, is_same_pair, is_same_row}
 use Rattle.gs_class.specs.Sets.{ClassRows, IsOfTable}

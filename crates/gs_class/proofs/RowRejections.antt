@@ -9,7 +9,7 @@ use Rattle.gs_class.specs.declared.error.ClassLoadFault.{ClassLoadFault}
 use Rattle.gs_class.specs.AnswersSupport.{IsFirst}
 use Rattle.gs_ai.specs.declared.row.AiRow.{AiRow}
 use Rattle.gs_class.specs.declared.error.ClassLoadFault.TheVariants.{Limit}
-use Rattle.gs_class.specs.declared.row.ClassRow.{ClassRow}
+use Rattle.gs_class.specs.declared.class.ClassRow.{ClassRow}
 use Rattle.gs_class.specs.Rules.{are_many, class_rejections, row_rejections}
 use Rattle.gs_class.proofs.FirstErrors.{no_rejections, rejected_in_front}
 

@@ -11,7 +11,7 @@ use Rattle.gs_grammar.specs.declared.item.Item.{Item}
 use Rattle.gs_grammar.specs.Levels.{OptionForm, item_lists}
 use Rattle.gs_tables_document.specs.Items.{alone, present}
 use Rattle.gs_class.specs.declared.class.Class.{Class}
-use Rattle.gs_class.specs.declared.row.ClassRow.{ClassRow}
+use Rattle.gs_class.specs.declared.class.ClassRow.{ClassRow}
 use Rattle.gs_grammar.specs.Levels.{LevelForm}
 use Rattle.gs_class.specs.Rules.{class_rejections}
 use Rattle.gs_class.specs.Sets.{ClassRows, IsOfTable, class_of, option_of, set_of}

@@ -17,14 +17,14 @@ use Rattle.gs_grammar.specs.declared.item.Item.{Item}
 use Rattle.gs_grammar.specs.declared.item.Item.TheVariants.{Lit, Pad, Digits as DigitsItem, Int, Esc, NumPad, Num, NumStr, Ascii7, Fill}
 use Rattle.gs_grammar.specs.Items.{is_bad, is_in_bounds}
 use Rattle.gs_grammar.specs.WrittenWords.{AreHeld, IsFirstRejection, why_not, written}
-use Rattle.gs_tables_document.specs.declared.field.Field.{Field}
-use Rattle.gs_tables_document.specs.declared.field.Field.TheVariants.{Filter, Piece, Total, Gcp, Rest, Serial}
+use Rattle.gs_tables_document.specs.declared.document.Field.{Field}
+use Rattle.gs_tables_document.specs.declared.document.Field.TheVariants.{Filter, Piece, Total, Gcp, Rest, Serial}
 use Rattle.gs_tables_document.specs.Items.{FieldItem, alone, fields_of, present}
 use Rattle.gs_tables.specs.Rules.{has_room, is_digits, is_field, is_one, items_of_field, keeps_rest, keeps_serial}
 use Rattle.gs_epc.proofs.KeptFields.{the_one}
 use Rattle.gs_class.specs.declared.class.Class.{Class}
 use Rattle.gs_class.specs.declared.error.ClassWriteFault.TheVariants.{CannotHold}
-use Rattle.gs_class.specs.declared.row.ClassRow.{ClassRow}
+use Rattle.gs_class.specs.declared.class.ClassRow.{ClassRow}
 use Rattle.gs_class.specs.Rules.{is_bad_item, is_class_item}
 use Rattle.gs_class.specs.Sets.{class_of}
 use Rattle.gs_epc.specs.Layout.{KeyFields}

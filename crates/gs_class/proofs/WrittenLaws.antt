@@ -15,7 +15,7 @@ use Rattle.gs_ident.specs.Identities.{IsMadeWith, counted, elements_of, is_other
 use Rattle.gs_ident.proofs.CodeOrder.{own_ascending}
 use Rattle.gs_ident.proofs.IdentityLemmas.{made_facts}
 use Rattle.gs_ident.proofs.PairLemmas.{find_by_cases, found_passes}
-use Rattle.gs_tables_document.specs.declared.kind.SerialAt.TheVariants.{Ai}
+use Rattle.gs_tables_document.specs.declared.document.SerialAt.TheVariants.{Ai}
 use Rattle.gs_epc.specs.KeyParts.{IsOfKind, fields_at, serial_in}
 use Rattle.gs_epc.proofs.LaidSets.{no_pairs}
 use Rattle.std.proofs.lemmas.Bool.{leb-true}
@@ -31,8 +31,8 @@ use Rattle.gs_grammar.specs.WrittenWords.{AreHeld, written, written_words}
 use Rattle.gs_grammar.proofs.WordLaws.{all_items}
 use Rattle.gs_grammar.proofs.WritingLemmas.{written_derives}
 use Rattle.gs_prefix.specs.declared.entry.PrefixEntry.{PrefixEntry}
-use Rattle.gs_tables_document.specs.declared.field.Field.{Field}
-use Rattle.gs_tables_document.specs.declared.field.Field.TheVariants.{Gcp, Rest, Serial}
+use Rattle.gs_tables_document.specs.declared.document.Field.{Field}
+use Rattle.gs_tables_document.specs.declared.document.Field.TheVariants.{Gcp, Rest, Serial}
 use Rattle.gs_tables_document.specs.Items.{alone, fields_of, present}
 use Rattle.gs_tables.specs.KeptRules.{KeptKind}
 use Rattle.gs_tables.specs.Rules.{has_room, is_digits, is_one, items_of_field, keeps_rest, keeps_serial}
@@ -44,7 +44,7 @@ use Rattle.gs_epc.proofs.ReadBack.{none_stands, one_stands, value_where}
 use Rattle.gs_class.specs.declared.class.Class.{Class}
 use Rattle.gs_class.specs.declared.error.ClassWriteFault.{ClassWriteFault}
 use Rattle.gs_class.specs.declared.error.ClassWriteFault.TheVariants.{NoClass, MissingElement, Extra, MissingGcp, NoOption, CannotHold}
-use Rattle.gs_class.specs.declared.row.ClassRow.{ClassRow}
+use Rattle.gs_class.specs.declared.class.ClassRow.{ClassRow}
 use Rattle.gs_class.specs.Meanings.{IsClass, class_identity, said_by}
 use Rattle.gs_class.specs.MeaningsSupport.{FitsClass, kind_of}
 use Rattle.gs_class.specs.Sets.{ClassRows, IsOfTable, class_of}

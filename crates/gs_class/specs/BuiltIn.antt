@@ -1,9 +1,9 @@
 -- The built-in classes: a lot of a trade item, TDS 2.0, 'EPC Class URIs' (`urn:epc:class:lgtin`).
 use Rattle.std.specs.Prelude.{ℕ, ◌-◌, List, [], ◌∷◌, map, codes, Option, Some, None}
 use Rattle.gs_grammar.specs.declared.item.Item.TheVariants.{Lit, Pad, Esc}
-use Rattle.gs_tables_document.specs.declared.field.Field.TheVariants.{Gcp, Rest, Serial}
+use Rattle.gs_tables_document.specs.declared.document.Field.TheVariants.{Gcp, Rest, Serial}
 use Rattle.gs_tables_document.specs.Items.{FieldItem}
-use Rattle.gs_class.specs.declared.row.ClassRow.{ClassRow}
+use Rattle.gs_class.specs.declared.class.ClassRow.{ClassRow}
 
 -- trusted, TDS 2.0, 'EPC Class URIs': a company prefix of n digits, the indicator digit with the item reference, and the lot
 abbrev pub lgtin_items : ℕ → List (Option FieldItem)

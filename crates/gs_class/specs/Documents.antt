@@ -10,7 +10,7 @@ use Rattle.gs_json.specs.declared.error.JsonFault.{JsonFault}
 use Rattle.gs_json.specs.declared.plan.Entry.{Entry}
 use Rattle.gs_json.specs.declared.plan.Sort.TheVariants.{Text, Number, Array, Arrays}
 use Rattle.gs_tables_document.specs.Items.{item_of}
-use Rattle.gs_class.specs.declared.row.ClassRow.{ClassRow}
+use Rattle.gs_class.specs.declared.class.ClassRow.{ClassRow}
 
 -- trusted, own: the members of the document
 abbrev pub document_plan : List Entry

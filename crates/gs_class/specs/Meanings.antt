@@ -4,7 +4,7 @@ use Rattle.std.specs.Prelude.{◌≡◌, ℕ, List, [], ◌∷◌, Some, slice_g
 use Rattle.gs_ident.specs.Elements.{Elements}
 use Rattle.gs_grammar.specs.Derivations.{Derivation}
 use Rattle.gs_grammar.specs.Levels.{item_lists}
-use Rattle.gs_tables_document.specs.declared.field.Field.TheVariants.{Gcp, Rest, Serial}
+use Rattle.gs_tables_document.specs.declared.document.Field.TheVariants.{Gcp, Rest, Serial}
 use Rattle.gs_epc.specs.Epcs.{value_of}
 use Rattle.gs_epc.specs.Layout.{KeyFields, key_digits, with_check}
 use Rattle.gs_class.specs.declared.class.Class.{Class}

@@ -3,8 +3,8 @@ use Rattle.std.specs.Prelude.{◌≡◌, ℕ, false, List, [], ◌∷◌}
 use Rattle.gs_ai.specs.declared.part.Part.TheVariants.{NumCheck}
 use Rattle.gs_ai.specs.declared.row.AiRow.{AiRow}
 use Rattle.gs_ident.specs.Identities.{stands_for_none}
-use Rattle.gs_tables_document.specs.declared.kind.Kind.{Kind}
-use Rattle.gs_tables_document.specs.declared.kind.SerialAt.TheVariants.{Ai}
+use Rattle.gs_tables_document.specs.declared.document.Kind.{Kind}
+use Rattle.gs_tables_document.specs.declared.document.SerialAt.TheVariants.{Ai}
 use Rattle.gs_epc.specs.KeptFields.{FitKind}
 use Rattle.gs_epc.specs.Layout.{KeyFields}
 use Rattle.gs_class.specs.declared.class.Class.{Class}

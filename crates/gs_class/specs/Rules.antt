@@ -13,7 +13,7 @@ use Rattle.gs_ai.specs.Values.{has_code}
 use Rattle.gs_grammar.specs.declared.item.Item.TheVariants.{Lit}
 use Rattle.gs_grammar.specs.Items.{is_bad, size_of_all}
 use Rattle.gs_grammar.specs.Limits.{most_symbols}
-use Rattle.gs_tables_document.specs.declared.field.Field.TheVariants.{Gcp, Rest, Serial}
+use Rattle.gs_tables_document.specs.declared.document.Field.TheVariants.{Gcp, Rest, Serial}
 use Rattle.gs_tables_document.specs.Items.{FieldItem, alone, present}
 use Rattle.gs_tables_document.specs.Limits.{most_items}
 use Rattle.gs_tables.specs.declared.form.Behind.TheVariants.{Nothing}
@@ -23,7 +23,7 @@ use Rattle.gs_tables.specs.Forms.{characters_of}
 use Rattle.gs_tables.specs.Rules.{items_of_field, keeps_gcp, keeps_rest, keeps_serial}
 use Rattle.gs_class.specs.declared.error.ClassLoadFault.{ClassLoadFault}
 use Rattle.gs_class.specs.declared.error.ClassLoadFault.TheVariants.{Limit, BadItem, Size, Mismatch, Duplicate}
-use Rattle.gs_class.specs.declared.row.ClassRow.{ClassRow}
+use Rattle.gs_class.specs.declared.class.ClassRow.{ClassRow}
 
 -- trusted, own: the most classes of a set
 abbrev pub most_classes : ℕ

@@ -5,7 +5,7 @@ use Rattle.gs_grammar.specs.Ambiguity.{IsUnambiguous}
 use Rattle.gs_grammar.specs.Levels.{LevelForm, OptionForm, item_lists}
 use Rattle.gs_tables_document.specs.Items.{alone, fields_of, present}
 use Rattle.gs_class.specs.declared.class.Class.{Class}
-use Rattle.gs_class.specs.declared.row.ClassRow.{ClassRow}
+use Rattle.gs_class.specs.declared.class.ClassRow.{ClassRow}
 use Rattle.gs_class.specs.Rules.{class_rejections}
 
 -- trusted, own: a set of classes: the level of their texts, and the facts of each of its options

@@ -13,8 +13,8 @@ use Rattle.gs_grammar.specs.Levels.{item_lists}
 use Rattle.gs_grammar.specs.WrittenWords.{why_not, written}
 use Rattle.gs_prefix.specs.declared.entry.PrefixEntry.{PrefixEntry}
 use Rattle.gs_prefix.specs.Lengths.{prefix_length}
-use Rattle.gs_tables_document.specs.declared.field.Field.{Field}
-use Rattle.gs_tables_document.specs.declared.field.Field.TheVariants.{Gcp, Rest, Serial}
+use Rattle.gs_tables_document.specs.declared.document.Field.{Field}
+use Rattle.gs_tables_document.specs.declared.document.Field.TheVariants.{Gcp, Rest, Serial}
 use Rattle.gs_tables.specs.Rules.{is_field}
 use Rattle.gs_epc.specs.Layout.{KeyFields}
 use Rattle.gs_class.specs.declared.class.Class.{Class}

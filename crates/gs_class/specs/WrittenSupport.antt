@@ -4,8 +4,8 @@ use Rattle.gs_ident.specs.Elements.{Elements}
 use Rattle.gs_grammar.specs.declared.item.Item.{Item}
 use Rattle.gs_grammar.specs.Levels.{OptionForm}
 use Rattle.gs_grammar.specs.WrittenWords.{why_not}
-use Rattle.gs_tables_document.specs.declared.field.Field.{Field}
-use Rattle.gs_tables_document.specs.declared.field.Field.TheVariants.{Serial}
+use Rattle.gs_tables_document.specs.declared.document.Field.{Field}
+use Rattle.gs_tables_document.specs.declared.document.Field.TheVariants.{Serial}
 use Rattle.gs_tables.specs.Rules.{is_field}
 use Rattle.gs_epc.specs.Layout.{KeyFields}
 use Rattle.gs_class.specs.declared.class.Class.{Class}

@@ -6,8 +6,8 @@ ghost use Rattle.gs_json.specs.Members.{number_in};
 ghost use Rattle.gs_class.specs.AnswersSupport.{IsFirst};
 ghost use Rattle.gs_class.specs.Rules.{are_many, class_rejections, has_long, is_same_row, row_rejections};
 
+use crate::class::ClassRow;
 use crate::error::ClassLoadFault;
-use crate::row::ClassRow;
 use crate::row_rules::{first_bad, first_same, is_class};
 use gs_ai::AiTable;
 use gs_json::{Node, number_in};

@@ -23,17 +23,13 @@
 //! - Limits: 256 classes, 24 items and 512 symbols of one.
 #![tactic(auto)]
 
-mod builtin;
 mod checks;
 mod class;
 mod class_set;
 mod error;
 mod form;
 mod laws;
-mod making;
 mod reader;
-mod reading;
-mod row;
 mod row_rules;
 mod writer;
 

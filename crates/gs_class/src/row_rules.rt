@@ -2,7 +2,7 @@ ghost use Rattle.std.specs.Prelude.{◌≡◌, position};
 ghost use Rattle.std.specs.List.{list_all};
 ghost use Rattle.gs_class.specs.Rules.{agrees, digits_alone, element_room, fits_key, fits_parts, is_bad_item, is_class, is_class_item, is_same_pair, is_same_row, keeps_items};
 
-use crate::row::ClassRow;
+use crate::class::ClassRow;
 use gs_ai::{AiRow, AiTable, Part};
 use gs_chars::are_visible;
 use gs_grammar::Item;

@@ -9,7 +9,7 @@ use Rattle.gs_grammar.specs.Derivations.{EachWord, one_item}
 use Rattle.gs_grammar.specs.Items.{IsItem, is_bad}
 use Rattle.gs_grammar.specs.Words.{Word}
 use Rattle.gs_grammar.proofs.WordLaws.{all_items}
-use Rattle.gs_tables_document.specs.declared.field.Field.{Field}
+use Rattle.gs_tables_document.specs.declared.document.Field.{Field}
 use Rattle.gs_tables_document.specs.Items.{FieldItem, alone, fields_of}
 use Rattle.gs_tables.specs.Rules.{has_room, is_digits, is_field, is_number, is_one, items_of_field}
 use Rattle.gs_epc.specs.Epcs.{value_at, value_of}

@@ -2,10 +2,10 @@
 use Rattle.std.proofs.Common.{◌≡◌, ℕ, List, length, Some, slice_get, get_or, ◌<◌, sym, subst, ◌∙◌}
 use Rattle.std.proofs.lemmas.Option.{slice_get_within}
 use Rattle.gs_chars.proofs.TruthsAndLists.{read_at}
-use Rattle.gs_tables_document.specs.declared.field.Field.TheVariants.{Gcp, Rest, Piece, Total, Serial}
-use Rattle.gs_tables_document.specs.declared.kind.Kind.{Kind}
-use Rattle.gs_tables_document.specs.declared.level_name.LevelName.{LevelName}
-use Rattle.gs_tables_document.specs.declared.opt_info.OptInfo.{OptInfo}
+use Rattle.gs_tables_document.specs.declared.document.Field.TheVariants.{Gcp, Rest, Piece, Total, Serial}
+use Rattle.gs_tables_document.specs.declared.document.Kind.{Kind}
+use Rattle.gs_tables_document.specs.declared.document.LevelName.{LevelName}
+use Rattle.gs_tables_document.specs.declared.document.OptInfo.{OptInfo}
 use Rattle.gs_tables_document.specs.Documents.{is_bits}
 use Rattle.gs_tables_document.specs.Items.{fields_of}
 use Rattle.gs_grammar.specs.declared.item.Item.{Item}

@@ -16,7 +16,7 @@ use Rattle.gs_ai.specs.Parts.{greatest_length, is_of_part, is_part, least_length
 use Rattle.gs_ai.specs.Values.{greatest_of, has_length_of, is_checked, keeps_check, keeps_date, least_of, parts_error, pieces, wrong_character}
 use Rattle.gs_ai.proofs.PartLemmas.{wrong-cons}
 use Rattle.gs_ai.proofs.Searches.{cons_none, equal_bytes}
-use Rattle.gs_tables_document.specs.declared.kind.Kind.{Kind}
+use Rattle.gs_tables_document.specs.declared.document.Kind.{Kind}
 use Rattle.gs_tables.specs.declared.form.Behind.{Behind}
 use Rattle.gs_tables.specs.declared.form.Behind.TheVariants.{Nothing, Further, Tail as BehindTail}
 use Rattle.gs_tables.specs.declared.form.KeyForm.{KeyForm}

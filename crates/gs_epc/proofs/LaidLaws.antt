@@ -15,10 +15,10 @@ use Rattle.gs_ident.specs.Identities.{IsInOrder, IsMadeWith, counted, elements_o
 use Rattle.gs_ident.proofs.IdentityLemmas.{made_facts}
 use Rattle.gs_tables_document.specs.declared.document.Document.{Document}
 use Rattle.gs_tables_document.specs.declared.error.LoadFault.TheVariants.{Ai as AiFault}
-use Rattle.gs_tables_document.specs.declared.kind.Kind.{Kind}
-use Rattle.gs_tables_document.specs.declared.kind.SerialAt.{SerialAt}
-use Rattle.gs_tables_document.specs.declared.kind.SerialAt.TheVariants.{Nowhere, Tail, Ai}
-use Rattle.gs_tables_document.specs.declared.level_name.LevelName.TheVariants.{Binary, Tag, Pure}
+use Rattle.gs_tables_document.specs.declared.document.Kind.{Kind}
+use Rattle.gs_tables_document.specs.declared.document.SerialAt.{SerialAt}
+use Rattle.gs_tables_document.specs.declared.document.SerialAt.TheVariants.{Nowhere, Tail, Ai}
+use Rattle.gs_tables_document.specs.declared.document.LevelName.TheVariants.{Binary, Tag, Pure}
 use Rattle.gs_tables.specs.KeptRules.{KeptKind}
 use Rattle.gs_tables.specs.Tables.{IsShaped, TableRows, kind_of, kinds_rejections, level_rejections, limit_rejections, row_rejections}
 use Rattle.gs_tables.proofs.KeptRows.{kind_at}

@@ -13,8 +13,8 @@ use Rattle.gs_ai.proofs.Searches.{equal_bytes, same_bytes}
 use Rattle.gs_ident.specs.Elements.{Elements}
 use Rattle.gs_ident.specs.Identities.{counted, pair_with, stands_for_none}
 use Rattle.gs_ident.proofs.PairLemmas.{find_by_cases, found_passes}
-use Rattle.gs_tables_document.specs.declared.kind.SerialAt.{SerialAt}
-use Rattle.gs_tables_document.specs.declared.kind.SerialAt.TheVariants.{Nowhere, Tail, Ai}
+use Rattle.gs_tables_document.specs.declared.document.SerialAt.{SerialAt}
+use Rattle.gs_tables_document.specs.declared.document.SerialAt.TheVariants.{Nowhere, Tail, Ai}
 use Rattle.gs_tables.specs.declared.form.KeyForm.{KeyForm}
 use Rattle.gs_tables.specs.declared.form.Room.{Room}
 use Rattle.gs_tables.specs.Forms.{tail_of}

@@ -12,9 +12,9 @@ use Rattle.gs_ident.specs.Elements.{Elements}
 use Rattle.gs_ident.specs.Identities.{IsInOrder, counted, identity_of_pairs, stands_for_none}
 use Rattle.gs_ident.specs.QualifiedKeys.{IsQualifiedKey, pairs_in}
 use Rattle.gs_tables.specs.declared.form.KeyForm.{KeyForm}
-use Rattle.gs_tables_document.specs.declared.kind.Kind.{Kind}
-use Rattle.gs_tables_document.specs.declared.kind.SerialAt.{SerialAt}
-use Rattle.gs_tables_document.specs.declared.kind.SerialAt.TheVariants.{Nowhere, Tail, Ai}
+use Rattle.gs_tables_document.specs.declared.document.Kind.{Kind}
+use Rattle.gs_tables_document.specs.declared.document.SerialAt.{SerialAt}
+use Rattle.gs_tables_document.specs.declared.document.SerialAt.TheVariants.{Nowhere, Tail, Ai}
 use Rattle.gs_tables.specs.Forms.{tail_of}
 use Rattle.gs_tables.specs.Rules.{is_characters, is_serial_of}
 use Rattle.gs_epc.specs.KeptFields.{FitKind}

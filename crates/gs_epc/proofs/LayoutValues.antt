@@ -26,9 +26,9 @@ use Rattle.gs_tables.specs.declared.form.KeyForm.{KeyForm}
 use Rattle.gs_tables.specs.declared.form.KeyForm.TheVariants.{Digits, Characters}
 use Rattle.gs_tables.specs.declared.form.Room.{Room}
 use Rattle.gs_tables.specs.declared.form.Room.TheVariants as in_room
-use Rattle.gs_tables_document.specs.declared.kind.Kind.{Kind}
-use Rattle.gs_tables_document.specs.declared.kind.SerialAt.{SerialAt}
-use Rattle.gs_tables_document.specs.declared.kind.SerialAt.TheVariants.{Nowhere, Tail, Ai}
+use Rattle.gs_tables_document.specs.declared.document.Kind.{Kind}
+use Rattle.gs_tables_document.specs.declared.document.SerialAt.{SerialAt}
+use Rattle.gs_tables_document.specs.declared.document.SerialAt.TheVariants.{Nowhere, Tail, Ai}
 use Rattle.gs_tables.specs.Forms.{characters_of, digits_form, further_of, key_form, serial_room, tail_of}
 use Rattle.gs_tables.specs.Rules.{is_characters, is_serial_of}
 use Rattle.gs_epc.specs.KeptFields.{AreCharacters, FitForm, FitKind, FitsFurther, FitsRoom}

@@ -3,8 +3,8 @@ use Rattle.std.proofs.Common.{◌≡◌, ℕ, ◌%◌, List, length, Ok, sym, �
 use Rattle.std.proofs.lemmas.List.{length-map}
 use Rattle.gs_bits.specs.HexText.{bits_of_hex, hex_of_bits}
 use Rattle.gs_tables_document.specs.Documents.{is_bits}
-use Rattle.gs_tables_document.specs.declared.level_name.LevelName.{LevelName}
-use Rattle.gs_tables_document.specs.declared.level_name.LevelName.TheVariants.{Binary, Tag, Pure}
+use Rattle.gs_tables_document.specs.declared.document.LevelName.{LevelName}
+use Rattle.gs_tables_document.specs.declared.document.LevelName.TheVariants.{Binary, Tag, Pure}
 use Rattle.gs_grammar.specs.Items.{size_of_all}
 use Rattle.gs_grammar.specs.WrittenWords.{written}
 use Rattle.gs_grammar.proofs.WordLaws.{all_items}

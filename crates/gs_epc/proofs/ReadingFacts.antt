@@ -11,10 +11,10 @@ use Rattle.gs_bits.specs.declared.errors.HexFault.TheVariants.{OddDigits, Full}
 use Rattle.gs_grammar.specs.declared.item.Item.{Item}
 use Rattle.gs_grammar.specs.Derivations.{EachWord, OneDerivation}
 use Rattle.gs_grammar.specs.Levels.{OptionForm}
-use Rattle.gs_tables_document.specs.declared.field.Field.TheVariants.{Filter}
-use Rattle.gs_tables_document.specs.declared.level_name.LevelName.{LevelName}
-use Rattle.gs_tables_document.specs.declared.level_name.LevelName.TheVariants.{Binary}
-use Rattle.gs_tables_document.specs.declared.opt_info.OptInfo.{OptInfo}
+use Rattle.gs_tables_document.specs.declared.document.Field.TheVariants.{Filter}
+use Rattle.gs_tables_document.specs.declared.document.LevelName.{LevelName}
+use Rattle.gs_tables_document.specs.declared.document.LevelName.TheVariants.{Binary}
+use Rattle.gs_tables_document.specs.declared.document.OptInfo.{OptInfo}
 use Rattle.gs_tables.specs.Tables.{IsShaped, TableRows, level_rows}
 use Rattle.gs_tables.proofs.KeptSets.{as_many_said, options_kept}
 use Rattle.gs_epc.specs.declared.epc.Epc.{Epc}

@@ -11,9 +11,9 @@ use Rattle.gs_ai.specs.Values.{has_code}
 use Rattle.gs_ai.proofs.Searches.{equal_bytes, same_bytes}
 use Rattle.gs_chars.proofs.TruthsAndLists.{and_parts, true_or_false}
 use Rattle.gs_chars.specs.CheckDigits.{check_digit_of}
-use Rattle.gs_tables_document.specs.declared.kind.Kind.{Kind}
-use Rattle.gs_tables_document.specs.declared.kind.SerialAt.{SerialAt}
-use Rattle.gs_tables_document.specs.declared.kind.SerialAt.TheVariants.{Nowhere, Tail, Ai}
+use Rattle.gs_tables_document.specs.declared.document.Kind.{Kind}
+use Rattle.gs_tables_document.specs.declared.document.SerialAt.{SerialAt}
+use Rattle.gs_tables_document.specs.declared.document.SerialAt.TheVariants.{Nowhere, Tail, Ai}
 use Rattle.gs_ident.specs.Identities.{stands_for_none}
 use Rattle.gs_tables.specs.declared.form.Behind.{Behind}
 use Rattle.gs_tables.specs.declared.form.Behind.TheVariants.{Nothing, Further, Tail as BehindTail}

@@ -1,7 +1,7 @@
 -- Taking apart undoes laying out, for an EPC of the set.
 use Rattle.std.proofs.Common.{◌≡◌, [], length, Some, None, refl, sym, ◌∙◌}
 use Rattle.gs_chars.proofs.TruthsAndLists.{and_parts}
-use Rattle.gs_tables_document.specs.declared.field.Field.TheVariants.{Gcp}
+use Rattle.gs_tables_document.specs.declared.document.Field.TheVariants.{Gcp}
 use Rattle.gs_tables_document.specs.Documents.{is_bits}
 use Rattle.gs_ident.specs.Elements.{Elements}
 use Rattle.gs_tables.specs.Rules.{is_digits, is_gcp, is_one, items_of_field, keeps_gcp}

@@ -1,7 +1,7 @@
 -- The fields of the key that the items of an option have.
 use Rattle.std.specs.Prelude.{ℕ, List, Option, Some, None}
-use Rattle.gs_tables_document.specs.declared.field.Field.{Field}
-use Rattle.gs_tables_document.specs.declared.field.Field.TheVariants.{Filter, Gcp, Rest, Piece, Total, Serial}
+use Rattle.gs_tables_document.specs.declared.document.Field.{Field}
+use Rattle.gs_tables_document.specs.declared.document.Field.TheVariants.{Filter, Gcp, Rest, Piece, Total, Serial}
 use Rattle.gs_epc.specs.Epcs.{value_of}
 use Rattle.gs_epc.specs.Layout.{KeyFields}
 

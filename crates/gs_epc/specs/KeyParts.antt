@@ -8,13 +8,13 @@ use Rattle.gs_ai.specs.declared.row.AiRow.{AiRow}
 use Rattle.gs_ai.specs.Values.{has_code}
 use Rattle.gs_ident.specs.Elements.{Elements}
 use Rattle.gs_ident.specs.Identities.{pair_with}
-use Rattle.gs_tables_document.specs.declared.kind.Kind.{Kind}
-use Rattle.gs_tables_document.specs.declared.kind.SerialAt.{SerialAt}
-use Rattle.gs_tables_document.specs.declared.kind.SerialAt.TheVariants.{Nowhere, Tail, Ai}
+use Rattle.gs_tables_document.specs.declared.document.Kind.{Kind}
+use Rattle.gs_tables_document.specs.declared.document.SerialAt.{SerialAt}
+use Rattle.gs_tables_document.specs.declared.document.SerialAt.TheVariants.{Nowhere, Tail, Ai}
 use Rattle.gs_tables.specs.Tables.{TableRows}
 use Rattle.gs_epc.specs.declared.epc.Epc.{Epc}
-use Rattle.gs_epc.specs.declared.write_error.FieldsFault.{FieldsFault}
-use Rattle.gs_epc.specs.declared.write_error.FieldsFault.TheVariants.{MissingSerial, Memory}
+use Rattle.gs_epc.specs.declared.error.FieldsFault.{FieldsFault}
+use Rattle.gs_epc.specs.declared.error.FieldsFault.TheVariants.{MissingSerial, Memory}
 use Rattle.gs_epc.specs.Layout.{KeyFields, parts_at}
 
 -- ---- the parts of a key's value

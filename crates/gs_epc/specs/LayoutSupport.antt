@@ -1,8 +1,8 @@
 -- Definitions for proofs and private functions, in addition to Layout.antt.
 use Rattle.std.specs.Prelude.{ℕ, List, [], ◌∷◌}
 use Rattle.gs_ai.specs.declared.pair.Pair.{Pair}
-use Rattle.gs_tables_document.specs.declared.kind.SerialAt.{SerialAt}
-use Rattle.gs_tables_document.specs.declared.kind.SerialAt.TheVariants.{Nowhere, Tail, Ai}
+use Rattle.gs_tables_document.specs.declared.document.SerialAt.{SerialAt}
+use Rattle.gs_tables_document.specs.declared.document.SerialAt.TheVariants.{Nowhere, Tail, Ai}
 
 -- the pair of a serial in a separate element
 abbrev pub serial_pairs : SerialAt → List ℕ → List Pair

@@ -2,7 +2,7 @@
 use Rattle.std.specs.Prelude.{ℕ, List, Result}
 use Rattle.gs_grammar_level.specs.Readings.{Reads}
 use Rattle.gs_grammar_level.specs.declared.read.Reading.{Reading}
-use Rattle.gs_tables_document.specs.declared.level_name.LevelName.{LevelName}
+use Rattle.gs_tables_document.specs.declared.document.LevelName.{LevelName}
 use Rattle.gs_tables.specs.Tables.{TableRows}
 use Rattle.gs_epc.specs.declared.epc.Epc.{Epc}
 use Rattle.gs_epc.specs.declared.error.EpcFault.{EpcFault}

@@ -4,7 +4,7 @@ ghost use Rattle.std.specs.Option.{option_map_or};
 ghost use Rattle.gs_tables.specs.Rules.{is_field};
 ghost use Rattle.gs_epc.specs.Candidates.{HasFilter, HasFilterOn, filter_text, is_asked, is_left_out, left_out, value_for};
 
-use crate::epc_ref::EpcRef;
+use crate::epc::EpcRef;
 use crate::layout::push_few;
 use gs_chars::{Memory, Text};
 use gs_tables::{Field, LevelName};

@@ -1,12 +1,12 @@
 ghost use Rattle.std.specs.Prelude.{◌≡◌, IfSome, position};
 ghost use Rattle.gs_grammar.specs.Words.{decimal_value};
-ghost use Rattle.gs_tables_document.specs.declared.field.Field.{Field};
+ghost use Rattle.gs_tables_document.specs.declared.document.Field.{Field};
 ghost use Rattle.gs_tables.specs.Rules.{is_field};
 ghost use Rattle.gs_epc.specs.Epcs.{filter_of, value_at};
 ghost use Rattle.gs_epc.specs.FieldTexts.{texts_of, with_text};
 ghost use Rattle.gs_epc.specs.Filters.{IsFilter};
 
-use crate::key_texts::KeyTexts;
+use crate::epc::KeyTexts;
 use gs_chars::Text;
 use gs_tables::Field;
 

@@ -4,9 +4,8 @@ ghost use Rattle.gs_ident.specs.Identities.{pair_with};
 ghost use Rattle.gs_epc.specs.Layout.{parts_at};
 ghost use Rattle.gs_epc.specs.KeyParts.{IsTakenApart, behind_zero, checked_count, digits_in, none_text, piece_in, piece_length, prefix_in, rest_in, serial_in, tail_in, total_in, total_length, unless_empty, value_from_prefix};
 
-use crate::epc::Epc;
-use crate::epc_ref::EpcRef;
-use crate::write_error::FieldsFault;
+use crate::epc::{Epc, EpcRef};
+use crate::error::FieldsFault;
 use gs_ai::{AiTable, Pair, Part};
 use gs_chars::{Memory, Text};
 use gs_ident::Identity;

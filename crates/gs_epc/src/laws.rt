@@ -1,8 +1,8 @@
 ghost use Rattle.std.specs.Prelude.{◌≡◌, [], List, None, Ok, Some, slice_get, ℕ};
 ghost use Rattle.gs_ident.specs.Elements.{Elements};
 ghost use Rattle.gs_ident.specs.Identities.{IsMadeWith};
-ghost use Rattle.gs_tables_document.specs.declared.kind.Kind.{Kind};
-ghost use Rattle.gs_tables_document.specs.declared.level_name.LevelName.{LevelName};
+ghost use Rattle.gs_tables_document.specs.declared.document.Kind.{Kind};
+ghost use Rattle.gs_tables_document.specs.declared.document.LevelName.{LevelName};
 ghost use Rattle.gs_tables.specs.Judgements.{IsLoaded};
 ghost use Rattle.gs_tables.specs.Tables.{IsShaped, TableRows};
 ghost use Rattle.gs_epc.specs.declared.epc.Epc.{Epc};

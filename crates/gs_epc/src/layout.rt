@@ -1,15 +1,15 @@
-ghost use Rattle.std.specs.Prelude.{◌≡◌, ◌≤◌, ◌++◌, IfOk, length};
+ghost use Rattle.std.specs.Prelude.{◌≡◌, ◌≤◌, ◌++◌, IfOk, length, Some, slice_get};
 ghost use Rattle.gs_ident.specs.Identities.{IsMadeWith};
 ghost use Rattle.gs_ident.specs.QualifiedKeys.{pairs_in};
 ghost use Rattle.gs_epc.specs.Epcs.{IsOfSet};
 ghost use Rattle.gs_epc.specs.KeptFields.{FitKind};
-ghost use Rattle.gs_epc.specs.Layout.{AreKeyDigits, IsLaidOut, behind_check, key_digits, key_value, lay, parts_at, tail_of_key, with_check, zero_in_front};
+ghost use Rattle.gs_epc.specs.Layout.{AreKeyDigits, IsLaidOut, behind_check, key_digits, key_value, lay, parts_at};
+ghost use Rattle.gs_epc.specs.Layout.{tail_of_key, with_check, zero_in_front, fields_in};
 ghost use Rattle.gs_epc.specs.LayoutSupport.{serial_pairs};
+ghost use Rattle.gs_epc.specs.declared.epc.Epc.{Epc};
 
-use crate::epc::Epc;
-use crate::kept::kind_of;
+use crate::epc::{Epc, KeyTexts, texts_in};
 use crate::key_parts::joined;
-use crate::key_texts::{KeyTexts, texts_in};
 use gs_ai::{AiTable, Pair, Part};
 use gs_chars::{Memory, Text, check_digit};
 use gs_ident::Identity;
@@ -168,4 +168,23 @@ pub fn identity_of(alloc: Global, set: &TableSet, epc: &Epc) -> Result<Identity,
     ensures with_table { IfOk result (IsMadeWith set.now.ais) }
 {
     lay_out(alloc, set.ais(), kind_of(set, epc), &texts_in(epc))
+}
+
+/// Returns the kind of an EPC of the set. The EPC's fields fit it.
+pub(crate) fn kind_of<'a>(set: &'a TableSet, epc: &Epc) -> &'a Kind
+    requires { IsOfSet set.now epc.now }
+    ensures named { slice_get set.now.kinds epc.now.kind ≡ Some result.now }
+    ensures fit { FitKind set.now.ais result.now (fields_in epc.now) }
+{
+    &set.kinds()[epc.kind]
+}
+
+/// Returns the kind with this index, which is that of an EPC of the set. The EPC's fields fit it.
+pub(crate) fn kind_at(set: &TableSet, index: usize) -> &Kind
+    requires { (epc : Epc) × IsOfSet set.now epc × (epc.kind ≡ index) }
+    ensures named { slice_get set.now.kinds index ≡ Some result.now }
+    ensures fit { (epc : Epc) → IsOfSet set.now epc → epc.kind ≡ index
+        → FitKind set.now.ais result.now (fields_in epc) }
+{
+    &set.kinds()[index]
 }

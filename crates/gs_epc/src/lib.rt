@@ -26,22 +26,16 @@
 
 mod candidates;
 mod epc;
-mod epc_ref;
 mod error;
 mod fields;
-mod kept;
 mod key_parts;
-mod key_texts;
 mod laws;
 mod layout;
-mod read;
 mod reading;
-mod write_error;
 mod writer;
 
-pub use epc::Epc;
-pub use epc_ref::EpcRef;
-pub use error::EpcFault;
+pub use epc::{Epc, EpcRef};
+pub use error::{EpcFault, EpcWriteFault, FieldsFault};
 pub use fields::place_of;
 pub use key_parts::{
     fields_of, joined, lent_fields_of, pair_with, parts_at, prefix_in, rest_in, skip_first,
@@ -51,7 +45,5 @@ pub use laws::{
     laying_out_undoes_taking_apart, taking_apart_undoes_laying_out, what_is_written_is_read,
 };
 pub use layout::{identity_of, push_checked};
-pub use read::{read_hex, read_pure, read_tag};
-pub use reading::{EpcReading, reading_of};
-pub use write_error::{EpcWriteFault, FieldsFault};
+pub use reading::{EpcReading, read_hex, read_pure, read_tag, reading_of};
 pub use writer::{write_hex, write_lent, write_level, write_pure, write_tag};

@@ -1,7 +1,7 @@
 ghost use Rattle.std.specs.Prelude.{◌≡◌, IfOk, IfSome, List, ℕ};
 ghost use Rattle.gs_grammar_level.specs.Readings.{Reads};
 ghost use Rattle.gs_ident.specs.Identities.{IsMadeWith};
-ghost use Rattle.gs_tables_document.specs.declared.field.Field.{Field};
+ghost use Rattle.gs_tables_document.specs.declared.document.Field.{Field};
 ghost use Rattle.gs_epc.specs.Epcs.{IsOfSet, epc_of, options_of, value_at};
 ghost use Rattle.gs_epc.specs.Filters.{IsFilter};
 ghost use Rattle.gs_epc.specs.Layout.{IsLaidOut, fields_in};
@@ -9,12 +9,11 @@ ghost use Rattle.gs_epc.specs.Readings.{ReadsAs, ReadsHex};
 ghost use Rattle.gs_epc.specs.ReadingsSupport.{AnswersReading};
 ghost use Rattle.gs_epc.specs.Writes.{ReadsText};
 
-use crate::epc_ref::EpcRef;
+use crate::epc::{Epc, EpcRef, KeyTexts};
 use crate::error::EpcFault;
 use crate::fields::{filter_of, texts_of};
-use crate::kept::kind_at;
-use crate::key_texts::KeyTexts;
-use crate::layout::lay_out;
+use crate::key_parts::copied;
+use crate::layout::{kind_at, lay_out};
 use gs_bits::BitBuf;
 use gs_chars::{List, Memory, Text};
 use gs_grammar_level::{Reading, read_bits, read_text};
@@ -32,7 +31,7 @@ pub struct EpcReading<'a> {
 
 impl<'a> Model for EpcReading<'a> {
     ghost use Rattle.std.specs.Prelude.{IfSome};
-    ghost use Rattle.gs_tables_document.specs.declared.field.Field.TheVariants.{Filter};
+    ghost use Rattle.gs_tables_document.specs.declared.document.Field.TheVariants.{Filter};
     ghost use Rattle.gs_epc.specs.declared.epc.Epc.{Epc};
     ghost use Rattle.gs_epc.specs.Epcs.{epc_of, value_at};
     ghost use Rattle.gs_epc.specs.Filters.{IsFilter};
@@ -147,4 +146,40 @@ pub fn reading_of<'a>(
         LevelName::Tag => reading_of_uri(alloc, set, LevelName::Tag, text),
         LevelName::Pure => reading_of_uri(alloc, set, LevelName::Pure, text),
     }
+}
+
+/// Reads a text of a level, and copies the fields.
+fn read_level(alloc: Global, set: &TableSet, level: LevelName, text: &[u8]) -> Result<Epc, EpcFault>
+    ensures answer { ReadsText set.now level text.now result }
+    ensures of_set { IfOk result (IsOfSet set.now) }
+{
+    let reading = reading_of(alloc, set, level, text)?;
+    Ok(copied(alloc, &reading.epc())?)
+}
+
+/// Reads the bits of a tag, a text of at most 128 hexadecimal digits in either case (TDS 2.0, section 14). The errors are tried
+/// in this order: the text is not such a hexadecimal text; the bits have no derivation in the level of bits.
+pub fn read_hex(alloc: Global, set: &TableSet, text: &[u8]) -> Result<Epc, EpcFault>
+    ensures answer { ReadsHex set.now text.now result }
+    ensures of_set { IfOk result (IsOfSet set.now) }
+{
+    read_level(alloc, set, LevelName::Binary, text)
+}
+
+/// Reads an EPC tag URI (TDS 2.0, section 12). Returns `NoReading` if and only if the text has no derivation in the level of tag
+/// URIs.
+pub fn read_tag(alloc: Global, set: &TableSet, text: &[u8]) -> Result<Epc, EpcFault>
+    ensures answer { ReadsAs set.now LevelName.Tag text.now result }
+    ensures of_set { IfOk result (IsOfSet set.now) }
+{
+    read_level(alloc, set, LevelName::Tag, text)
+}
+
+/// Reads an EPC pure identity URI (TDS 2.0, section 6). Returns `NoReading` if and only if the text has no derivation in the
+/// level of pure identity URIs.
+pub fn read_pure(alloc: Global, set: &TableSet, text: &[u8]) -> Result<Epc, EpcFault>
+    ensures answer { ReadsAs set.now LevelName.Pure text.now result }
+    ensures of_set { IfOk result (IsOfSet set.now) }
+{
+    read_level(alloc, set, LevelName::Pure, text)
 }

@@ -7,9 +7,8 @@ ghost use Rattle.gs_epc.specs.Candidates.{Candidate, HasFilter, HasFilterOn};
 ghost use Rattle.gs_epc.specs.Writes.{IsTried, WritesAs, field_at, text_on};
 
 use crate::candidates::{is_asked, left_out, values_for};
-use crate::epc::Epc;
-use crate::epc_ref::{EpcRef, lent};
-use crate::write_error::EpcWriteFault;
+use crate::epc::{Epc, EpcRef, lent};
+use crate::error::EpcWriteFault;
 use gs_bits::BitBuf;
 use gs_chars::Text;
 use gs_grammar::{Opt, Why, WriteFault, write_bits, write_text};

@@ -5,8 +5,8 @@ use Rattle.gs_json.specs.Places.{item_place}
 use Rattle.gs_json.specs.Shapes.{first_error, sort_errors}
 use Rattle.gs_json.specs.declared.error.JsonFault.{JsonFault}
 use Rattle.gs_json.specs.declared.error.JsonFault.TheVariants.{Kind}
-use Rattle.gs_json.specs.declared.fit.Fit.{Fit}
-use Rattle.gs_json.specs.declared.fit.Fit.TheVariants as fit
+use Rattle.gs_json.specs.declared.plan.Fit.{Fit}
+use Rattle.gs_json.specs.declared.plan.Fit.TheVariants as fit
 use Rattle.gs_json.specs.declared.plan.Sort.{Sort}
 
 -- the answer at `place` for a member that fits wholly, not at all, or except for one item

@@ -25,20 +25,17 @@
 
 mod doc;
 mod error;
-mod fit;
 mod laws;
 mod look_ups;
-mod members;
 mod node;
 mod place;
 mod plan;
-mod shape;
 mod values;
 
 pub use doc::Doc;
 pub use error::JsonFault;
 pub use laws::places_point_to_their_parts;
-pub use members::{items_in, items_of, number_in, text_in, truth_in};
+pub use look_ups::{items_in, items_of, number_in, text_in, truth_in};
 pub use node::Node;
 pub use plan::{Entry, Sort, plan_of};
 pub use values::{read_value, value_from};

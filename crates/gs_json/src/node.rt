@@ -7,8 +7,7 @@ ghost use Rattle.gs_json.specs.Places.{item_place, member_place};
 
 use crate::error::JsonFault;
 use crate::place::{Place, Step};
-use crate::plan::Entry;
-use crate::shape::judge;
+use crate::plan::{Entry, judge};
 use gs_chars::{List, Memory, Text};
 use serde_json::{Map, Value};
 use std::alloc::Global;

@@ -1,8 +1,8 @@
-ghost use Rattle.std.specs.Prelude.{◌≡◌, ◌<◌, ◌≤◌, ◌⊎◌, ◌++◌, ◌∷◌, [], length, true, None, Err, IfOk, IfErr, OnOk, codes, option_to_list};
-ghost use Rattle.std.specs.Prelude.{List as SpecList};
+ghost use Rattle.std.specs.Prelude.{◌≡◌, ◌<◌, ◌≤◌, ◌⊎◌, ◌++◌, ◌∷◌, [], length, true, None, Err, IfOk, IfErr, OnOk};
+ghost use Rattle.std.specs.Prelude.{codes, option_to_list, List as SpecList};
 ghost use Rattle.std.specs.List.{list_all};
 ghost use Rattle.std.specs.Option.{option_map_or};
-ghost use Rattle.std.specs.Str.{bytes_eq};
+ghost use Rattle.std.specs.Str.{bytes_eq, is_utf8};
 ghost use Rattle.json.specs.Reads.{token_of};
 ghost use Rattle.serde_json.specs.Data.{Data, Members, put};
 ghost use Rattle.serde_json.specs.Read.{read as read_text};
@@ -11,15 +11,16 @@ ghost use Rattle.gs_chars.specs.Answers.{first_or};
 ghost use Rattle.gs_json.specs.Answers.{OrMemory};
 ghost use Rattle.gs_json.specs.Shapes.{items_list};
 ghost use Rattle.gs_linkset.specs.Answers.{document_answer};
-ghost use Rattle.gs_linkset.specs.AnswersSupport.{contexts_answer, linkset_answer, linkset_place};
+ghost use Rattle.gs_linkset.specs.AnswersSupport.{contexts_answer, linkset_answer, linkset_place, text_answer};
 ghost use Rattle.gs_linkset.specs.LinkShapes.{is_context};
-ghost use Rattle.gs_linkset.specs.Tokens.{AreRead, Begins, IsAnswer, items_from, members_from, opens_array, opens_object, value_from as value_at};
+ghost use Rattle.gs_linkset.specs.Tokens.{AreRead, Begins, IsAnswer, items_from, members_from, opens_array};
+ghost use Rattle.gs_linkset.specs.Tokens.{opens_object, value_from as value_at};
 
+use crate::copies::push;
 use crate::link_types::Context;
-use crate::pushes::push;
 use crate::reader::context_at;
 use gs_chars::{List, Memory, Text};
-use gs_json::{JsonFault, read_value, value_from};
+use gs_json::{JsonFault, Node, read_value, value_from};
 use json::{Reader, Scratch, Token};
 use serde_json::Value;
 use std::alloc::Global;
@@ -234,4 +235,13 @@ pub(crate) fn read_document(alloc: Global, text: &str) -> Result<List<Context>, 
         None => answer,
         Some(_) => Err(JsonFault::Syntax),
     }
+}
+
+/// Reads the text of a member that the object must have.
+pub(crate) fn must_text(alloc: Global, object: &Node<'_>, name: &str) -> Result<Text, JsonFault>
+    ensures answer { OrMemory result (text_answer name.now object.now.place (view object.now.tree)) }
+    ensures utf8 { IfOk result (λ text. is_utf8 text ≡ true) }
+{
+    let member = object.member(alloc, name)?;
+    member.text(alloc)
 }

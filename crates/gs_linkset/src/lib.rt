@@ -26,10 +26,7 @@ mod document;
 mod laws;
 mod link_shapes;
 mod link_types;
-mod members;
-mod pushes;
 mod read_attrs;
-mod read_members;
 mod reader;
 mod writer;
 

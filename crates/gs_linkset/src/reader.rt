@@ -13,13 +13,12 @@ ghost use Rattle.gs_linkset.specs.AnswersSupport.{ItemAnswer, linkset_place, mem
 ghost use Rattle.gs_linkset.specs.Documents.{context_errors, context_of, item_errors};
 ghost use Rattle.gs_linkset.specs.LinkShapes.{is_context, is_relation};
 
+use crate::copies::{push, with_room};
 use crate::doc::LinkDoc;
-use crate::document::read_document;
+use crate::document::{must_text, read_document};
 use crate::link_shapes::Shaped;
 use crate::link_types::{Context, Relation, Target};
-use crate::members::must_text;
-use crate::pushes::{push, with_room};
-use crate::read_members::{ReadMember, read_members};
+use crate::read_attrs::{ReadMember, read_members};
 use gs_chars::{List, Text};
 use gs_json::{JsonFault, Node};
 use serde_json::Value;

@@ -7,8 +7,8 @@ use Rattle.gs_bits.specs.BitLaws.{length-bits_of, number_of-bits_of}
 use Rattle.gs_bits.specs.HexText.{bits_of_hex}
 use Rattle.gs_grammar.specs.Derivations.{Derivation}
 use Rattle.gs_grammar.proofs.OneReading.{one_reading}
-use Rattle.gs_tables_document.specs.declared.level_name.LevelName.{LevelName}
-use Rattle.gs_tables_document.specs.declared.level_name.LevelName.TheVariants.{Binary}
+use Rattle.gs_tables_document.specs.declared.document.LevelName.{LevelName}
+use Rattle.gs_tables_document.specs.declared.document.LevelName.TheVariants.{Binary}
 use Rattle.gs_tables.specs.Tables.{TableRows, level_rows}
 use Rattle.gs_epc.specs.declared.epc.Epc.{Epc}
 use Rattle.gs_epc.specs.Epcs.{epc_of, options_of}

@@ -8,9 +8,9 @@ use Rattle.gs_bits.specs.HexText.{hex_of_bits}
 use Rattle.gs_grammar.specs.declared.item.Item.{Item}
 use Rattle.gs_grammar.specs.Items.{size_of_all}
 use Rattle.gs_grammar.specs.WrittenWords.{written}
-use Rattle.gs_tables_document.specs.declared.field.Field.TheVariants.{Filter}
-use Rattle.gs_tables_document.specs.declared.level_name.LevelName.TheVariants.{Binary}
-use Rattle.gs_tables_document.specs.declared.opt_info.OptInfo.{OptInfo}
+use Rattle.gs_tables_document.specs.declared.document.Field.TheVariants.{Filter}
+use Rattle.gs_tables_document.specs.declared.document.LevelName.TheVariants.{Binary}
+use Rattle.gs_tables_document.specs.declared.document.OptInfo.{OptInfo}
 use Rattle.gs_tables_document.specs.Items.{alone}
 use Rattle.gs_tables.specs.KeptRules.{KeptOption}
 use Rattle.gs_tables.specs.Rules.{is_filter, is_one, items_of_field, keeps_level}

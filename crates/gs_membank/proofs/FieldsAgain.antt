@@ -9,10 +9,10 @@ use Rattle.gs_grammar.specs.declared.item.Item.{Item}
 use Rattle.gs_grammar.specs.Derivations.{EachWord}
 use Rattle.gs_grammar.specs.Words.{decimal_value}
 use Rattle.gs_grammar.proofs.Numbers.{value_decimal}
-use Rattle.gs_tables_document.specs.declared.field.Field.{Field}
-use Rattle.gs_tables_document.specs.declared.field.Field.TheVariants.{Filter, Gcp, Rest, Piece, Total, Serial}
-use Rattle.gs_tables_document.specs.declared.level_name.LevelName.TheVariants.{Binary}
-use Rattle.gs_tables_document.specs.declared.opt_info.OptInfo.{OptInfo}
+use Rattle.gs_tables_document.specs.declared.document.Field.{Field}
+use Rattle.gs_tables_document.specs.declared.document.Field.TheVariants.{Filter, Gcp, Rest, Piece, Total, Serial}
+use Rattle.gs_tables_document.specs.declared.document.LevelName.TheVariants.{Binary}
+use Rattle.gs_tables_document.specs.declared.document.OptInfo.{OptInfo}
 use Rattle.gs_tables_document.specs.Items.{FieldItem, alone, fields_of}
 use Rattle.gs_tables.specs.declared.form.KeyForm.{KeyForm}
 use Rattle.gs_tables.specs.declared.form.KeyForm.TheVariants.{Digits, Characters}

@@ -9,10 +9,10 @@ use Rattle.gs_grammar.specs.Derivations.{EachWord, one_item}
 use Rattle.gs_grammar.specs.Items.{size_of_all}
 use Rattle.gs_grammar.specs.Words.{decimal_value}
 use Rattle.gs_grammar.proofs.Numbers.{value_decimal}
-use Rattle.gs_tables_document.specs.declared.field.Field.TheVariants.{Filter, Gcp, Rest, Piece, Total, Serial}
-use Rattle.gs_tables_document.specs.declared.level_name.LevelName.{LevelName}
-use Rattle.gs_tables_document.specs.declared.level_name.LevelName.TheVariants.{Binary, Tag, Pure}
-use Rattle.gs_tables_document.specs.declared.opt_info.OptInfo.{OptInfo}
+use Rattle.gs_tables_document.specs.declared.document.Field.TheVariants.{Filter, Gcp, Rest, Piece, Total, Serial}
+use Rattle.gs_tables_document.specs.declared.document.LevelName.{LevelName}
+use Rattle.gs_tables_document.specs.declared.document.LevelName.TheVariants.{Binary, Tag, Pure}
+use Rattle.gs_tables_document.specs.declared.document.OptInfo.{OptInfo}
 use Rattle.gs_tables_document.specs.Items.{FieldItem, alone, fields_of}
 use Rattle.gs_tables.specs.KeptRules.{KeptOption}
 use Rattle.gs_tables.specs.Rules.{is_filter, is_one, items_of_field, keeps_level}

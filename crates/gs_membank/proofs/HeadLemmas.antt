@@ -5,7 +5,7 @@ use Rattle.std.proofs.lemmas.List.Elements.{All-drop, All-get_or}
 use Rattle.gs_bits.specs.declared.errors.HexFault.{HexFault}
 use Rattle.gs_bits.specs.declared.errors.HexFault.TheVariants.{OddDigits, Full, BadDigit}
 use Rattle.gs_bits.specs.HexText.{bits_of_hex, is_hex_digit}
-use Rattle.gs_tables_document.specs.declared.level_name.LevelName.TheVariants.{Binary}
+use Rattle.gs_tables_document.specs.declared.document.LevelName.TheVariants.{Binary}
 use Rattle.gs_tables.specs.Tables.{TableRows}
 use Rattle.gs_epc.specs.declared.epc.Epc.{Epc}
 use Rattle.gs_epc.specs.declared.error.EpcFault.{EpcFault}

@@ -16,8 +16,8 @@ use Rattle.gs_tables_document.specs.declared.document.KindRow.{KindRow}
 use Rattle.gs_tables_document.specs.declared.document.OptionRow.{OptionRow}
 use Rattle.gs_tables_document.specs.declared.error.LimitName.TheVariants.{Size}
 use Rattle.gs_tables_document.specs.declared.error.LoadFault.TheVariants.{Ai, BadItem, Duplicate, Limit, Mismatch}
-use Rattle.gs_tables_document.specs.declared.level_name.LevelName.TheVariants.{Binary}
-use Rattle.gs_tables_document.specs.declared.opt_info.OptInfo.{OptInfo}
+use Rattle.gs_tables_document.specs.declared.document.LevelName.TheVariants.{Binary}
+use Rattle.gs_tables_document.specs.declared.document.OptInfo.{OptInfo}
 use Rattle.gs_tables_document.specs.Documents.{is_bits}
 use Rattle.gs_tables.specs.Rules.{has_name}
 use Rattle.gs_tables.specs.Tables.{IsShaped, TableRows, fits, info_of, is_bad_item, is_same, items_alone, level_rejections, level_rows, limit_rejections, option_rejections, row_rejections}

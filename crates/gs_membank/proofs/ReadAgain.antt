@@ -15,9 +15,9 @@ use Rattle.gs_grammar.specs.Derivations.{EachWord, no_item, one_item}
 use Rattle.gs_grammar.specs.Items.{size_of_all}
 use Rattle.gs_grammar.specs.WrittenWords.{written}
 use Rattle.gs_grammar.proofs.WordLaws.{none_bad}
-use Rattle.gs_tables_document.specs.declared.field.Field.TheVariants.{Filter}
-use Rattle.gs_tables_document.specs.declared.level_name.LevelName.TheVariants.{Binary}
-use Rattle.gs_tables_document.specs.declared.opt_info.OptInfo.{OptInfo}
+use Rattle.gs_tables_document.specs.declared.document.Field.TheVariants.{Filter}
+use Rattle.gs_tables_document.specs.declared.document.LevelName.TheVariants.{Binary}
+use Rattle.gs_tables_document.specs.declared.document.OptInfo.{OptInfo}
 use Rattle.gs_tables_document.specs.Items.{FieldItem, alone}
 use Rattle.gs_tables.specs.Judgements.{IsLoaded}
 use Rattle.gs_tables.specs.KeptRules.{KeptOption}

@@ -5,7 +5,7 @@ use Rattle.gs_chars.specs.Escapes.{hex_digit, hex_value}
 use Rattle.gs_bits.specs.Bits.{AreBits, bits_of}
 use Rattle.gs_bits.specs.BitLaws.{AreBits-bits_of}
 use Rattle.gs_bits.specs.HexText.{bits_of_hex, hex_of_bits, is_hex_digit}
-use Rattle.gs_tables_document.specs.declared.level_name.LevelName.TheVariants.{Binary, Tag}
+use Rattle.gs_tables_document.specs.declared.document.LevelName.TheVariants.{Binary, Tag}
 use Rattle.gs_tables.specs.Judgements.{IsLoaded}
 use Rattle.gs_tables.specs.Tables.{TableRows}
 use Rattle.gs_epc.specs.Candidates.{HasFilter}

@@ -1,7 +1,7 @@
 -- The text of a dump: its control word, and the encoding of its EPC.
 use Rattle.std.proofs.Common.{◌≡◌, ◌/◌, ◌<◌, ◌≤◌, ℕ, List, ◌++◌, length, ap, ◌∙◌}
 use Rattle.gs_bits.specs.HexText.{hex_of_bits}
-use Rattle.gs_tables_document.specs.declared.level_name.LevelName.TheVariants.{Binary}
+use Rattle.gs_tables_document.specs.declared.document.LevelName.TheVariants.{Binary}
 use Rattle.gs_tables.specs.Tables.{IsShaped, TableRows}
 use Rattle.gs_epc.specs.Writes.{Writes}
 use Rattle.gs_membank.specs.declared.dump.Dump.{Dump}

@@ -3,10 +3,10 @@
 use Rattle.std.specs.Prelude.{◌≡◌, ◌<◌, ◌≤◌, ◌*◌, ℕ, Bool, true, false, List, ◌++◌, length, Result, Ok, Err}
 use Rattle.gs_bits.specs.HexText.{bits_of_hex, hex_of_bits}
 use Rattle.gs_grammar.specs.Derivations.{Derivation}
-use Rattle.gs_tables_document.specs.declared.level_name.LevelName.TheVariants.{Binary, Tag}
+use Rattle.gs_tables_document.specs.declared.document.LevelName.TheVariants.{Binary, Tag}
 use Rattle.gs_tables.specs.Tables.{TableRows}
-use Rattle.gs_epc.specs.declared.write_error.EpcWriteFault.{EpcWriteFault}
-use Rattle.gs_epc.specs.declared.write_error.EpcWriteFault.TheVariants.{NoOption as NoOptionOf, CannotHold as CannotHoldOf, Memory as MemoryOf}
+use Rattle.gs_epc.specs.declared.error.EpcWriteFault.{EpcWriteFault}
+use Rattle.gs_epc.specs.declared.error.EpcWriteFault.TheVariants.{NoOption as NoOptionOf, CannotHold as CannotHoldOf, Memory as MemoryOf}
 use Rattle.gs_epc.specs.Epcs.{options_of}
 use Rattle.gs_epc.specs.Readings.{IsHex, IsHexFault, Says}
 use Rattle.gs_epc.specs.Writes.{Writes, WritesAs}

@@ -12,10 +12,10 @@ use Rattle.gs_port.specs.declared.files.OpenAnswer.{OpenAnswer}
 use Rattle.gs_port.specs.declared.files.OpenAnswer.TheVariants as opening
 use Rattle.gs_port.specs.declared.door.AcceptAnswer.{AcceptAnswer}
 use Rattle.gs_port.specs.declared.door.AcceptAnswer.TheVariants as accepting
-use Rattle.gs_port.specs.declared.file_reader.FileFault.{FileFault}
-use Rattle.gs_port.specs.declared.file_reader.FileFault.TheVariants as file
-use Rattle.gs_port.specs.declared.whole.Whole.{Whole}
-use Rattle.gs_port.specs.declared.whole.Whole.TheVariants as whole
+use Rattle.gs_port.specs.declared.files.FileFault.{FileFault}
+use Rattle.gs_port.specs.declared.files.FileFault.TheVariants as file
+use Rattle.gs_port.specs.declared.sink.Whole.{Whole}
+use Rattle.gs_port.specs.declared.sink.Whole.TheVariants as whole
 
 -- trusted, own: a fact about the number of bytes that a read moved
 abbrev pub IfGot : ReadAnswer → (ℕ → Type 0) → Type 0

@@ -1,17 +1,17 @@
 ghost use Rattle.std.specs.Prelude.{◌≡◌, ◌<◌, ◌≤◌, false, true, None, is_some, length};
-ghost use Rattle.gs_port.specs.Answers.{AddsMoved, AppendsFront, IfGot, IfTook, IsZeroAtEnd, MovesFront, OnAcceptFailed, OnAccepted};
-ghost use Rattle.gs_port.specs.Answers.{OnNotAccepted, OnNotOpened, OnNothingTaken, OnOpenFailed, OnOpened, OnReadFailed, OnWriteFailed};
-ghost use Rattle.gs_port.specs.Answers.{count_after_read, count_after_write};
+ghost use Rattle.gs_port.specs.Answers.{AddsMoved, AppendsFront, IfGot, IfTook, IsZeroAtEnd, MovesFront};
+ghost use Rattle.gs_port.specs.Answers.{OnAcceptFailed, OnAccepted, OnNotAccepted, OnNotOpened, OnNothingTaken};
+ghost use Rattle.gs_port.specs.Answers.{OnOpenFailed, OnOpened, OnReadFailed, OnWriteFailed, count_after_read};
+ghost use Rattle.gs_port.specs.Answers.{count_after_write};
 ghost use Rattle.gs_port.specs.Connections.{after_accept, after_open, no_aside};
 ghost use Rattle.gs_port.specs.ConnectionsSupport.{unknown_aside};
 ghost use Rattle.gs_port.specs.Counts.{Rises};
-ghost use Rattle.gs_port_system.specs.Calls.{AcceptsOnce, AcceptsSetUp, EndsInStages, ListensOnce, ReadsInTime, WritesInTime};
+ghost use Rattle.gs_port_system.specs.Calls.{AcceptsOnce, AcceptsSetUp, EndsInStages, ListensOnce, ReadsInTime};
+ghost use Rattle.gs_port_system.specs.Calls.{WritesInTime, DropsRest};
 
-use crate::again::accept_last;
-use crate::budget::Budget;
-use crate::calls::DoorCalls;
-use crate::closing::end_in_stages;
-use crate::in_time::{read_in_time, write_in_time};
+use crate::again::{accept_last, is_more};
+use crate::budget::{Budget, read_in_time, write_in_time};
+use crate::calls::{DoorCalls, StreamCalls};
 use crate::system::{accept_answer, keep_first, open_error};
 use gs_port::{AcceptAnswer, Conn, Door, OpenAnswer, ReadAnswer, WriteAnswer};
 use std::io::{Error, Result};
@@ -220,5 +220,36 @@ impl<S: DoorCalls> Door for TcpDoor<S, S::Listener, S::Stream> {
     {
         end_in_stages(&mut self.system, &mut self.current);
         self.current = None;
+    }
+}
+
+/// The milliseconds in which arriving bytes are read and dropped.
+const A_SECOND: u64 = 1_000;
+
+/// Reads and drops arriving bytes: at most 256 reads of 4,096 bytes, until the time.
+fn drop_rest<R: StreamCalls>(stream: &mut R, until: u64)
+    ensures { DropsRest R.reads until stream.old stream.new }
+{
+    let mut block = [0; 4096];
+    for dropped in 0..256u64 {
+        let said = stream.read_until(&mut block, until);
+        if !is_more(&said) {
+            return;
+        }
+    }
+}
+
+/// Ends the current connection in stages, so that no sent reply is lost: its write half is shut down, then arriving bytes are
+/// read and dropped, for a second at most.
+pub(crate) fn end_in_stages<S: DoorCalls>(system: &mut S, current: &mut Option<S::Stream>)
+    requires current { is_some current.old ≡ true }
+    ensures called { EndsInStages S.times S.Stream.shuts S.Stream.reads system.old current.old system.new }
+{
+    let Some(stream) = current else {
+        unreachable!()
+    };
+    let until = system.now().saturating_add(A_SECOND);
+    if stream.shut_write().is_ok() {
+        drop_rest(stream, until);
     }
 }

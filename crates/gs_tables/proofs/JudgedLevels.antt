@@ -10,15 +10,15 @@ use Rattle.gs_tables_document.specs.declared.document.KindRow.{KindRow}
 use Rattle.gs_tables_document.specs.declared.document.OptionRow.{OptionRow}
 use Rattle.gs_tables_document.specs.declared.error.LoadFault.{LoadFault}
 use Rattle.gs_tables_document.specs.declared.error.LoadFault.TheVariants.{Json, Version, Limit, Ai, BadKind, BadItem, Mismatch, Duplicate, Ambiguous, Memory}
-use Rattle.gs_tables_document.specs.declared.kind.Kind.{Kind}
-use Rattle.gs_tables_document.specs.declared.level_name.LevelName.{LevelName}
-use Rattle.gs_tables_document.specs.declared.level_name.LevelName.TheVariants.{Binary, Tag, Pure}
+use Rattle.gs_tables_document.specs.declared.document.Kind.{Kind}
+use Rattle.gs_tables_document.specs.declared.document.LevelName.{LevelName}
+use Rattle.gs_tables_document.specs.declared.document.LevelName.TheVariants.{Binary, Tag, Pure}
 use Rattle.gs_tables_document.specs.Documents.{is_bits}
 use Rattle.gs_grammar.specs.Ambiguity.{AreItems, HasFirstShare, ShowsFirstShare, shown_symbols}
 use Rattle.gs_grammar.specs.Levels.{LevelForm, OptionForm, item_lists}
 use Rattle.gs_grammar.proofs.DecidedShares.{share_decided}
 use Rattle.gs_grammar.proofs.WordLaws.{all_items}
-use Rattle.gs_tables.specs.declared.level_table.LevelTable.{LevelTable}
+use Rattle.gs_tables.specs.declared.level_tables.LevelTable.{LevelTable}
 use Rattle.gs_tables.specs.declared.level_tables.LevelTables.{LevelTables}
 use Rattle.gs_tables.specs.Judgements.{AreClear, AreClearBefore, IsClear, IsFirstAmbiguous, Judged, levels_of}
 use Rattle.gs_tables.specs.JudgedSupport.{AreJudged, AreOfRows, by_name, levels_of_rows}

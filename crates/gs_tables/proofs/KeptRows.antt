@@ -20,8 +20,8 @@ use Rattle.gs_tables_document.specs.declared.document.OptionRow.{OptionRow}
 use Rattle.gs_tables_document.specs.declared.error.LimitName.TheVariants.{Size}
 use Rattle.gs_tables_document.specs.declared.error.LoadFault.{LoadFault}
 use Rattle.gs_tables_document.specs.declared.error.LoadFault.TheVariants.{BadItem, BadKind, Duplicate, Limit, Mismatch}
-use Rattle.gs_tables_document.specs.declared.field.Field.TheVariants.{Gcp, Rest, Piece, Total, Serial}
-use Rattle.gs_tables_document.specs.declared.level_name.LevelName.{LevelName}
+use Rattle.gs_tables_document.specs.declared.document.Field.TheVariants.{Gcp, Rest, Piece, Total, Serial}
+use Rattle.gs_tables_document.specs.declared.document.LevelName.{LevelName}
 use Rattle.gs_tables_document.specs.Documents.{is_bits}
 use Rattle.gs_tables_document.specs.Items.{FieldItem}
 use Rattle.gs_tables.specs.declared.form.KeyForm.{KeyForm}

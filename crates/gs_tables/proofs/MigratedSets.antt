@@ -19,8 +19,8 @@ use Rattle.gs_tables_document.specs.declared.document.Document.{Document}
 use Rattle.gs_tables_document.specs.declared.document.KindRow.{KindRow}
 use Rattle.gs_tables_document.specs.declared.document.OptionRow.{OptionRow}
 use Rattle.gs_tables_document.specs.declared.error.LoadFault.TheVariants.{Ai, BadItem, Version}
-use Rattle.gs_tables_document.specs.declared.level_name.LevelName.{LevelName}
-use Rattle.gs_tables_document.specs.declared.level_name.LevelName.TheVariants.{Binary, Tag, Pure}
+use Rattle.gs_tables_document.specs.declared.document.LevelName.{LevelName}
+use Rattle.gs_tables_document.specs.declared.document.LevelName.TheVariants.{Binary, Tag, Pure}
 use Rattle.gs_tables_migration.specs.Migrations.{IsKnown, has_items, has_parts, in_second, is_known_part}
 use Rattle.gs_tables.specs.MigratedSets.{Loads, LoadsAlike}
 use Rattle.gs_tables.specs.Shapes.{Shape}

@@ -5,8 +5,8 @@ use Rattle.std.proofs.lemmas.Option.{slice_get-map, slice_get_within}
 use Rattle.gs_ai.specs.declared.row.AiRow.{AiRow}
 use Rattle.gs_tables_document.specs.declared.document.KindRow.{KindRow}
 use Rattle.gs_tables_document.specs.declared.document.OptionRow.{OptionRow}
-use Rattle.gs_tables_document.specs.declared.level_name.LevelName.{LevelName}
-use Rattle.gs_tables_document.specs.declared.opt_info.OptInfo.{OptInfo}
+use Rattle.gs_tables_document.specs.declared.document.LevelName.{LevelName}
+use Rattle.gs_tables_document.specs.declared.document.OptInfo.{OptInfo}
 use Rattle.gs_tables.specs.Numbers.{is_of, numbers_from, numbers_of}
 use Rattle.gs_tables.specs.NumbersSupport.{AreNumbered, AreWithin}
 use Rattle.gs_tables.specs.Rules.{has_name}

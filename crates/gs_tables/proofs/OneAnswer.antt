@@ -6,7 +6,7 @@ use Rattle.gs_tables_builtin.specs.BuiltIn.{builtin_document}
 use Rattle.gs_json.specs.declared.error.JsonFault.{JsonFault}
 use Rattle.gs_tables_document.specs.declared.error.LoadFault.{LoadFault}
 use Rattle.gs_tables_document.specs.declared.error.LoadFault.TheVariants.{Json, Version, Limit, Ai, BadKind, BadItem, Mismatch, Duplicate, Ambiguous, Memory}
-use Rattle.gs_tables_document.specs.declared.level_name.LevelName.{LevelName}
+use Rattle.gs_tables_document.specs.declared.document.LevelName.{LevelName}
 use Rattle.gs_tables_document.specs.Readings.{IsFormError}
 use Rattle.gs_tables_document.proofs.OneReading.{HasReading, not_both, one_error, one_of_bytes, some_reading}
 use Rattle.gs_tables.specs.Shapes.{ByForm, ByRows, HasMemory, Shape}

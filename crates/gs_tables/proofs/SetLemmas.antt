@@ -9,7 +9,7 @@ use Rattle.gs_tables_document.specs.declared.document.KindRow.{KindRow}
 use Rattle.gs_tables_document.specs.declared.document.OptionRow.{OptionRow}
 use Rattle.gs_tables_document.specs.declared.error.LoadFault.{LoadFault}
 use Rattle.gs_tables_document.specs.declared.error.LoadFault.TheVariants.{Json, Version, Limit, Ai, BadKind, BadItem, Mismatch, Duplicate, Ambiguous, Memory}
-use Rattle.gs_tables_document.specs.declared.level_name.LevelName.TheVariants.{Binary, Tag, Pure}
+use Rattle.gs_tables_document.specs.declared.document.LevelName.TheVariants.{Binary, Tag, Pure}
 use Rattle.gs_chars.specs.Answers.{error_if}
 use Rattle.gs_tables.specs.Tables.{IsAnswer, TableRows, is_version, rejections, kind_of, kinds_rejections, level_of, level_rejections, limit_rejections, row_rejections, set_of}
 use Rattle.gs_tables.specs.TablesSupport.{IsFirst, rule_rejections}

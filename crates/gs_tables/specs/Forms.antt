@@ -12,8 +12,8 @@ use Rattle.gs_tables.specs.declared.form.KeyForm.{KeyForm}
 use Rattle.gs_tables.specs.declared.form.KeyForm.TheVariants.{Digits, Characters}
 use Rattle.gs_tables.specs.declared.form.Room.{Room}
 use Rattle.gs_tables.specs.declared.form.Room.TheVariants as room
-use Rattle.gs_tables_document.specs.declared.kind.SerialAt.{SerialAt}
-use Rattle.gs_tables_document.specs.declared.kind.SerialAt.TheVariants.{Nowhere, Tail, Ai}
+use Rattle.gs_tables_document.specs.declared.document.SerialAt.{SerialAt}
+use Rattle.gs_tables_document.specs.declared.document.SerialAt.TheVariants.{Nowhere, Tail, Ai}
 
 -- trusted, own: digits with a check digit, and an optional tail, of characters or of digits
 abbrev pub digits_form : List Part → Option KeyForm

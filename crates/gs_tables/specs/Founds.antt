@@ -3,7 +3,7 @@ use Rattle.std.specs.Prelude.{◌≡◌, ℕ, List, [], ◌∷◌, position, opt
 use Rattle.gs_tables_document.specs.declared.document.OptionRow.{OptionRow}
 use Rattle.gs_tables_document.specs.declared.error.LoadFault.{LoadFault}
 use Rattle.gs_tables_document.specs.declared.error.LoadFault.TheVariants.{Duplicate}
-use Rattle.gs_tables_document.specs.declared.level_name.LevelName.{LevelName}
+use Rattle.gs_tables_document.specs.declared.document.LevelName.{LevelName}
 use Rattle.gs_grammar.specs.declared.item.Item.{Item}
 use Rattle.gs_tables.specs.Tables.{is_same}
 use Rattle.gs_tables.specs.declared.field_items.Found.{Found}

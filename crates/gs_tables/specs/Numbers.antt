@@ -1,7 +1,7 @@
 -- The options of a level by their kind and the length of their company prefix: TDT 2.0, section 3 (selection of an option).
 use Rattle.std.specs.Prelude.{ℕ, ◌==◌, ◌&&◌, Bool, List, map, filter}
 use Rattle.std.specs.List.{enumerate_from}
-use Rattle.gs_tables_document.specs.declared.opt_info.OptInfo.{OptInfo}
+use Rattle.gs_tables_document.specs.declared.document.OptInfo.{OptInfo}
 
 -- trusted, own: the option is of the kind and prefix length
 abbrev pub is_of : ℕ → ℕ → OptInfo → Bool

@@ -1,6 +1,6 @@
 -- Definitions for proofs and private functions, in addition to Numbers.antt.
 use Rattle.std.specs.Prelude.{◌≡◌, ◌<◌, ◌≤◌, ℕ, List, length, Some, slice_get}
-use Rattle.gs_tables_document.specs.declared.opt_info.OptInfo.{OptInfo}
+use Rattle.gs_tables_document.specs.declared.document.OptInfo.{OptInfo}
 use Rattle.gs_tables.specs.Numbers.{numbers_of}
 
 -- the lists are those of a kind, by prefix length from 0 on

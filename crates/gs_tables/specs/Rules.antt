@@ -11,18 +11,18 @@ use Rattle.gs_ai.specs.Values.{has_code}
 use Rattle.gs_grammar.specs.declared.item.Item.{Item}
 use Rattle.gs_grammar.specs.declared.item.Item.TheVariants.{Lit, Pad, Digits as DigitsItem, Int, Esc, NumPad, Num, NumStr, Ascii7, Fill}
 use Rattle.gs_grammar.specs.Items.{is_between, size_of_all}
-use Rattle.gs_tables_document.specs.declared.field.Field.{Field}
-use Rattle.gs_tables_document.specs.declared.field.Field.TheVariants.{Filter, Gcp, Rest, Piece, Total, Serial}
+use Rattle.gs_tables_document.specs.declared.document.Field.{Field}
+use Rattle.gs_tables_document.specs.declared.document.Field.TheVariants.{Filter, Gcp, Rest, Piece, Total, Serial}
 use Rattle.gs_tables.specs.declared.form.Behind.TheVariants.{Nothing, Further, Tail as BehindTail}
 use Rattle.gs_tables.specs.declared.form.KeyForm.{KeyForm}
 use Rattle.gs_tables.specs.declared.form.KeyForm.TheVariants.{Digits, Characters}
 use Rattle.gs_tables.specs.declared.form.Room.{Room}
 use Rattle.gs_tables.specs.declared.form.Room.TheVariants as room
 use Rattle.gs_tables_document.specs.declared.document.KindRow.{KindRow}
-use Rattle.gs_tables_document.specs.declared.kind.SerialAt.{SerialAt}
-use Rattle.gs_tables_document.specs.declared.kind.SerialAt.TheVariants.{Nowhere, Tail, Ai}
-use Rattle.gs_tables_document.specs.declared.level_name.LevelName.{LevelName}
-use Rattle.gs_tables_document.specs.declared.level_name.LevelName.TheVariants.{Binary, Tag, Pure}
+use Rattle.gs_tables_document.specs.declared.document.SerialAt.{SerialAt}
+use Rattle.gs_tables_document.specs.declared.document.SerialAt.TheVariants.{Nowhere, Tail, Ai}
+use Rattle.gs_tables_document.specs.declared.document.LevelName.{LevelName}
+use Rattle.gs_tables_document.specs.declared.document.LevelName.TheVariants.{Binary, Tag, Pure}
 use Rattle.gs_tables.specs.Forms.{key_form, form_at, tail_of, characters_of, serial_at, serial_room}
 use Rattle.gs_tables_document.specs.Items.{FieldItem, alone}
 

@@ -4,8 +4,7 @@ ghost use Rattle.gs_ai.specs.Tables.{is_key};
 ghost use Rattle.gs_tables.specs.Forms.{serial_at};
 ghost use Rattle.gs_tables.specs.Rules.{are_fields_of, are_piece_and_total, fits_form, fits_key, has_key, has_name, is_characters, is_kind, is_lead, is_new_name, is_serial_of};
 
-use crate::form::{Behind, KeyForm};
-use crate::forms::{are_characters, key_form, tail_of};
+use crate::form::{Behind, KeyForm, are_characters, key_form, tail_of};
 use gs_ai::{AiRow, AiTable, Role};
 use gs_chars::{Text, are_visible};
 use gs_tables_document::KindRow;

@@ -6,10 +6,8 @@ ghost use Rattle.gs_tables.specs.Rules.{has_name};
 ghost use Rattle.gs_tables_document.specs.Documents.{is_bits};
 ghost use Rattle.gs_tables.specs.Tables.{info_of, items_alone, kind_of, kinds_rejections, level_of, level_rejections, option_form};
 
-use crate::forms::further_at;
-use crate::indexed_info::IndexedInfo;
-use crate::level_table::LevelTable;
-use crate::level_tables::{LevelTables, OptionRows};
+use crate::form::further_at;
+use crate::level_tables::{IndexedInfo, LevelTable, LevelTables, OptionRows};
 use gs_ai::AiTable;
 use gs_chars::{List, Memory, Text};
 use gs_grammar::{Item, Opt};

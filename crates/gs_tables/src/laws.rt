@@ -1,6 +1,6 @@
 ghost use Rattle.std.specs.Prelude.{◌≡◌, ℕ, List, Result, length};
 ghost use Rattle.gs_tables_document.specs.declared.error.LoadFault.{LoadFault};
-ghost use Rattle.gs_tables_document.specs.declared.level_name.LevelName.{LevelName};
+ghost use Rattle.gs_tables_document.specs.declared.document.LevelName.{LevelName};
 ghost use Rattle.gs_tables.specs.KeptRules.{AreKept};
 ghost use Rattle.gs_tables.specs.Shapes.{BuiltInAnswer, BuiltInAnswersAreAlike, HasMemory, LoadAnswer, LoadAnswersAreAlike};
 ghost use Rattle.gs_tables.specs.Tables.{IsShaped, TableRows, level_rows};

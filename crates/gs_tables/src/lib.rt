@@ -28,28 +28,19 @@
 //! - Limits: 256 application identifiers, 64 kinds, 256 options of a level, 24 items and 512 symbols of an option.
 #![tactic(auto)]
 
-mod ambiguity;
-mod builtin_set;
 mod field_items;
 mod form;
-mod forms;
-mod indexed_info;
-mod judgement;
 mod kind_rules;
 mod kinds_levels;
 mod laws;
-mod level_table;
 mod level_tables;
-mod make;
 mod migration;
 mod option_rules;
 mod rules;
 mod table_set;
 
-pub use builtin_set::builtin;
 pub use field_items::{keeps_gcp, keeps_rest, keeps_serial, size_within_limit};
-pub use form::{Behind, KeyForm, Room};
-pub use forms::{are_characters, characters_of};
+pub use form::{Behind, KeyForm, Room, are_characters, characters_of};
 pub use gs_tables_document::{
     Field, ItemFault, Kind, LevelName, LimitName, LoadFault, OptInfo, SerialAt, read_item,
 };
@@ -57,4 +48,4 @@ pub use kind_rules::{is_of_key, lists};
 pub use kinds_levels::split_items;
 pub use laws::{built_in_rows_have_one_answer, bytes_have_one_answer, options_keep_the_rules};
 pub use migration::{migrate, migrated_text};
-pub use table_set::TableSet;
+pub use table_set::{TableSet, builtin};

@@ -11,8 +11,7 @@ ghost use Rattle.gs_tables.specs.Founds.{same_rejections};
 use crate::field_items::{
     keeps_further, keeps_gcp, keeps_level, keeps_rest, keeps_serial, size_within_limit,
 };
-use crate::form::KeyForm;
-use crate::forms::{form_at, serial_room};
+use crate::form::{KeyForm, form_at, serial_room};
 use gs_ai::AiTable;
 use gs_chars::are_visible;
 use gs_grammar::Item;

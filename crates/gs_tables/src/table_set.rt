@@ -1,17 +1,17 @@
-ghost use Rattle.std.specs.Prelude.{◌≡◌};
+ghost use Rattle.std.specs.Prelude.{◌≡◌, map};
 ghost use Rattle.gs_tables.specs.Judgements.{IsClear, IsLoaded, Judged};
 ghost use Rattle.gs_tables.specs.Tables.{level_rows, IsShaped, IsAnswer, row_rejections, set_of};
 ghost use Rattle.gs_tables.specs.Numbers.{numbers_of};
-ghost use Rattle.gs_tables.specs.Shapes.{LoadAnswer};
+ghost use Rattle.gs_tables.specs.Shapes.{LoadAnswer, BuiltInAnswer};
+ghost use Rattle.gs_ai.specs.Tables.{table_errors};
+ghost use Rattle.gs_tables_document.specs.declared.error.LoadFault.TheVariants.{Ai};
 
-use crate::judgement::judged_parts;
-use crate::level_table::LevelTable;
-use crate::level_tables::{LevelTables, OptionRows};
-use crate::make::make_ais;
-use crate::rules::{check_limits, check_version};
-use gs_ai::AiTable;
+use crate::level_tables::{LevelTable, LevelTables, OptionRows};
+use crate::rules::{check_limits, check_version, judged_parts};
+use gs_ai::{AiFault, AiRow, AiTable};
 use gs_chars::List;
 use gs_grammar_level::Level;
+use gs_tables_builtin::builtin_document;
 use gs_tables_document::{Document, Kind, LevelName, LoadFault, OptInfo, read_document};
 use std::alloc::Global;
 use std::marker::Model;
@@ -137,5 +137,27 @@ impl TableSet {
             LevelName::Tag => &self.levels.tag,
             LevelName::Pure => &self.levels.pure,
         }
+    }
+}
+
+/// Returns the set of the built-in rows. They are the application identifiers, ten kinds of key, and the options of each
+/// encoding and kind. Each encoding has the binary and the tag option for each company prefix length from 12 to 6, and each
+/// kind the pure option. The rows go through the rules of `TableSet::load`, and its check of levels. Returns the first
+/// rejection if there is one. May return `Memory` instead.
+pub fn builtin(alloc: Global) -> Result<TableSet, LoadFault>
+    ensures { BuiltInAnswer result }
+{
+    let document = builtin_document(alloc)?;
+    TableSet::of_rows(alloc, document)
+}
+
+/// Returns the table of the application identifiers, or their first error.
+pub(crate) fn make_ais(alloc: Global, rows: List<AiRow>) -> Result<AiTable, LoadFault>
+    ensures { IsAnswer (map Ai (table_errors rows)) rows result }
+{
+    match AiTable::new(alloc, rows.into_vec()) {
+        Ok(ais) => Ok(ais),
+        Err(AiFault::Memory) => Err(LoadFault::Memory),
+        Err(error) => Err(LoadFault::Ai(error)),
     }
 }

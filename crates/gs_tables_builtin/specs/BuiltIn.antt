@@ -14,8 +14,8 @@ use Rattle.gs_tables_builtin.specs.declared.encoding.Identity.{Identity}
 use Rattle.gs_tables_builtin.specs.declared.encoding.Partition.{Partition}
 use Rattle.gs_tables_builtin.specs.declared.encoding.RestForm.{RestForm}
 use Rattle.gs_tables_builtin.specs.declared.encoding.RestForm.TheVariants.{Digits, InPieces, Number, Characters}
-use Rattle.gs_tables_document.specs.declared.field.Field.{Field}
-use Rattle.gs_tables_document.specs.declared.field.Field.TheVariants.{Filter, Gcp, Rest, Piece, Total, Serial}
+use Rattle.gs_tables_document.specs.declared.document.Field.{Field}
+use Rattle.gs_tables_document.specs.declared.document.Field.TheVariants.{Filter, Gcp, Rest, Piece, Total, Serial}
 use Rattle.gs_tables_document.specs.Items.{FieldItem}
 
 -- ---- kinds

@@ -1,8 +1,8 @@
 -- Definitions for proofs and private functions, in addition to BuiltInAis.antt.
 use Rattle.std.specs.Prelude.{ℕ, Bool, List, ◌++◌, map}
 use Rattle.std.specs.Borrow.{Bor}
-use Rattle.gs_tables_builtin.specs.declared.ai_line.AiLine.{AiLine}
-use Rattle.gs_tables_builtin.specs.declared.ai_line.AiLine.TheVariants as line
+use Rattle.gs_tables_builtin.specs.declared.builtin_codes.AiLine.{AiLine}
+use Rattle.gs_tables_builtin.specs.declared.builtin_codes.AiLine.TheVariants as line
 use Rattle.gs_ai.specs.declared.part.Part.{Part}
 use Rattle.gs_ai.specs.declared.part.Role.{Role}
 use Rattle.gs_ai.specs.declared.part.Role.TheVariants as role

@@ -14,12 +14,12 @@ use Rattle.gs_tables_builtin.specs.declared.encoding.Identity.{Identity}
 use Rattle.gs_tables_builtin.specs.declared.encoding.Partition.{Partition}
 use Rattle.gs_tables_builtin.specs.declared.encoding.RestForm.{RestForm}
 use Rattle.gs_tables_builtin.specs.declared.encoding.RestForm.TheVariants.{Digits, InPieces, Number, Characters}
-use Rattle.gs_tables_builtin.specs.declared.encoding_line.EncodingLine.{EncodingLine}
-use Rattle.gs_tables_builtin.specs.declared.encoding_line.ItemLine.{ItemLine}
-use Rattle.gs_tables_builtin.specs.declared.encoding_line.ItemLine.TheVariants as item_line
-use Rattle.gs_tables_builtin.specs.declared.encoding_line.SerialLine.{SerialLine}
-use Rattle.gs_tables_builtin.specs.declared.encoding_line.SerialLine.TheVariants as serial_line
-use Rattle.gs_tables_document.specs.declared.field.Field.TheVariants.{Filter, Gcp, Serial}
+use Rattle.gs_tables_builtin.specs.declared.encoding.EncodingLine.{EncodingLine}
+use Rattle.gs_tables_builtin.specs.declared.encoding.ItemLine.{ItemLine}
+use Rattle.gs_tables_builtin.specs.declared.encoding.ItemLine.TheVariants as item_line
+use Rattle.gs_tables_builtin.specs.declared.encoding.SerialLine.{SerialLine}
+use Rattle.gs_tables_builtin.specs.declared.encoding.SerialLine.TheVariants as serial_line
+use Rattle.gs_tables_document.specs.declared.document.Field.TheVariants.{Filter, Gcp, Serial}
 use Rattle.gs_tables_document.specs.Items.{FieldItem}
 use Rattle.gs_tables_builtin.specs.BuiltIn.{kind, builtin_kinds, partitions, encoding, zeros, of_field, rest_in_bits, pieces_in_bits, pieces_in_text, in_text, behind_prefix, in_text_too, identity, encoded_rows, pure_rows}
 

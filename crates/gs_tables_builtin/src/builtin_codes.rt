@@ -1,9 +1,9 @@
 ghost use Rattle.std.specs.Prelude.{◌≡◌, ◌++◌, IfOk, OnOk, map};
-ghost use Rattle.gs_tables_builtin.specs.BuiltInAis.{additional_ais, agreed_ais, asset_ais, builtin_ais, company_ais, date_ais, item_ais, location_ais, party_ais, shipment_ais, variant_ais, weight_ais};
+ghost use Rattle.gs_tables_builtin.specs.BuiltInAis.{additional_ais, agreed_ais, asset_ais, builtin_ais, company_ais};
+ghost use Rattle.gs_tables_builtin.specs.BuiltInAis.{date_ais, item_ais, location_ais, party_ais, shipment_ais};
+ghost use Rattle.gs_tables_builtin.specs.BuiltInAis.{variant_ais, weight_ais};
 ghost use Rattle.gs_tables_builtin.specs.BuiltInAisSupport.{ai_row, goods_ais, other_ais, row_of, known};
 
-use crate::ai_line::AiLine;
-use crate::ai_line::AiLine::{Attribute, Key, Qualifier};
 use gs_ai::Part::{Date, Num, NumCheck, NumOpt, NumUpTo, Set, SetOpt, Zero};
 use gs_ai::{AiRow, Part, Role};
 use gs_chars::{List, Memory, Text};
@@ -315,4 +315,15 @@ pub fn builtin_ais(alloc: Global) -> Result<List<AiRow>, Memory>
     let mut rows = Vec::new(alloc);
     add_all(alloc, &mut rows)?;
     Ok(List::from_vec(rows))
+}
+
+/// A row of an application identifier, written in a line.
+#[derive(Clone, Copy)]
+pub(crate) enum AiLine<'a> {
+    /// An attribute: its code and its part.
+    Attribute(&'a [u8], Part),
+    /// A key qualifier: its AI, its part, and the value that means none.
+    Qualifier(&'a [u8], Part, &'a [u8]),
+    /// A key: its code, its parts, the codes of its qualifiers, and whether a link may have it with fewer digits.
+    Key(&'a [u8], &'a [Part], &'a [&'a [u8]], bool),
 }

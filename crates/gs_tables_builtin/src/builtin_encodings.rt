@@ -3,8 +3,9 @@ ghost use Rattle.gs_tables_builtin.specs.BuiltIn.{asset_encodings, document_enco
 ghost use Rattle.gs_tables_builtin.specs.BuiltInSupport.{encoding_known, identity_known, identity_with, item_known, serial_known};
 
 use crate::encoding::RestForm::{Characters, Digits, InPieces, Number};
-use crate::encoding::{Encoding, Identity, Partition, RestForm};
-use crate::encoding_line::{EncodingLine, ItemLine, SerialLine};
+use crate::encoding::{
+    Encoding, EncodingLine, Identity, ItemLine, Partition, RestForm, SerialLine,
+};
 use gs_chars::{List, Memory, Text};
 use gs_grammar::Item;
 use std::alloc::Global;

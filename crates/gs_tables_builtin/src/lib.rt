@@ -20,7 +20,6 @@
 //! - Of the GS1 General Specifications it has the application identifiers that are met most; tables/gs1.json has more.
 #![tactic(auto)]
 
-mod ai_line;
 mod builtin_codes;
 mod builtin_encodings;
 mod builtin_items;
@@ -28,7 +27,6 @@ mod builtin_kinds;
 mod builtin_options;
 mod builtin_rows;
 mod encoding;
-mod encoding_line;
 
 pub use builtin_codes::builtin_ais;
 pub use builtin_rows::builtin_document;

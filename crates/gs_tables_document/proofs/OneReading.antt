@@ -15,7 +15,7 @@ use Rattle.gs_tables_document.specs.declared.document.KindRow.{KindRow}
 use Rattle.gs_tables_document.specs.declared.document.OptionRow.{OptionRow}
 use Rattle.gs_json.specs.Members.{number_in, items_in, text_in, truth_in}
 use Rattle.gs_tables_document.specs.Documents.{Each, IsAiRow, IsDocument, IsItemAt, IsKindRow, IsOptionRow, IsPartOf, IsText, document_errors, is_second, of_bits, of_texts, part_in, text_of}
-use Rattle.gs_tables_document.specs.declared.read_mode.Reading.{Reading}
+use Rattle.gs_tables_document.specs.declared.plans.Reading.{Reading}
 use Rattle.gs_tables_document.specs.Items.{FieldItem, item_in, item_of}
 use Rattle.gs_tables_document.specs.Readings.{Holds, IsFormError, IsJson}
 use Rattle.gs_tables_document.proofs.PartWords.{one_part, one_role, some_part, some_role}

@@ -18,9 +18,9 @@ use Rattle.gs_ai.specs.Parts.{WritesNoRole, is_part, part_text, role_text}
 use Rattle.gs_tables_document.specs.declared.document.Document.{Document}
 use Rattle.gs_tables_document.specs.declared.document.KindRow.{KindRow}
 use Rattle.gs_tables_document.specs.declared.document.OptionRow.{OptionRow}
-use Rattle.gs_tables_document.specs.declared.level_name.LevelName.{LevelName}
-use Rattle.gs_tables_document.specs.declared.level_name.LevelName.TheVariants.{Binary, Tag, Pure}
-use Rattle.gs_tables_document.specs.declared.read_mode.Reading.{Reading}
+use Rattle.gs_tables_document.specs.declared.document.LevelName.{LevelName}
+use Rattle.gs_tables_document.specs.declared.document.LevelName.TheVariants.{Binary, Tag, Pure}
+use Rattle.gs_tables_document.specs.declared.plans.Reading.{Reading}
 use Rattle.gs_tables_document.specs.Items.{FieldItem, item_in, item_of}
 
 -- ---- the form of a document

@@ -8,8 +8,8 @@ use Rattle.gs_json.specs.Answers.{items_count}
 use Rattle.gs_bits.specs.Digits.{are_bit_digits}
 use Rattle.gs_grammar.specs.declared.item.Item.{Item}
 use Rattle.gs_grammar.specs.declared.item.Item.TheVariants.{Lit, Pad, Digits, Int, Esc, NumPad, Num, NumStr, Ascii7, Fill}
-use Rattle.gs_tables_document.specs.declared.field.Field.{Field}
-use Rattle.gs_tables_document.specs.declared.field.Field.TheVariants.{Filter, Gcp, Rest, Piece, Total, Serial}
+use Rattle.gs_tables_document.specs.declared.document.Field.{Field}
+use Rattle.gs_tables_document.specs.declared.document.Field.TheVariants.{Filter, Gcp, Rest, Piece, Total, Serial}
 use Rattle.gs_tables_document.specs.declared.error.ItemFault.{ItemFault}
 use Rattle.gs_tables_document.specs.declared.error.ItemFault.TheVariants.{Bad, Memory}
 

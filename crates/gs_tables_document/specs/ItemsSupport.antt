@@ -2,7 +2,7 @@
 use Rattle.std.specs.Prelude.{ℕ, ◌+◌, ◌==◌, if◌then◌else◌, List, Option, Some, None, option_map, option_and_then}
 use Rattle.serde_json.specs.Data.{Data}
 use Rattle.gs_json.specs.Answers.{items_count}
-use Rattle.gs_tables_document.specs.declared.field.Field.{Field}
+use Rattle.gs_tables_document.specs.declared.document.Field.{Field}
 use Rattle.gs_tables_document.specs.Items.{text_arg, field_arg, byte_arg}
 
 -- a count is this one

@@ -1,4 +1,4 @@
-use crate::level_name::LevelName;
+use crate::document::LevelName;
 use gs_ai::AiFault;
 use gs_chars::{Memory, Text};
 use gs_json::JsonFault;

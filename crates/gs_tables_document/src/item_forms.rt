@@ -5,7 +5,7 @@ ghost use Rattle.gs_tables_document.specs.ItemsSupport.{literal_text};
 
 use crate::document::FieldItem;
 use crate::error::ItemFault;
-use crate::item_args::{
+use crate::items::{
     bits_of, byte_arg, field_arg, must_have, number_arg, short_arg, text_arg, two_bytes,
 };
 use gs_chars::Text;

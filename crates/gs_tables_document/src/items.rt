@@ -1,13 +1,19 @@
 ghost use Rattle.serde_json.specs.View.{view};
-ghost use Rattle.gs_tables_document.specs.Items.{Reads, bit_item, item_of, text_item};
+ghost use Rattle.gs_tables_document.specs.Items.{Reads, bit_item, item_of, text_item, bits_of, byte_arg, number_arg};
+ghost use Rattle.gs_tables_document.specs.Items.{short_arg, text_arg};
+ghost use Rattle.std.specs.Prelude.{◌≡◌, ◌<◌, ◌-◌, IfOk, map, option_map};
+ghost use Rattle.gs_json.specs.Answers.{items_count};
+ghost use Rattle.gs_tables_document.specs.ItemsSupport.{exactly, field_of_sized, two_bytes};
 
-use crate::document::FieldItem;
+use crate::document::{Field, FieldItem};
 use crate::error::ItemFault;
-use crate::item_args::text_arg;
 use crate::item_forms::{
     read_ascii7, read_bits, read_digits, read_esc, read_fill, read_int, read_literal, read_num,
     read_numpad, read_numstr, read_pad,
 };
+use crate::plans::items_len;
+use gs_bits::are_bit_digits;
+use gs_chars::{Memory, Text};
 use gs_json::Node;
 use serde_json::Value;
 use std::alloc::Global;
@@ -84,4 +90,101 @@ fn read_bit_item(alloc: Global, item: &Value, name: &[u8]) -> Result<FieldItem, 
     } else {
         Err(ItemFault::Bad)
     }
+}
+
+/// Returns whether an array has that many parts.
+pub(crate) fn must_have(item: &Value, count: usize) -> Option<()>
+    ensures { result ≡ exactly count (items_count (view item.now)) }
+{
+    if items_len(item) == count {
+        Some(())
+    } else {
+        None
+    }
+}
+
+/// Returns the text at a place of an array.
+pub(crate) fn text_arg(item: &Value, i: usize) -> Option<&str>
+    ensures { option_map (λ text. text.now) result ≡ text_arg i (view item.now) }
+{
+    match item.get(i) {
+        Some(part) => part.as_str(),
+        None => None,
+    }
+}
+
+/// Returns the number at a place of an array.
+pub(crate) fn number_arg(item: &Value, i: usize) -> Option<u64>
+    ensures { result ≡ number_arg i (view item.now) }
+{
+    match item.get(i) {
+        Some(part) => part.as_u64(),
+        None => None,
+    }
+}
+
+/// Returns the number below 256 at a place of an array.
+pub(crate) fn byte_arg(item: &Value, i: usize) -> Option<u8>
+    ensures { result ≡ byte_arg i (view item.now) }
+{
+    match number_arg(item, i) {
+        Some(number) if number < 256 => Some(number as u8),
+        _ => None,
+    }
+}
+
+/// Returns the number below 65,536 at a place of an array.
+pub(crate) fn short_arg(item: &Value, i: usize) -> Option<u16>
+    ensures { result ≡ short_arg i (view item.now) }
+{
+    match number_arg(item, i) {
+        Some(number) if number < 65_536 => Some(number as u16),
+        _ => None,
+    }
+}
+
+/// Returns the numbers below 256 at a place of an array and the next.
+pub(crate) fn two_bytes(item: &Value, i: usize) -> Option<(u8, u8)>
+    requires { i < 4 }
+    ensures { result ≡ two_bytes i (view item.now) }
+{
+    match (byte_arg(item, i), byte_arg(item, i + 1)) {
+        (Some(a), Some(b)) => Some((a, b)),
+        _ => None,
+    }
+}
+
+/// Returns the field that the second part of an array of that many parts names.
+pub(crate) fn field_arg(item: &Value, count: usize) -> Option<Field>
+    ensures { result ≡ field_of_sized count (view item.now) }
+{
+    must_have(item, count)?;
+    match text_arg(item, 1) {
+        Some(name) => Field::read(name.as_bytes()),
+        None => None,
+    }
+}
+
+/// Returns the bits that a text of the digits 0 and 1 writes.
+pub(crate) fn bits_of(alloc: Global, text: &[u8]) -> Result<Text, ItemFault>
+    ensures { Reads result (bits_of text.now) }
+{
+    if !are_bit_digits(text) {
+        return Err(ItemFault::Bad);
+    }
+    match bits_of_digits(alloc, text) {
+        Ok(bits) => Ok(Text::from_vec(bits)),
+        Err(Memory) => Err(ItemFault::Memory),
+    }
+}
+
+/// Returns the bits of digits 0 and 1.
+fn bits_of_digits(alloc: Global, text: &[u8]) -> Result<Vec<u8>, Memory>
+    ensures { IfOk result (λ bits. bits.items ≡ map (λ c. c - 48) text.now) }
+{
+    let mut bits = Vec::new(alloc);
+    for c in text {
+        bits.push(c.saturating_sub(b'0'))?;
+    }
+    Ok(bits)
 }

@@ -22,28 +22,18 @@
 
 mod document;
 mod error;
-mod field;
-mod item_args;
 mod item_forms;
 mod items;
-mod kind;
 mod laws;
-mod level_name;
-mod limits;
-mod members;
-mod opt_info;
 mod plans;
-mod read_mode;
 mod reader;
 mod rows;
 
-pub use document::{Document, FieldItem, KindRow, OptionRow};
+pub use document::{
+    Document, Field, FieldItem, Kind, KindRow, LevelName, MOST_ITEMS, MOST_KINDS, MOST_ROWS,
+    OptInfo, OptionRow, SerialAt,
+};
 pub use error::{ItemFault, LimitName, LoadFault};
-pub use field::Field;
 pub use items::read_item;
-pub use kind::{Kind, SerialAt};
 pub use laws::bytes_have_one_reading;
-pub use level_name::LevelName;
-pub use limits::{MOST_ITEMS, MOST_KINDS, MOST_ROWS};
-pub use opt_info::OptInfo;
 pub use reader::read_document;

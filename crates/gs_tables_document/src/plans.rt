@@ -1,8 +1,12 @@
 ghost use Rattle.std.specs.Prelude.{◌≡◌, IfOk};
-ghost use Rattle.gs_tables_document.specs.Documents.{ai_plan, document_plan, kind_plan, option_plan};
+ghost use Rattle.gs_tables_document.specs.Documents.{ai_plan, document_plan, kind_plan, option_plan, text_of};
+ghost use Rattle.serde_json.specs.View.{view};
+ghost use Rattle.gs_json.specs.Answers.{items_count};
+ghost use Rattle.gs_json.specs.Members.{text_in};
 
-use gs_chars::{List, Memory};
-use gs_json::{Entry, Sort, plan_of};
+use gs_chars::{List, Memory, Text};
+use gs_json::{Entry, Sort, items_of, plan_of, text_in};
+use serde_json::Value;
 use std::alloc::Global;
 
 /// Returns the members of the document.
@@ -79,4 +83,35 @@ pub(crate) fn option_plan(alloc: Global) -> Result<List<Entry>, Memory>
             (b"items", true, Sort::Arrays),
         ],
     )
+}
+
+/// How a part of a document is read.
+#[derive(Clone, Copy)]
+pub struct Reading {
+    /// Whether the items are those of a bit level.
+    pub bits: bool,
+    /// Whether the document is of version 2. It then may have the part `n..K?`, the items `digits` and `numstr`, and the fields
+    /// `piece` and `total`.
+    pub second: bool,
+}
+
+/// Returns the text of this value, and the empty text if it is not a text.
+pub(crate) fn str_of(value: &Value) -> &str
+    ensures { result.now ≡ text_of (view value.now) }
+{
+    value.as_str().unwrap_or("")
+}
+
+/// Returns a copy of the text of the named member, and of the empty text if there is none.
+pub(crate) fn copy_in(alloc: Global, object: &Value, name: &str) -> Result<Text, Memory>
+    ensures { IfOk result (λ text. text ≡ text_in name.now (view object.now)) }
+{
+    Text::from_bytes(alloc, text_in(object, name).as_bytes())
+}
+
+/// Returns the number of items of an array, and 0 if the value is not an array.
+pub(crate) fn items_len(array: &Value) -> usize
+    ensures { result ≡ items_count (view array.now) }
+{
+    items_of(array).len()
 }

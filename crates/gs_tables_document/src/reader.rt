@@ -10,8 +10,7 @@ ghost use Rattle.gs_tables_document.specs.ReadingsSupport.{of_json};
 
 use crate::document::{Document, OptionRow};
 use crate::error::LoadFault;
-use crate::plans::{ai_plan, document_plan, kind_plan, option_plan};
-use crate::read_mode::Reading;
+use crate::plans::{Reading, ai_plan, document_plan, kind_plan, option_plan};
 use crate::rows::read_rows;
 use gs_chars::{List, Memory};
 use gs_json::{Doc, Entry, JsonFault, Node, number_in};

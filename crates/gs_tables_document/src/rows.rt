@@ -5,12 +5,10 @@ ghost use Rattle.gs_tables_document.specs.Documents.{Each, IsRole, part_in};
 ghost use Rattle.gs_tables_document.specs.Items.{is_first_field, is_first_item, item_in};
 ghost use Rattle.gs_tables_document.specs.DocumentsSupport.{AreAiLists};
 
-use crate::document::{FieldItem, KindRow, OptionRow};
+use crate::document::{Field, FieldItem, KindRow, OptionRow};
 use crate::error::ItemFault;
-use crate::field::Field;
 use crate::items::read_value;
-use crate::members::{copy_in, str_of};
-use crate::read_mode::Reading;
+use crate::plans::{Reading, copy_in, str_of};
 use gs_ai::{AiRow, Part, Role};
 use gs_chars::{List, Memory, Text};
 use gs_grammar::Item;
@@ -21,7 +19,7 @@ use std::alloc::Global;
 /// A type that a part of a document is read as.
 pub(crate) trait Row: Drop {
     ghost use Rattle.serde_json.specs.Data.{Data};
-    ghost use Rattle.gs_tables_document.specs.declared.read_mode.Reading.{Reading};
+    ghost use Rattle.gs_tables_document.specs.declared.plans.Reading.{Reading};
 
     /// The last argument is the row that the part is read as.
     ghost reads: { Reading → Data → Self → Type 0 };

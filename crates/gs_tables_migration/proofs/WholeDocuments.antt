@@ -18,7 +18,7 @@ use Rattle.gs_tables_document.specs.Items.{FieldItem, item_in, item_of}
 use Rattle.gs_tables_document.specs.declared.document.Document.{Document}
 use Rattle.gs_tables_document.specs.declared.document.KindRow.{KindRow}
 use Rattle.gs_tables_document.specs.declared.document.OptionRow.{OptionRow}
-use Rattle.gs_tables_document.specs.declared.read_mode.Reading.{Reading}
+use Rattle.gs_tables_document.specs.declared.plans.Reading.{Reading}
 use Rattle.gs_tables_migration.specs.Migrations.{IsKnown, has_items}
 use Rattle.gs_tables_migration.proofs.SortedTrees.{HaveSorted, IsSorted, sorted_member}
 use Rattle.gs_tables_migration.proofs.WholeItems.{item_whole}

@@ -17,9 +17,9 @@ use Rattle.gs_grammar.proofs.DecidedWords.{each_counted}
 use Rattle.gs_grammar.proofs.OneReading.{one_reading}
 use Rattle.gs_ident.specs.Elements.{Elements}
 use Rattle.gs_ident.specs.Links.{canonical_link}
-use Rattle.gs_tables_document.specs.declared.level_name.LevelName.{LevelName}
-use Rattle.gs_tables_document.specs.declared.level_name.LevelName.TheVariants as level
-use Rattle.gs_tables_document.specs.declared.opt_info.OptInfo.{OptInfo}
+use Rattle.gs_tables_document.specs.declared.document.LevelName.{LevelName}
+use Rattle.gs_tables_document.specs.declared.document.LevelName.TheVariants as level
+use Rattle.gs_tables_document.specs.declared.document.OptInfo.{OptInfo}
 use Rattle.gs_tables.specs.Judgements.{IsLoaded}
 use Rattle.gs_tables.specs.Tables.{IsShaped, TableRows, level_rows}
 use Rattle.gs_epc.specs.declared.epc.Epc.{Epc}
@@ -32,7 +32,7 @@ use Rattle.gs_epc.proofs.KeptLaws.{fit_kind}
 use Rattle.gs_epc.proofs.ReadingFacts.{hex_answer, of_set, said_of, says}
 use Rattle.gs_translate.specs.declared.form.Form.{Form}
 use Rattle.gs_translate.specs.declared.form.Form.TheVariants as form
-use Rattle.gs_translate.specs.declared.meaning.Meaning.{Meaning}
+use Rattle.gs_translate.specs.declared.reader.Meaning.{Meaning}
 use Rattle.gs_translate.specs.declared.reason.Reason.TheVariants.{Epc as NoEpc, Long}
 use Rattle.gs_translate.specs.Answers.{IsAnswer, IsCanonical}
 use Rattle.gs_translate.specs.Conditions.{AsksForOne, AsksForSome}

@@ -2,8 +2,8 @@
 use Rattle.std.proofs.Common.{◌≡◌, ℕ, List, Some, refl}
 use Rattle.std.specs.Prelude.{Result, Ok, Err}
 use Rattle.gs_bits.specs.HexText.{bits_of_hex}
-use Rattle.gs_tables_document.specs.declared.level_name.LevelName.{LevelName}
-use Rattle.gs_tables_document.specs.declared.level_name.LevelName.TheVariants as level
+use Rattle.gs_tables_document.specs.declared.document.LevelName.{LevelName}
+use Rattle.gs_tables_document.specs.declared.document.LevelName.TheVariants as level
 use Rattle.gs_tables.specs.Tables.{IsShaped, TableRows}
 use Rattle.gs_epc.specs.declared.epc.Epc.{Epc}
 use Rattle.gs_epc.specs.declared.error.EpcFault.{EpcFault}
@@ -12,7 +12,7 @@ use Rattle.gs_epc.specs.Layout.{IsLaidOut}
 use Rattle.gs_epc.specs.Readings.{ReadsAs, ReadsHex}
 use Rattle.gs_epc.specs.Writes.{ReadsText}
 use Rattle.gs_ident.specs.Elements.{Elements}
-use Rattle.gs_translate.specs.declared.meaning.Meaning.{Meaning}
+use Rattle.gs_translate.specs.declared.reader.Meaning.{Meaning}
 use Rattle.gs_translate.specs.declared.reason.Reason.{Reason}
 use Rattle.gs_translate.specs.declared.reason.Reason.TheVariants.{Epc as NoEpc}
 use Rattle.gs_translate.specs.Meanings.{Means, MeansEpc, epc_meaning}

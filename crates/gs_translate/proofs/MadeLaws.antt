@@ -10,8 +10,8 @@ use Rattle.gs_dlink.specs.Answers.{IsLink, by_authority, by_key_path, is_rooted,
 use Rattle.gs_dlink.specs.Paths.{key_path}
 use Rattle.gs_dlink.specs.Uris.{Written, authority_end, path_of, query_of, query_pairs, segments}
 use Rattle.gs_dlink.proofs.JudgementLemmas.{written_in_order}
-use Rattle.gs_tables_document.specs.declared.level_name.LevelName.{LevelName}
-use Rattle.gs_tables_document.specs.declared.level_name.LevelName.TheVariants as level
+use Rattle.gs_tables_document.specs.declared.document.LevelName.{LevelName}
+use Rattle.gs_tables_document.specs.declared.document.LevelName.TheVariants as level
 use Rattle.gs_element.specs.BracketedTexts.{IsBracketed, IsBracketedElement}
 use Rattle.gs_element.specs.Joins.{Form as ElementForm, Joined}
 use Rattle.gs_element.specs.Raw.{IsRaw, IsRawElement, body_of}
@@ -32,7 +32,7 @@ use Rattle.gs_ident.proofs.IdentityLemmas.{made_with}
 use Rattle.gs_tables.specs.Tables.{IsShaped, TableRows}
 use Rattle.gs_translate.specs.declared.form.Form.{Form}
 use Rattle.gs_translate.specs.declared.form.Form.TheVariants as form
-use Rattle.gs_translate.specs.declared.meaning.Meaning.{Meaning}
+use Rattle.gs_translate.specs.declared.reader.Meaning.{Meaning}
 use Rattle.gs_translate.specs.declared.reason.Reason.{Reason}
 use Rattle.gs_translate.specs.declared.reason.Reason.TheVariants.{Epc as NoEpc, Ident}
 use Rattle.gs_translate.specs.Meanings.{IsIdentified, IsRead, Means, MeansEpc, ReadsBracketed, ReadsRaw, epc_meaning, identity_meaning, link_reason, short, too_long}

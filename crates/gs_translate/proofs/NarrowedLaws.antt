@@ -9,8 +9,8 @@ use Rattle.gs_ai.specs.Values.{has_code}
 use Rattle.gs_ai.proofs.RowLemmas.{and_left, and_right}
 use Rattle.gs_ai.proofs.TableLemmas.{key_by_row}
 use Rattle.gs_chars.proofs.TruthsAndLists.{equal_bytes, false_from_not, same_bytes, true_or_false}
-use Rattle.gs_tables_document.specs.declared.kind.SerialAt.{SerialAt}
-use Rattle.gs_tables_document.specs.declared.kind.SerialAt.TheVariants.{Nowhere, Tail, Ai}
+use Rattle.gs_tables_document.specs.declared.document.SerialAt.{SerialAt}
+use Rattle.gs_tables_document.specs.declared.document.SerialAt.TheVariants.{Nowhere, Tail, Ai}
 use Rattle.gs_ident.proofs.KeyPairs.{IsKeyPair, alone_made, both_made, is_key_pair}
 use Rattle.gs_ident.specs.Elements.{Elements, is_coded, key_alone, pairs_of, with_qualifier}
 use Rattle.gs_ident.specs.Identities.{IsInOrder, IsMadeWith, counted, elements_of, identity_of_pairs, listed, pair_with, stands_for_none}

@@ -21,7 +21,7 @@ use Rattle.gs_element.proofs.JoinLemmas.{answered, no_error, one_error, one_list
 use Rattle.gs_element.proofs.RawLemmas.{raw_known}
 use Rattle.gs_ident.specs.Identities.{identity_of_pairs}
 use Rattle.gs_tables.specs.Tables.{IsShaped, TableRows, row_rejections}
-use Rattle.gs_translate.specs.declared.meaning.Meaning.{Meaning}
+use Rattle.gs_translate.specs.declared.reader.Meaning.{Meaning}
 use Rattle.gs_translate.specs.declared.reason.Reason.{Reason}
 use Rattle.gs_translate.specs.declared.reason.Reason.TheVariants.{Element, NoKeyPath, NotHttp}
 use Rattle.gs_translate.specs.Meanings.{IsIdentified, OfElement, ReadsBracketed, ReadsRaw, link_reason}

@@ -3,7 +3,7 @@ use Rattle.std.proofs.Common.{◌≡◌, ℕ, Bool, true, false, List, Option, S
 use Rattle.std.specs.Prelude.{Result, codes}
 use Rattle.gs_ai.specs.declared.pair.Pair.{Pair}
 use Rattle.gs_dlink.proofs.WrittenLinks.{canonical_stem_ok, link_read}
-use Rattle.gs_tables_document.specs.declared.kind.Kind.{Kind}
+use Rattle.gs_tables_document.specs.declared.document.Kind.{Kind}
 use Rattle.gs_element.proofs.WritingLemmas.{bracketed_read, raw_read}
 use Rattle.gs_element.specs.BracketedTexts.{bracketed_text}
 use Rattle.gs_element.specs.Raw.{raw_text}
@@ -13,11 +13,11 @@ use Rattle.gs_ident.specs.Links.{canonical_link, spelled}
 use Rattle.gs_prefix.specs.declared.entry.PrefixEntry.{PrefixEntry}
 use Rattle.gs_tables.specs.Tables.{IsShaped, TableRows}
 use Rattle.gs_translate.specs.declared.form.Form.{Form}
-use Rattle.gs_translate.specs.declared.meaning.Meaning.{Meaning}
-use Rattle.gs_translate.specs.declared.options.Options.{Options}
+use Rattle.gs_translate.specs.declared.reader.Meaning.{Meaning}
+use Rattle.gs_translate.specs.declared.form.Options.{Options}
 use Rattle.gs_translate.specs.declared.reason.Reason.{Reason}
-use Rattle.gs_translate.specs.declared.target.Target.{Target}
-use Rattle.gs_translate.specs.declared.target.Target.TheVariants.{Hex, Tag, Pure, Raw, Bracketed, Link, Canon}
+use Rattle.gs_translate.specs.declared.form.Target.{Target}
+use Rattle.gs_translate.specs.declared.form.Target.TheVariants.{Hex, Tag, Pure, Raw, Bracketed, Link, Canon}
 use Rattle.gs_translate.specs.Meanings.{IsIdentified, IsRead, ReadsBracketed, ReadsRaw, identity_meaning, link_reason}
 use Rattle.gs_translate.specs.MeaningsSupport.{ReadsLink, identified}
 use Rattle.gs_translate.specs.Steps.{Then, goes_on, rejects, reworded}

@@ -7,10 +7,10 @@ use Rattle.gs_prefix.specs.declared.entry.PrefixEntry.{PrefixEntry}
 use Rattle.gs_tables.specs.Tables.{IsShaped, TableRows}
 use Rattle.gs_translate.specs.declared.form.Form.{Form}
 use Rattle.gs_translate.specs.declared.form.Form.TheVariants as form
-use Rattle.gs_translate.specs.declared.meaning.Meaning.{Meaning}
-use Rattle.gs_translate.specs.declared.options.Options.{Options}
+use Rattle.gs_translate.specs.declared.reader.Meaning.{Meaning}
+use Rattle.gs_translate.specs.declared.form.Options.{Options}
 use Rattle.gs_translate.specs.declared.reason.Reason.{Reason}
-use Rattle.gs_translate.specs.declared.target.Target.TheVariants.{Canon}
+use Rattle.gs_translate.specs.declared.form.Target.TheVariants.{Canon}
 use Rattle.gs_translate.specs.Answers.{IsAnswer, IsCanonical}
 use Rattle.gs_translate.specs.Conditions.{AsksForOne}
 use Rattle.gs_translate.specs.Meanings.{IsRead}

@@ -3,17 +3,17 @@ use Rattle.std.proofs.Common.{◌≡◌, ◌⊎◌, ℕ, zero, suc, ◌<◌, Boo
 use Rattle.std.specs.Prelude.{◌≢◌, Result}
 use Rattle.std.proofs.lemmas.Bool.{cases_eq}
 use Rattle.std.proofs.lemmas.Option.{slice_get_within}
-use Rattle.gs_tables_document.specs.declared.field.Field.{Field}
-use Rattle.gs_tables_document.specs.declared.level_name.LevelName.{LevelName}
-use Rattle.gs_tables_document.specs.declared.opt_info.OptInfo.{OptInfo}
+use Rattle.gs_tables_document.specs.declared.document.Field.{Field}
+use Rattle.gs_tables_document.specs.declared.document.LevelName.{LevelName}
+use Rattle.gs_tables_document.specs.declared.document.OptInfo.{OptInfo}
 use Rattle.gs_grammar.specs.declared.error.Why.{Why}
 use Rattle.gs_grammar.specs.declared.error.Why.TheVariants.{Length}
 use Rattle.gs_grammar.specs.declared.item.Item.{Item}
 use Rattle.gs_grammar.specs.WrittenWords.{AreHeldBefore, IsFirstRejection, why_not, written}
 use Rattle.gs_tables.specs.Tables.{TableRows, level_rows}
 use Rattle.gs_epc.specs.declared.epc.Epc.{Epc}
-use Rattle.gs_epc.specs.declared.write_error.EpcWriteFault.{EpcWriteFault}
-use Rattle.gs_epc.specs.declared.write_error.EpcWriteFault.TheVariants as write
+use Rattle.gs_epc.specs.declared.error.EpcWriteFault.{EpcWriteFault}
+use Rattle.gs_epc.specs.declared.error.EpcWriteFault.TheVariants as write
 use Rattle.gs_epc.specs.Candidates.{Candidate, is_candidate, left_out, values_for}
 use Rattle.gs_epc.specs.Epcs.{options_of}
 use Rattle.gs_epc.specs.Writes.{HoldsAll, NoneHoldsBefore, Rejects, Writes, WritesAs, field_at, text_on}

@@ -12,11 +12,11 @@ use Rattle.gs_ai.specs.declared.row.AiRow.{AiRow}
 use Rattle.gs_ai.specs.Values.{has_code}
 use Rattle.gs_ai.proofs.RowLemmas.{and_left, and_right}
 use Rattle.gs_chars.proofs.TruthsAndLists.{equal_bytes, false_from_not, place_left, place_right, true_or_false}
-use Rattle.gs_tables_document.specs.declared.kind.Kind.{Kind}
-use Rattle.gs_tables_document.specs.declared.kind.SerialAt.{SerialAt}
-use Rattle.gs_tables_document.specs.declared.kind.SerialAt.TheVariants.{Nowhere, Tail, Ai}
-use Rattle.gs_tables_document.specs.declared.level_name.LevelName.{LevelName}
-use Rattle.gs_tables_document.specs.declared.level_name.LevelName.TheVariants as level
+use Rattle.gs_tables_document.specs.declared.document.Kind.{Kind}
+use Rattle.gs_tables_document.specs.declared.document.SerialAt.{SerialAt}
+use Rattle.gs_tables_document.specs.declared.document.SerialAt.TheVariants.{Nowhere, Tail, Ai}
+use Rattle.gs_tables_document.specs.declared.document.LevelName.{LevelName}
+use Rattle.gs_tables_document.specs.declared.document.LevelName.TheVariants as level
 use Rattle.gs_epc.specs.declared.epc.Epc.{Epc}
 use Rattle.gs_epc.specs.declared.error.EpcFault.{EpcFault}
 use Rattle.gs_epc.specs.declared.error.EpcFault.TheVariants.{Memory as NoRoom}
@@ -25,7 +25,7 @@ use Rattle.gs_epc.specs.Layout.{IsLaidOut, KeyFields}
 use Rattle.gs_epc.specs.Readings.{ReadsAs, ReadsHex}
 use Rattle.gs_epc.specs.KeyParts.{IsOfKind, epc_at, epc_of_key, take_apart}
 use Rattle.gs_epc.specs.Writes.{ReadsText, Writes, WritesAs, same_fields}
-use Rattle.gs_epc.specs.declared.write_error.EpcWriteFault.TheVariants as write
+use Rattle.gs_epc.specs.declared.error.EpcWriteFault.TheVariants as write
 use Rattle.gs_epc.proofs.LaidLaws.{laid_again}
 use Rattle.gs_epc.proofs.LaidSets.{no_pairs}
 use Rattle.gs_epc.proofs.ReadLaws.{read_back}
@@ -39,14 +39,14 @@ use Rattle.gs_prefix.specs.declared.entry.PrefixEntry.{PrefixEntry}
 use Rattle.gs_tables.specs.Judgements.{IsLoaded}
 use Rattle.gs_tables.specs.KeptRules.{KeptKind}
 use Rattle.gs_tables.specs.Tables.{IsShaped, TableRows}
-use Rattle.gs_translate.specs.declared.field_name.FieldName.TheVariants.{Filter, Serial}
+use Rattle.gs_translate.specs.declared.form.FieldName.TheVariants.{Filter, Serial}
 use Rattle.gs_translate.specs.declared.form.Form.{Form}
-use Rattle.gs_translate.specs.declared.meaning.Meaning.{Meaning}
-use Rattle.gs_translate.specs.declared.options.Options.{Options}
+use Rattle.gs_translate.specs.declared.reader.Meaning.{Meaning}
+use Rattle.gs_translate.specs.declared.form.Options.{Options}
 use Rattle.gs_translate.specs.declared.reason.Reason.{Reason}
 use Rattle.gs_translate.specs.declared.reason.Reason.TheVariants.{Epc as NoEpc, Extra, Missing, NoKind}
-use Rattle.gs_translate.specs.declared.target.Target.{Target}
-use Rattle.gs_translate.specs.declared.target.Target.TheVariants.{Hex, Tag, Pure, Raw, Bracketed, Link, Canon}
+use Rattle.gs_translate.specs.declared.form.Target.{Target}
+use Rattle.gs_translate.specs.declared.form.Target.TheVariants.{Hex, Tag, Pure, Raw, Bracketed, Link, Canon}
 use Rattle.gs_translate.specs.Meanings.{IsRead, MeansEpc, epc_meaning}
 use Rattle.gs_translate.specs.Steps.{Reworded, Then, goes_on, rejects}
 use Rattle.gs_translate.specs.Targets.{FitsFilter, and_then, else_rejected, encoding_for, epc_for, extra_pair, filter_for, has_key, is_serial, kept, kind_for, lacks_filter, length_for, unless_extra, with_tag}

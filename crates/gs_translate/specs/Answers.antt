@@ -3,7 +3,7 @@ use Rattle.std.specs.Prelude.{◌≡◌, ℕ, List, Result, Ok}
 use Rattle.gs_ident.specs.Links.{canonical_link}
 use Rattle.gs_tables.specs.Tables.{TableRows}
 use Rattle.gs_translate.specs.declared.form.Form.{Form}
-use Rattle.gs_translate.specs.declared.meaning.Meaning.{Meaning}
+use Rattle.gs_translate.specs.declared.reader.Meaning.{Meaning}
 use Rattle.gs_translate.specs.declared.reason.Reason.{Reason}
 use Rattle.gs_translate.specs.Meanings.{IsRead}
 use Rattle.gs_translate.specs.Steps.{Then}

@@ -10,7 +10,7 @@ use Rattle.gs_epc.specs.declared.error.EpcFault.TheVariants.{Hex, NoReading, Mem
 use Rattle.gs_ident.specs.declared.errors.IdentFault.{IdentFault}
 use Rattle.gs_ident.specs.Elements.{Elements}
 use Rattle.gs_tables.specs.Tables.{TableRows}
-use Rattle.gs_translate.specs.declared.meaning.Meaning.{Meaning}
+use Rattle.gs_translate.specs.declared.reader.Meaning.{Meaning}
 use Rattle.gs_translate.specs.declared.reason.Reason.{Reason}
 use Rattle.gs_translate.specs.declared.reason.Reason.TheVariants.{Element, Epc as NoEpc, Ident, Memory as OutOfMemory}
 use Rattle.gs_translate.specs.Meanings.{identity_meaning, link_reason}

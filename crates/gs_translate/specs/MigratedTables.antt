@@ -3,9 +3,9 @@ use Rattle.std.specs.Prelude.{◌↔◌, ℕ, List, Result}
 use Rattle.gs_prefix.specs.declared.entry.PrefixEntry.{PrefixEntry}
 use Rattle.gs_tables.specs.Tables.{TableRows}
 use Rattle.gs_translate.specs.declared.form.Form.{Form}
-use Rattle.gs_translate.specs.declared.options.Options.{Options}
+use Rattle.gs_translate.specs.declared.form.Options.{Options}
 use Rattle.gs_translate.specs.declared.reason.Reason.{Reason}
-use Rattle.gs_translate.specs.declared.target.Target.{Target}
+use Rattle.gs_translate.specs.declared.form.Target.{Target}
 use Rattle.gs_translate.specs.Translations.{IsTranslation}
 
 -- trusted, own: each text has by both sets the same translations, whatever the prefixes, the options and the forms

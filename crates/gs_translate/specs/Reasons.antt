@@ -7,16 +7,16 @@ use Rattle.gs_ai.specs.declared.errors.ValueFault.{ValueFault}
 use Rattle.gs_ai.specs.declared.errors.ValueFault.TheVariants.{Unknown, Length, Char, Check, Date}
 use Rattle.gs_bits.specs.declared.errors.HexFault.{HexFault}
 use Rattle.gs_bits.specs.declared.errors.HexFault.TheVariants.{OddDigits, Full, BadDigit}
-use Rattle.gs_tables_document.specs.declared.field.Field.{Field}
-use Rattle.gs_tables_document.specs.declared.field.Field.TheVariants as field
+use Rattle.gs_tables_document.specs.declared.document.Field.{Field}
+use Rattle.gs_tables_document.specs.declared.document.Field.TheVariants as field
 use Rattle.gs_epc.specs.declared.error.EpcFault.{EpcFault}
 use Rattle.gs_epc.specs.declared.error.EpcFault.TheVariants.{Hex, NoReading, Memory}
 use Rattle.gs_grammar.specs.declared.error.Why.{Why}
 use Rattle.gs_grammar.specs.declared.error.Why.TheVariants as why
 use Rattle.gs_ident.specs.declared.errors.IdentFault.{IdentFault}
 use Rattle.gs_ident.specs.declared.errors.IdentFault.TheVariants as ident
-use Rattle.gs_translate.specs.declared.field_name.FieldName.{FieldName}
-use Rattle.gs_translate.specs.declared.field_name.FieldName.TheVariants as missing
+use Rattle.gs_translate.specs.declared.form.FieldName.{FieldName}
+use Rattle.gs_translate.specs.declared.form.FieldName.TheVariants as missing
 use Rattle.gs_translate.specs.declared.reason.Reason.{Reason}
 use Rattle.gs_translate.specs.declared.reason.Reason.TheVariants as reason
 

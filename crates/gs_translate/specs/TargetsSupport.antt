@@ -1,7 +1,7 @@
 -- Definitions for proofs and private functions, in addition to Targets.antt.
-use Rattle.gs_epc.specs.declared.write_error.FieldsFault.{FieldsFault}
-use Rattle.gs_epc.specs.declared.write_error.FieldsFault.TheVariants.{MissingSerial, Memory as NoMemory}
-use Rattle.gs_translate.specs.declared.field_name.FieldName.TheVariants.{Serial}
+use Rattle.gs_epc.specs.declared.error.FieldsFault.{FieldsFault}
+use Rattle.gs_epc.specs.declared.error.FieldsFault.TheVariants.{MissingSerial, Memory as NoMemory}
+use Rattle.gs_translate.specs.declared.form.FieldName.TheVariants.{Serial}
 use Rattle.gs_translate.specs.declared.reason.Reason.{Reason}
 use Rattle.gs_translate.specs.declared.reason.Reason.TheVariants.{Missing, Memory}
 

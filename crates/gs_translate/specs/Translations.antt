@@ -1,12 +1,12 @@
 -- The translation of a text: one spelling in the requested form, or the first reason why there is none.
 use Rattle.std.specs.Prelude.{◌≡◌, true, ℕ, List, Result, Ok}
 use Rattle.gs_dlink.specs.Stems.{stem_ok}
-use Rattle.gs_tables_document.specs.declared.level_name.LevelName.{LevelName}
-use Rattle.gs_tables_document.specs.declared.level_name.LevelName.TheVariants as level
+use Rattle.gs_tables_document.specs.declared.document.LevelName.{LevelName}
+use Rattle.gs_tables_document.specs.declared.document.LevelName.TheVariants as level
 use Rattle.gs_element.specs.BracketedTexts.{bracketed_text}
 use Rattle.gs_element.specs.Raw.{raw_text}
-use Rattle.gs_epc.specs.declared.write_error.EpcWriteFault.{EpcWriteFault}
-use Rattle.gs_epc.specs.declared.write_error.EpcWriteFault.TheVariants as write
+use Rattle.gs_epc.specs.declared.error.EpcWriteFault.{EpcWriteFault}
+use Rattle.gs_epc.specs.declared.error.EpcWriteFault.TheVariants as write
 use Rattle.gs_epc.specs.Writes.{WritesAs}
 use Rattle.gs_ident.specs.Elements.{Elements, pairs_of}
 use Rattle.gs_ident.specs.Links.{spelled}
@@ -14,12 +14,12 @@ use Rattle.gs_prefix.specs.declared.entry.PrefixEntry.{PrefixEntry}
 use Rattle.gs_tables.specs.Tables.{TableRows}
 use Rattle.gs_translate.specs.declared.form.Form.{Form}
 use Rattle.gs_translate.specs.declared.form.Form.TheVariants as form
-use Rattle.gs_translate.specs.declared.meaning.Meaning.{Meaning}
-use Rattle.gs_translate.specs.declared.options.Options.{Options}
+use Rattle.gs_translate.specs.declared.reader.Meaning.{Meaning}
+use Rattle.gs_translate.specs.declared.form.Options.{Options}
 use Rattle.gs_translate.specs.declared.reason.Reason.{Reason}
 use Rattle.gs_translate.specs.declared.reason.Reason.TheVariants.{NoOption, CannotHold, Memory}
-use Rattle.gs_translate.specs.declared.target.Target.{Target}
-use Rattle.gs_translate.specs.declared.target.Target.TheVariants.{Hex, Tag, Pure, Raw, Bracketed, Link, Canon}
+use Rattle.gs_translate.specs.declared.form.Target.{Target}
+use Rattle.gs_translate.specs.declared.form.Target.TheVariants.{Hex, Tag, Pure, Raw, Bracketed, Link, Canon}
 use Rattle.gs_translate.specs.Answers.{IsCanonical}
 use Rattle.gs_translate.specs.Meanings.{IsRead, Means}
 use Rattle.gs_translate.specs.Steps.{Reworded, Then}

@@ -1,7 +1,7 @@
 ghost use Rattle.std.specs.Prelude.{◌≡◌, ◌++◌, OnOk, codes};
 ghost use Rattle.gs_translate.specs.Reasons.{field_text, held_text, hold_text, missing_text};
 
-use crate::field_name::FieldName;
+use crate::form::FieldName;
 use crate::words::append_word;
 use gs_chars::Memory;
 use gs_grammar::Why;

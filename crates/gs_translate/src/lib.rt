@@ -26,42 +26,26 @@
 //!   keys: such a text names two things and is rejected.
 #![tactic(auto)]
 
-mod elements;
-mod field_name;
 mod form;
 mod hold_text;
 mod laws;
-mod meaning;
-mod migration_laws;
-mod narrower;
-mod options;
 mod reader;
 mod reason;
 mod reason_texts;
 mod recoding;
 mod spelling;
 mod tag_fields;
-mod target;
-mod translation;
-mod translation_laws;
 mod translator;
 mod words;
-mod write_reasons;
 
-pub use field_name::FieldName;
-pub use form::Form;
-pub use laws::{each_text_has_one_answer, each_text_has_one_meaning, loaded_tables_suit_each_form};
-pub use meaning::Meaning;
-pub use migration_laws::migrated_tables_translate_alike;
-pub use options::Options;
-pub use reader::read;
+pub use form::{FieldName, Form, Options, Target};
+pub use laws::{
+    a_spelling_means_the_same, canonical_links_are_translations, each_text_has_one_answer,
+    each_text_has_one_meaning, each_text_has_one_translation, equal_links_name_the_same,
+    loaded_tables_suit_each_form, migrated_tables_translate_alike,
+};
+pub use reader::{Meaning, read};
 pub use reason::Reason;
 pub use reason_texts::{append_ident, append_reason, reason_text};
-pub use target::Target;
-pub use translation::translate;
-pub use translation_laws::{
-    a_spelling_means_the_same, canonical_links_are_translations, each_text_has_one_translation,
-    equal_links_name_the_same,
-};
-pub use translator::Translator;
+pub use translator::{Translator, translate};
 pub use words::{append_number, append_numbered, append_word};

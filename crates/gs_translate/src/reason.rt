@@ -1,9 +1,9 @@
-use crate::field_name::FieldName;
+use crate::form::FieldName;
 use gs_ai::ElementFault;
 use gs_chars::{Memory, Text};
 use gs_dlink::LinkFault;
 use gs_element::RawFault;
-use gs_epc::EpcFault;
+use gs_epc::{EpcFault, EpcWriteFault, FieldsFault};
 use gs_grammar::Why;
 use gs_ident::IdentFault;
 use gs_tables::Field;
@@ -88,6 +88,35 @@ impl From<LinkFault> for Reason {
             LinkFault::NoKeyPath => Reason::NoKeyPath,
             LinkFault::Element(error) => Reason::Element(error),
             LinkFault::Memory => Reason::Memory,
+        }
+    }
+}
+
+impl From<FieldsFault> for Reason {
+    ghost use Rattle.std.specs.Prelude.{◌≡◌};
+    ghost use Rattle.gs_translate.specs.TargetsSupport.{fields_reason};
+
+    ghost from_gives = { λ error reason. reason ≡ fields_reason error };
+
+    fn from(error: FieldsFault) -> Reason {
+        match error {
+            FieldsFault::MissingSerial => Reason::Missing(FieldName::Serial),
+            FieldsFault::Memory => Reason::Memory,
+        }
+    }
+}
+
+impl From<EpcWriteFault> for Reason {
+    ghost use Rattle.std.specs.Prelude.{◌≡◌};
+    ghost use Rattle.gs_translate.specs.Translations.{write_reason};
+
+    ghost from_gives = { λ error reason. reason ≡ write_reason error };
+
+    fn from(error: EpcWriteFault) -> Reason {
+        match error {
+            EpcWriteFault::NoOption => Reason::NoOption,
+            EpcWriteFault::CannotHold(field, why) => Reason::CannotHold(field, why),
+            EpcWriteFault::Memory => Reason::Memory,
         }
     }
 }

@@ -1,5 +1,5 @@
 ghost use Rattle.std.specs.Prelude.{◌≡◌, IfOk, IfSome, List, false};
-ghost use Rattle.gs_epc.specs.declared.write_error.EpcWriteFault.TheVariants as write;
+ghost use Rattle.gs_epc.specs.declared.error.EpcWriteFault.TheVariants as write;
 ghost use Rattle.gs_epc.specs.Candidates.{HasFilterOn};
 ghost use Rattle.gs_epc.specs.Writes.{WritesAs};
 ghost use Rattle.gs_ident.specs.Elements.{Elements};
@@ -10,12 +10,10 @@ ghost use Rattle.gs_translate.specs.Steps.{AppendsText, Reworded, Then, UnlessMe
 ghost use Rattle.gs_translate.specs.Targets.{FitsFilter, with_tag};
 ghost use Rattle.gs_translate.specs.Translations.{IsTranslation, write_reason};
 
-use crate::form::Form;
-use crate::options::Options;
+use crate::form::{Form, Options, Target};
 use crate::reason::Reason;
 use crate::spelling::write_epc;
 use crate::tag_fields::retagged;
-use crate::target::Target;
 use crate::words::append_word;
 use gs_chars::{LONGEST_TEXT, Text};
 use gs_epc::{EpcReading, reading_of};

@@ -1,5 +1,5 @@
 ghost use Rattle.std.specs.Prelude.{◌≡◌};
-ghost use Rattle.gs_epc.specs.declared.write_error.EpcWriteFault.TheVariants as write;
+ghost use Rattle.gs_epc.specs.declared.error.EpcWriteFault.TheVariants as write;
 ghost use Rattle.gs_epc.specs.Candidates.{HasFilterOn};
 ghost use Rattle.gs_epc.specs.Writes.{WritesAs};
 ghost use Rattle.gs_ident.specs.Identities.{IsMadeWith};
@@ -7,11 +7,10 @@ ghost use Rattle.gs_translate.specs.Steps.{AppendsText, Reworded, UnlessMemory};
 ghost use Rattle.gs_translate.specs.Targets.{FitsFilter};
 ghost use Rattle.gs_translate.specs.Translations.{AreInOrder, IsOfLevel, IsSpelling, write_reason};
 
-use crate::meaning::Meaning;
-use crate::options::Options;
+use crate::form::{Options, Target};
+use crate::reader::Meaning;
 use crate::reason::Reason;
 use crate::tag_fields::epc_for;
-use crate::target::Target;
 use crate::words::append_word;
 use gs_chars::Text;
 use gs_dlink::append_link;

@@ -8,9 +8,8 @@ ghost use Rattle.gs_translate.specs.Meanings.{epc_meaning};
 ghost use Rattle.gs_translate.specs.Steps.{UnlessMemory};
 ghost use Rattle.gs_translate.specs.Targets.{FitsFilter, digits_from_prefix, epc_for, extra_pair, has_key, has_option, is_option_of, is_serial, kind_for, known_length, lacks_filter, length_for, with_tag};
 
-use crate::field_name::FieldName;
-use crate::meaning::Meaning;
-use crate::options::Options;
+use crate::form::{FieldName, Options};
+use crate::reader::Meaning;
 use crate::reason::Reason;
 use gs_ai::Pair;
 use gs_chars::count_digits;

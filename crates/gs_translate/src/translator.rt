@@ -1,17 +1,19 @@
-ghost use Rattle.std.specs.Prelude.{◌≡◌, [], IfOk};
+ghost use Rattle.std.specs.Prelude.{◌≡◌, [], IfOk, find};
 ghost use Rattle.gs_translate.specs.Steps.{AppendsText, UnlessMemory};
-ghost use Rattle.gs_translate.specs.Translations.{IsTranslated};
+ghost use Rattle.gs_translate.specs.Translations.{IsTranslated, AreInOrder, IsTranslation};
+ghost use Rattle.std.specs.Option.{option_copied};
+ghost use Rattle.gs_ident.specs.Identities.{IsMadeWith};
+ghost use Rattle.gs_translate.specs.Targets.{has_key, key_and_serial, narrowed};
 
-use crate::form::Form;
-use crate::options::Options;
+use crate::form::{Form, Options, Target};
 use crate::reader::read;
 use crate::reason::Reason;
 use crate::recoding::{append_recoded, levels_of};
 use crate::spelling::append_spelling;
-use crate::target::Target;
 use gs_chars::{Memory, Text};
+use gs_ident::{Identity, Pair};
 use gs_prefix::PrefixList;
-use gs_tables::TableSet;
+use gs_tables::{Kind, SerialAt, TableSet};
 use std::alloc::Global;
 use std::marker::Model;
 
@@ -105,5 +107,71 @@ impl Translator<'_> {
         let mut out = new_text(alloc)?;
         self.append(alloc, text, &mut out)?;
         Ok(Text::from_vec(out))
+    }
+}
+
+/// Returns the translation of a text of a form to the requested form: the one spelling of the identity that it names, or the
+/// first reason why it is rejected. With `keys_only` the identity keeps only its key, and its serial if that is a separate
+/// element.
+///
+/// The reasons of `read` come first. Element strings, links and canonical links are then written of every identity. For bits
+/// and EPC URIs, returns these in order. `NoKind`: no kind of the tables has the key. `Extra`: a pair is neither the key nor
+/// its serial; names the first. `Missing(Gcp)`: neither the text nor the options nor the list, in this order, give the company
+/// prefix length. `NoOption`: no option of any level has this kind and length. `Missing(Serial)`: the identity has no serial,
+/// and no text means its absence. `Missing(Filter)`, except for a pure identity: neither the text nor the options, in this
+/// order, give a filter value. Then `NoOption` and `CannotHold` as `write_hex`, `write_tag` and `write_pure` of gs_epc return
+/// them. They use the encoding of the options or, if that is empty, of the text. May return `Memory` instead. The filter value
+/// of the options is at most 7, and `stem_ok` allows their stem.
+pub fn translate(
+    alloc: Global,
+    set: &TableSet,
+    prefixes: &PrefixList,
+    options: &Options,
+    from: Form,
+    to: Target,
+    text: &[u8],
+) -> Result<Text, Reason>
+    requires { AreInOrder options.now }
+    ensures { UnlessMemory result
+        (IsTranslation set.now prefixes.now options.now from to text.now result) }
+{
+    let translator = Translator {
+        set,
+        prefixes,
+        options,
+        from,
+        to,
+    };
+    translator.translate(alloc, text)
+}
+
+/// Returns the key, with its serial if that is a separate element.
+fn key_and_serial(serial: &SerialAt, identity: Identity) -> Identity
+    ensures { result ≡ key_and_serial serial.now identity }
+{
+    match serial {
+        SerialAt::Ai(code) => identity.with_qualifier(code.as_bytes()),
+        SerialAt::Nowhere | SerialAt::Tail => identity.key_alone(),
+    }
+}
+
+/// Returns the kind of a key.
+fn kind_of<'a>(set: &'a TableSet, key: &Pair) -> Option<&'a Kind>
+    ensures { option_copied result ≡ find (has_key key.now.code) set.now.kinds }
+{
+    set.kinds().iter().find(|kind| key.code == kind.key)
+}
+
+/// Returns the identity with only its key kept, by the kind of the key.
+pub(crate) fn narrowed(set: &TableSet, identity: Identity) -> Identity
+    requires { IsMadeWith set.now.ais identity }
+    ensures narrowed { result ≡ narrowed set.now identity }
+    ensures with_table { IsMadeWith set.now.ais result }
+{
+    // only for the proof: the rows satisfy the rules of application identifiers
+    let _ = set.ais();
+    match kind_of(set, identity.key()) {
+        Some(kind) => key_and_serial(&kind.serial, identity),
+        None => identity.key_alone(),
     }
 }

@@ -11,13 +11,13 @@ use Rattle.gs_class.specs.Written.{OrMemory, class_answer}
 use Rattle.gs_ident.specs.Elements.{Elements}
 use Rattle.gs_ident.specs.Links.{canonical_link}
 use Rattle.gs_translate.specs.declared.form.Form.TheVariants.{Link}
-use Rattle.gs_translate.specs.declared.meaning.Meaning.{Meaning}
+use Rattle.gs_translate.specs.declared.reader.Meaning.{Meaning}
 use Rattle.gs_translate.specs.declared.reason.Reason.{Reason}
 use Rattle.gs_translate.specs.declared.reason.Reason.TheVariants as reason
 use Rattle.gs_translate.specs.Meanings.{IsRead}
 use Rattle.gs_translate.specs.Steps.{UnlessMemory, goes_on, rejects, reworded}
 use Rattle.gs_translate.proofs.StepLaws.{known_answer}
-use Rattle.tdl_answers.specs.declared.class_reason.ClassReason.TheVariants.{Common}
+use Rattle.tdl_answers.specs.declared.class_lines.ClassReason.TheVariants.{Common}
 use Rattle.tdl_answers.specs.ClassAnswers.{ClassWriting, IsClassLink, IsClassText}
 use Rattle.tdl_answers.specs.ClassReasons.{of_class, of_class_writing}
 use Rattle.tdl_answers.specs.LongTexts.{is_short}

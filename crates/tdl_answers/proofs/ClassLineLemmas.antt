@@ -20,7 +20,7 @@ use Rattle.gs_translate.specs.Meanings.{IsRead}
 use Rattle.gs_translate.proofs.AnswerLaws.{one_read, some_read}
 use Rattle.gs_translate.proofs.StepLaws.{one_reworded, some_reworded, then_one, then_some}
 use Rattle.gs_translate.specs.Steps.{Reworded, reworded}
-use Rattle.tdl_answers.specs.declared.class_reason.ClassReason.TheVariants.{Common}
+use Rattle.tdl_answers.specs.declared.class_lines.ClassReason.TheVariants.{Common}
 use Rattle.tdl_answers.specs.ClassAnswers.{ClassWriting, IsClassCanonLine, IsClassLink, IsClassText, IsClassUriLine, LinksClass}
 use Rattle.tdl_answers.specs.ClassReasons.{class_text, of_class, of_class_writing}
 use Rattle.tdl_answers.specs.LongTexts.{Restated}

@@ -9,8 +9,8 @@ use Rattle.gs_chars.specs.Escapes.{hex_value}
 use Rattle.gs_epc.specs.declared.epc.Epc.{Epc}
 use Rattle.gs_epc.specs.declared.error.EpcFault.{EpcFault}
 use Rattle.gs_epc.specs.declared.error.EpcFault.TheVariants as epc
-use Rattle.gs_epc.specs.declared.write_error.EpcWriteFault.{EpcWriteFault}
-use Rattle.gs_epc.specs.declared.write_error.EpcWriteFault.TheVariants as write
+use Rattle.gs_epc.specs.declared.error.EpcWriteFault.{EpcWriteFault}
+use Rattle.gs_epc.specs.declared.error.EpcWriteFault.TheVariants as write
 use Rattle.gs_epc.specs.Readings.{ReadsAs, ReadsHex, Says}
 use Rattle.gs_epc.specs.Writes.{WritesAs}
 use Rattle.gs_membank.specs.declared.dump.Dump.{Dump}
@@ -26,12 +26,12 @@ use Rattle.gs_membank.proofs.DumpLaws.{one_epc}
 use Rattle.gs_membank.proofs.OneDump.{SomeKnown, some_dump}
 use Rattle.gs_membank.proofs.RoundTrips.{one_start}
 use Rattle.gs_membank.proofs.WriteLemmas.{dump_written, too_long as dump_too_long}
-use Rattle.gs_tables_document.specs.declared.level_name.LevelName.{LevelName}
-use Rattle.gs_tables_document.specs.declared.level_name.LevelName.TheVariants as level
+use Rattle.gs_tables_document.specs.declared.document.LevelName.{LevelName}
+use Rattle.gs_tables_document.specs.declared.document.LevelName.TheVariants as level
 use Rattle.gs_tables.specs.Judgements.{IsLoaded}
 use Rattle.gs_tables.specs.Tables.{IsShaped, TableRows}
 use Rattle.gs_translate.specs.declared.form.Form.TheVariants as form
-use Rattle.gs_translate.specs.declared.meaning.Meaning.{Meaning}
+use Rattle.gs_translate.specs.declared.reader.Meaning.{Meaning}
 use Rattle.gs_translate.specs.declared.reason.Reason.{Reason}
 use Rattle.gs_translate.specs.declared.reason.Reason.TheVariants as reason
 use Rattle.gs_translate.specs.Meanings.{IsRead, MeansEpc, short, too_long}

@@ -3,8 +3,8 @@ use Rattle.std.proofs.Common.{◌≡◌, ◌≢◌, ◌≤◌, ℕ, List, length
 use Rattle.std.specs.Prelude.{Result, Ok, Err}
 use Rattle.gs_translate.specs.declared.reason.Reason.TheVariants as reason
 use Rattle.gs_translate.specs.Steps.{Reworded, Then, goes_on, rejects, reworded}
-use Rattle.tdl_answers.specs.declared.dump_reason.DumpReason.{DumpReason}
-use Rattle.tdl_answers.specs.declared.dump_reason.DumpReason.TheVariants.{Common}
+use Rattle.tdl_answers.specs.declared.dump_lines.DumpReason.{DumpReason}
+use Rattle.tdl_answers.specs.declared.dump_lines.DumpReason.TheVariants.{Common}
 use Rattle.tdl_answers.specs.LongTexts.{AfterLong, is_short}
 use Rattle.gs_chars.specs.Limits.{longest_text}
 

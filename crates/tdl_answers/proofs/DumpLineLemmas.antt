@@ -9,7 +9,7 @@ use Rattle.gs_tables.specs.Tables.{TableRows}
 use Rattle.gs_translate.specs.declared.reason.Reason.TheVariants.{Long}
 use Rattle.gs_translate.proofs.StepLaws.{one_reworded, some_reworded, then_one, then_some}
 use Rattle.gs_translate.specs.Steps.{Reworded}
-use Rattle.tdl_answers.specs.declared.dump_reason.DumpReason.TheVariants.{Common}
+use Rattle.tdl_answers.specs.declared.dump_lines.DumpReason.TheVariants.{Common}
 use Rattle.tdl_answers.specs.DumpAnswers.{IsDumpReadLine, IsDumpShown, IsDumpWriteLine, IsDumpWritten, ShowsText, WritesText}
 use Rattle.tdl_answers.specs.DumpReasons.{dump_text, of_line, of_reading, of_writing}
 use Rattle.tdl_lines.specs.OutputsSupport.{HasAnswers, HasOneAnswer}

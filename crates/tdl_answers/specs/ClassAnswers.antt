@@ -12,8 +12,8 @@ use Rattle.gs_translate.specs.declared.form.Form.TheVariants.{Link}
 use Rattle.gs_translate.specs.declared.reason.Reason.TheVariants.{Long}
 use Rattle.gs_translate.specs.Meanings.{IsRead}
 use Rattle.gs_translate.specs.Steps.{Reworded, Then, reworded}
-use Rattle.tdl_answers.specs.declared.class_reason.ClassReason.{ClassReason}
-use Rattle.tdl_answers.specs.declared.class_reason.ClassReason.TheVariants.{Common}
+use Rattle.tdl_answers.specs.declared.class_lines.ClassReason.{ClassReason}
+use Rattle.tdl_answers.specs.declared.class_lines.ClassReason.TheVariants.{Common}
 use Rattle.tdl_answers.specs.ClassReasons.{class_text, of_class, of_class_writing}
 use Rattle.tdl_answers.specs.LongTexts.{AfterLong, Restated}
 use Rattle.tdl_messages.specs.AnswerLines.{IsLineOf}

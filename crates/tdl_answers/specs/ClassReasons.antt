@@ -5,12 +5,12 @@ use Rattle.gs_class.specs.declared.error.ClassFault.TheVariants as reading
 use Rattle.gs_class.specs.declared.error.ClassWriteFault.{ClassWriteFault}
 use Rattle.gs_class.specs.declared.error.ClassWriteFault.TheVariants as writing
 use Rattle.gs_epc.specs.declared.error.EpcFault.TheVariants as epc
-use Rattle.gs_tables_document.specs.declared.field.Field.TheVariants.{Serial}
-use Rattle.gs_translate.specs.declared.field_name.FieldName.TheVariants.{Gcp}
+use Rattle.gs_tables_document.specs.declared.document.Field.TheVariants.{Serial}
+use Rattle.gs_translate.specs.declared.form.FieldName.TheVariants.{Gcp}
 use Rattle.gs_translate.specs.declared.reason.Reason.TheVariants as reason
 use Rattle.gs_translate.specs.Reasons.{reason_text}
-use Rattle.tdl_answers.specs.declared.class_reason.ClassReason.{ClassReason}
-use Rattle.tdl_answers.specs.declared.class_reason.ClassReason.TheVariants.{Common, NoClass, MissingElement}
+use Rattle.tdl_answers.specs.declared.class_lines.ClassReason.{ClassReason}
+use Rattle.tdl_answers.specs.declared.class_lines.ClassReason.TheVariants.{Common, NoClass, MissingElement}
 
 -- trusted, own: why a text is not a class URI
 abbrev pub of_class : ClassFault → ClassReason

@@ -7,8 +7,8 @@ use Rattle.gs_membank.specs.Answers.{ReadsDump, ReadsShown, ShowsDump, WritesDum
 use Rattle.gs_tables.specs.Tables.{TableRows}
 use Rattle.gs_translate.specs.declared.reason.Reason.TheVariants.{Long}
 use Rattle.gs_translate.specs.Steps.{Reworded, Then}
-use Rattle.tdl_answers.specs.declared.dump_reason.DumpReason.{DumpReason}
-use Rattle.tdl_answers.specs.declared.dump_reason.DumpReason.TheVariants.{Common}
+use Rattle.tdl_answers.specs.declared.dump_lines.DumpReason.{DumpReason}
+use Rattle.tdl_answers.specs.declared.dump_lines.DumpReason.TheVariants.{Common}
 use Rattle.tdl_answers.specs.DumpReasons.{dump_text, of_line, of_reading, of_writing}
 use Rattle.tdl_answers.specs.LongTexts.{AfterLong}
 use Rattle.tdl_messages.specs.AnswerLines.{IsLineOf}

@@ -9,8 +9,8 @@ use Rattle.gs_membank.specs.declared.error.DumpWriteFault.{DumpWriteFault}
 use Rattle.gs_membank.specs.declared.error.DumpWriteFault.TheVariants as writing
 use Rattle.gs_translate.specs.declared.reason.Reason.TheVariants as reason
 use Rattle.gs_translate.specs.Reasons.{numbered, reason_text}
-use Rattle.tdl_answers.specs.declared.dump_reason.DumpReason.{DumpReason}
-use Rattle.tdl_answers.specs.declared.dump_reason.DumpReason.TheVariants.{Common, NoWord, Extended, Toggle, Words, Line, TooLong}
+use Rattle.tdl_answers.specs.declared.dump_lines.DumpReason.{DumpReason}
+use Rattle.tdl_answers.specs.declared.dump_lines.DumpReason.TheVariants.{Common, NoWord, Extended, Toggle, Words, Line, TooLong}
 
 -- trusted, own: why a text is not a dump
 abbrev pub of_reading : DumpFault → DumpReason

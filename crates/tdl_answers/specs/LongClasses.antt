@@ -1,13 +1,13 @@
 -- All long class URIs, and all long links, have the same answers.
 use Rattle.std.specs.Prelude.{◌<◌, ℕ, List, Result, Ok, Err, length}
 use Rattle.gs_translate.specs.declared.form.Form.TheVariants.{Link}
-use Rattle.gs_translate.specs.declared.meaning.Meaning.{Meaning}
+use Rattle.gs_translate.specs.declared.reader.Meaning.{Meaning}
 use Rattle.gs_translate.specs.declared.reason.Reason.TheVariants.{Long}
 use Rattle.gs_translate.specs.Meanings.{IsRead}
 use Rattle.gs_translate.specs.Steps.{goes_on, rejects}
 use Rattle.gs_tables.specs.Tables.{TableRows}
-use Rattle.tdl_answers.specs.declared.class_reason.ClassReason.{ClassReason}
-use Rattle.tdl_answers.specs.declared.class_reason.ClassReason.TheVariants.{Common}
+use Rattle.tdl_answers.specs.declared.class_lines.ClassReason.{ClassReason}
+use Rattle.tdl_answers.specs.declared.class_lines.ClassReason.TheVariants.{Common}
 use Rattle.gs_class.specs.Sets.{ClassRows}
 use Rattle.tdl_answers.specs.ClassAnswers.{ClassWriting, IsClassCanonLine, IsClassText, IsClassUriLine, LinksClass}
 use Rattle.tdl_answers.specs.ClassReasons.{class_text}

@@ -1,7 +1,7 @@
 -- All long dumps, and all long lines, have the same answers.
 use Rattle.gs_tables.specs.Tables.{TableRows}
 use Rattle.gs_translate.specs.declared.reason.Reason.TheVariants.{Long}
-use Rattle.tdl_answers.specs.declared.dump_reason.DumpReason.TheVariants.{Common}
+use Rattle.tdl_answers.specs.declared.dump_lines.DumpReason.TheVariants.{Common}
 use Rattle.tdl_answers.specs.DumpAnswers.{IsDumpReadLine, IsDumpWriteLine, ShowsText, WritesText}
 use Rattle.tdl_answers.specs.DumpReasons.{dump_text}
 use Rattle.tdl_answers.specs.LongTextsSupport.{long_lines}

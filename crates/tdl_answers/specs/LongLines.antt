@@ -4,7 +4,7 @@ use Rattle.std.proofs.Math.Nat.{not-le_of_lt}
 use Rattle.tdl_lines.specs.OutputsSupport.{AnswersLongAlike}
 use Rattle.gs_tables.specs.Tables.{TableRows}
 use Rattle.gs_translate.specs.declared.form.Form.{Form}
-use Rattle.gs_translate.specs.declared.meaning.Meaning.{Meaning}
+use Rattle.gs_translate.specs.declared.reader.Meaning.{Meaning}
 use Rattle.gs_translate.specs.declared.reason.Reason.{Reason}
 use Rattle.gs_chars.specs.Limits.{longest_text}
 use Rattle.gs_translate.specs.Meanings.{IsRead, short, too_long}

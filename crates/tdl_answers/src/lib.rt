@@ -18,13 +18,9 @@
 #![tactic(auto)]
 
 mod class_lines;
-mod class_reason;
 mod dump_lines;
-mod dump_reason;
 mod translated_lines;
 
-pub use class_lines::{ClassCanonLines, ClassUriLines};
-pub use class_reason::ClassReason;
-pub use dump_lines::{DumpReadLines, DumpWriteLines};
-pub use dump_reason::DumpReason;
+pub use class_lines::{ClassCanonLines, ClassReason, ClassUriLines};
+pub use dump_lines::{DumpReadLines, DumpReason, DumpWriteLines};
 pub use translated_lines::{TranslatedLines, answer_lines};

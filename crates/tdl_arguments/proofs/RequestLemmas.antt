@@ -9,8 +9,8 @@ use Rattle.gs_chars.proofs.TruthsAndLists.{and_parts, equal_bytes, mapped_some, 
 use Rattle.gs_ident.proofs.PairLemmas.{found_passes}
 use Rattle.gs_translate.specs.declared.form.Form.{Form}
 use Rattle.gs_translate.specs.declared.form.Form.TheVariants as form
-use Rattle.gs_translate.specs.declared.target.Target.{Target}
-use Rattle.gs_translate.specs.declared.target.Target.TheVariants as target
+use Rattle.gs_translate.specs.declared.form.Target.{Target}
+use Rattle.gs_translate.specs.declared.form.Target.TheVariants as target
 use Rattle.gs_translate.specs.StepsSupport.{HasOne}
 use Rattle.tdl_arguments.specs.declared.command.Command.{Command}
 use Rattle.tdl_arguments.specs.declared.command.Command.TheVariants.{Canon, Translate, Check, Resolve, Serve, Gen, Migrate, ClassCanon, ClassUri, DumpRead, DumpWrite, Merge}

@@ -6,10 +6,10 @@ use Rattle.gs_prefix.specs.declared.entry.PrefixEntry.{PrefixEntry}
 use Rattle.gs_tables.specs.Tables.{TableRows}
 use Rattle.gs_translate.specs.declared.form.Form.{Form}
 use Rattle.gs_translate.specs.declared.form.Form.TheVariants as form
-use Rattle.gs_translate.specs.declared.options.Options.{Options}
+use Rattle.gs_translate.specs.declared.form.Options.{Options}
 use Rattle.gs_translate.specs.declared.reason.Reason.{Reason}
-use Rattle.gs_translate.specs.declared.target.Target.{Target}
-use Rattle.gs_translate.specs.declared.target.Target.TheVariants as target
+use Rattle.gs_translate.specs.declared.form.Target.{Target}
+use Rattle.gs_translate.specs.declared.form.Target.TheVariants as target
 use Rattle.gs_translate.specs.Steps.{UnlessMemory, goes_on, rejects}
 use Rattle.gs_translate.specs.Translations.{AreInOrder, IsTranslation}
 use Rattle.gs_translate.proofs.StepLaws.{unless_map, unless_rejected}

@@ -5,8 +5,8 @@ use Rattle.gs_tables.specs.Tables.{TableRows}
 use Rattle.gs_translate.specs.declared.form.Form.{Form}
 use Rattle.gs_translate.specs.declared.form.Form.TheVariants as form
 use Rattle.gs_translate.specs.declared.reason.Reason.{Reason}
-use Rattle.gs_translate.specs.declared.target.Target.{Target}
-use Rattle.gs_translate.specs.declared.target.Target.TheVariants as target
+use Rattle.gs_translate.specs.declared.form.Target.{Target}
+use Rattle.gs_translate.specs.declared.form.Target.TheVariants as target
 use Rattle.gs_translate.specs.Conditions.{AsksForOne, AsksForSome}
 use Rattle.gs_translate.specs.StepsSupport.{HasOne, HasSome}
 use Rattle.gs_translate.proofs.OneTranslation.{one_translation, some_translation}

@@ -1,9 +1,23 @@
-ghost use Rattle.std.specs.Prelude.{◌≡◌, ◌+◌, ◌<◌, ◌^◌, IfOk, string_bytes};
+ghost use Rattle.std.specs.Prelude.{◌≡◌, ◌+◌, ◌<◌, ◌^◌, IfOk, string_bytes, ◌≤◌, []};
 ghost use Rattle.tdl_gen.specs.Generator.{digits_in, generated_line, next_state, sgtin_text};
+ghost use Rattle.std.specs.Bool.{OnTrue};
+ghost use Rattle.tdl_lines.specs.Statuses.{is_status};
+ghost use Rattle.gs_port.specs.Counts.{Rises};
+ghost use Rattle.gs_tables.specs.Judgements.{IsLoaded};
+ghost use Rattle.tdl_gen.specs.Counts.{Generated, IsLineAnswer, IsPlain, filter_one};
+ghost use Rattle.tdl_gen.specs.Counters.{AppendsGenerated};
+ghost use Rattle.gs_translate.specs.Steps.{UnlessMemory};
 
-use gs_chars::Memory;
+use crate::counts::{count_lines, counts_text};
+use gs_chars::{Memory, Text};
+use gs_ident::CANONICAL_STEM;
+use gs_port::Sink;
+use gs_prefix::PrefixList;
+use gs_tables::TableSet;
+use gs_translate::{Form, Options, Reason, Target, translate};
 use std::alloc::Global;
 use std::marker::Model;
+use tdl_lines::{Status, print_line};
 
 /// The factor of a step.
 const FACTOR: u64 = 6_364_136_223_846_793_005;
@@ -64,4 +78,92 @@ fn sgtin_text(alloc: Global, state: u64, serial: u64) -> Result<String, Memory>
     let company = (state >> 40) % 10_000_000;
     let item = (state >> 20) % 1_000_000;
     Ok(format!(in alloc; "urn:epc:id:sgtin:{company:07}.{item:06}.{serial}")?)
+}
+
+/// Returns the line of the counts of the answers to that many lines of the generator.
+fn counts_line(alloc: Global, set: &TableSet, lines: u32) -> Result<String, Memory>
+    ensures { IfOk result (λ line. Generated set.now lines (string_bytes line)) }
+{
+    let prefixes = PrefixList::empty(alloc);
+    let options = filter_one(alloc)?;
+    let by = Answering {
+        set,
+        prefixes: &prefixes,
+        options: &options,
+    };
+    let counts = count_lines(alloc, by, lines)?;
+    counts_text(alloc, lines, counts)
+}
+
+/// Answers `lines` lines of the generator by the tables, and writes one line of counts: of the lines, of the answers that are
+/// texts, and of the bytes of all answers' lines, with their line feeds. It does not write the answers.
+///
+/// Line k, from 0, is `urn:epc:id:sgtin:P.R.k`. The state x begins at 0. For each line it becomes x * 6364136223846793005 +
+/// 1442695040888963407 modulo 2^64; P is x / 2^40 modulo 10^7 in seven digits, and R is x / 2^20 modulo 10^6 in six. The line is
+/// translated to tag bits with filter value 1 and no company prefix lengths; its answer is their canonical link, or the first
+/// rejection.
+///
+/// `Done` is returned if the line was written whole, and `WriteFault` only if the output's count rose. After it and after
+/// `Memory` a prefix of the line was written. No other status comes. The tables are loaded, so that no text has two readings.
+pub fn generate<K: Sink>(alloc: Global, set: &TableSet, lines: u32, output: &mut K) -> Status
+    requires loaded { IsLoaded set.now }
+    ensures written { AppendsGenerated set.now lines result (K.held output.old) (K.held output.new) }
+    ensures error { OnTrue (is_status result Status.WriteFault)
+        (Rises (K.errors output.old) (K.errors output.new)) }
+    ensures counts { K.errors output.old ≤ K.errors output.new }
+{
+    match counts_line(alloc, set, lines) {
+        Ok(line) => print_line(output, line.as_bytes(), Status::Done),
+        Err(Memory) => Status::Memory,
+    }
+}
+
+/// The data by which lines are answered.
+#[derive(Clone, Copy)]
+pub struct Answering<'a> {
+    /// The tables.
+    pub set: &'a TableSet,
+    /// The company prefix lengths: none.
+    pub prefixes: &'a PrefixList,
+    /// The options of the lines: filter value 1.
+    pub options: &'a Options,
+}
+
+/// Returns filter value 1, and otherwise the default options.
+pub fn filter_one(alloc: Global) -> Result<Options, Memory>
+    ensures { IfOk result (λ options. options ≡ filter_one) }
+{
+    Ok(Options {
+        filter: Some(1),
+        gcp: None,
+        encoding: Text::from_bytes(alloc, b"")?,
+        keys_only: false,
+        stem: Text::from_bytes(alloc, CANONICAL_STEM.as_bytes())?,
+    })
+}
+
+/// Returns the translation of a text, with only filter value 1 and no company prefix lengths.
+fn translate_by(
+    alloc: Global,
+    by: Answering<'_>,
+    from: Form,
+    to: Target,
+    text: &[u8],
+) -> Result<Text, Reason>
+    requires prefixes { by.prefixes.now ≡ [] }
+    requires options { by.options.now ≡ filter_one }
+    ensures { UnlessMemory result (IsPlain by.entry.set.now from to text.now result) }
+{
+    translate(alloc, by.set, by.prefixes, by.options, from, to, text)
+}
+
+/// Returns the answer to a line: the canonical link of its tag, or the first rejection. There is no list of prefix lengths, and
+/// the filter value is 1.
+pub fn answer_line(alloc: Global, by: Answering<'_>, line: &[u8]) -> Result<Text, Reason>
+    requires prefixes { by.prefixes.now ≡ [] }
+    requires options { by.options.now ≡ filter_one }
+    ensures { UnlessMemory result (IsLineAnswer by.entry.set.now line.now result) }
+{
+    let hex = translate_by(alloc, by, Form::Pure, Target::Hex, line)?;
+    translate_by(alloc, by, Form::Hex, Target::Canon, hex.as_bytes())
 }

@@ -19,12 +19,9 @@
 //!   to nobody that was asked.
 #![tactic(auto)]
 
-mod answers;
-mod counter;
 mod counts;
-mod generation;
 mod generator;
 mod laws;
 
-pub use generation::generate;
+pub use generator::generate;
 pub use laws::each_count_has_one_line;

@@ -1,18 +1,18 @@
-ghost use Rattle.std.specs.Prelude.{◌≡◌, ◌≢◌, ◌+◌, ◌<◌, ◌≤◌, ◌^◌, ◌||◌, IfOk, length, take};
+ghost use Rattle.std.specs.Prelude.{◌≡◌, ◌≢◌, ◌+◌, ◌<◌, ◌≤◌, ◌^◌, ◌||◌, IfOk, length, take, ℕ, List, ◌∷◌};
 ghost use Rattle.std.specs.Bool.{OnTrue};
 ghost use Rattle.gs_port.specs.Counts.{Rises};
 ghost use Rattle.tdl_lines.specs.LineLoops.{AddsBlock, OnSinkFault, OfLines, status_at_end};
 ghost use Rattle.tdl_lines.specs.Inputs.{IsAtEnd, TakesAtMost, TakesMoreThan};
-ghost use Rattle.tdl_lines.specs.Lines.{begun_line, ended_lines, most_held};
-ghost use Rattle.tdl_lines.specs.Outputs.{Appends, WritesAnswers};
+ghost use Rattle.tdl_lines.specs.Lines.{begun_line, ended_lines, most_held, lines_of, text_of};
+ghost use Rattle.tdl_lines.specs.Outputs.{Appends, WritesAnswers, AddsAnswer, LineAnswer};
 ghost use Rattle.tdl_lines.specs.Statuses.{is_answered, is_status};
+ghost use Rattle.tdl_lines.specs.OutputsSupport.{AnswersLongAlike};
 
-use crate::answerer::Answerer;
 use crate::line_buffer::LineBuffer;
-use crate::lines::{ended, first_line, without_return};
 use crate::status::Status;
 use gs_chars::Memory;
 use gs_port::{ReadAnswer, Sink, Source, Whole, write_whole};
+use memchr::{memchr, memrchr};
 use std::alloc::Global;
 
 /// The number of bytes of answers in one write. A write has at most one answer more.
@@ -192,4 +192,50 @@ pub fn answer_lines<A: Answerer, S: Source, K: Sink>(
             }
         }
     }
+}
+
+/// A trait of objects that answer the texts of lines.
+pub trait Answerer {
+    /// Holds if this is an answer to a text.
+    ghost is_answer: { Self → List ℕ → LineAnswer → Type 0 };
+
+    /// Appends the line of the answer to a text, `ok TEXT` or `no REASON` with a line feed, and returns whether it is a
+    /// rejection. After `Memory`, `out` may have gained a part of a line.
+    fn append_answer(&self, alloc: Global, text: &[u8], out: &mut Vec<u8>) -> Result<bool, Memory>
+        ensures { IfOk result (AddsAnswer (is_answer self.now) text.now out.old.items out.new.items) };
+
+    /// All texts of more than 2,048 bytes have the same answers, so the first bytes of a line are enough.
+    ghost long_alike: { (s : Self) → AnswersLongAlike (is_answer s) };
+}
+
+/// Returns the first line, and the bytes after it and its line feed. There is at least one byte.
+pub fn first_line(bytes: &[u8]) -> (&[u8], &[u8])
+    requires { 0 < length bytes.now }
+    ensures lines { lines_of bytes.now ≡ result.0.now ∷ lines_of result.1.now }
+    ensures shorter { length result.1.now < length bytes.now }
+{
+    match memchr(b'\n', bytes) {
+        Some(end) => (&bytes[..end], &bytes[end + 1..]),
+        None => (bytes, &bytes[bytes.len()..]),
+    }
+}
+
+/// Returns the bytes of the lines that have ended: those up to the last line feed, included.
+pub fn ended(bytes: &[u8]) -> &[u8]
+    ensures { result.now ≡ ended_lines bytes.now }
+{
+    match memrchr(b'\n', bytes) {
+        Some(end) => &bytes[..end + 1],
+        None => &bytes[..0],
+    }
+}
+
+/// Returns the line without one carriage return at its end.
+pub fn without_return(line: &[u8]) -> &[u8]
+    ensures { result.now ≡ text_of line.now }
+{
+    if line.is_empty() || line[line.len() - 1] != b'\r' {
+        return line;
+    }
+    &line[..line.len() - 1]
 }

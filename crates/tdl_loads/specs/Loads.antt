@@ -5,7 +5,7 @@ use Rattle.gs_ai.specs.declared.row.AiRow.{AiRow}
 use Rattle.gs_chars.specs.Answers.{first_or}
 use Rattle.gs_tables_document.specs.declared.error.LoadFault.{LoadFault}
 use Rattle.gs_tables_document.specs.declared.error.LoadFault.TheVariants.{Ambiguous}
-use Rattle.gs_tables_document.specs.declared.level_name.LevelName.{LevelName}
+use Rattle.gs_tables_document.specs.declared.document.LevelName.{LevelName}
 use Rattle.gs_class.specs.declared.error.ClassLoadFault.{ClassLoadFault}
 use Rattle.gs_class.specs.declared.error.ClassLoadFault.TheVariants.{Ambiguous as AmbiguousClasses}
 use Rattle.gs_class.specs.Answers.{BuiltInAnswer as BuiltInClasses, LoadAnswer as ClassesAnswer}

@@ -20,15 +20,11 @@
 //! - No standard gives the order or the largest sizes of such files. Both are this project's own (docs/CLI.md, 'Files').
 #![tactic(auto)]
 
-mod classes;
 mod laws;
 mod linked;
 mod links;
 mod loads;
 mod named_files;
-mod places;
-mod prefixes;
-mod tables;
 
 pub use laws::text_form_loads_alike;
 pub use loads::{Linked, Loaded, Tabled, TablesWithSource, Unloaded, load_files};

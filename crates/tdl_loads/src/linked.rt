@@ -1,20 +1,22 @@
-ghost use Rattle.std.specs.Prelude.{◌≡◌, true};
+ghost use Rattle.std.specs.Prelude.{◌≡◌, true, Ok, map};
 ghost use Rattle.gs_merge.specs.MergedDocuments.{merge_answer};
 ghost use Rattle.tdl_messages.specs.declared.file_kind.FileKind.TheVariants.{Merge as OfMerge};
 ghost use Rattle.tdl_arguments.specs.Ranges.{is_vocabulary};
 ghost use Rattle.tdl_arguments.specs.Requests.{known_files, known_values, links_named};
-ghost use Rattle.tdl_loads.specs.Loads.{is_load_short, merge_verdict, merged_with, merging};
+ghost use Rattle.tdl_loads.specs.Loads.{is_load_short, merge_verdict, merged_with, merging, link_errors, places_errors};
 ghost use Rattle.tdl_loads.specs.LoadsSupport.{LinkedGive, Loads, StopsOpening, files_known, links_up_to};
 ghost use Rattle.tdl_loads.specs.Reads.{JudgedAs};
-ghost use Rattle.std.specs.Prelude.{Ok};
+ghost use Rattle.gs_chars.specs.Answers.{first_or};
+ghost use Rattle.gs_template.specs.Errors.{place_errors};
 
 use crate::links::{Judging, load_links, load_other, load_store, no_context};
 use crate::loads::{Linked, Unloaded};
 use gs_ai::AiTable;
-use gs_links::{Store, StoreFault};
+use gs_links::{Link, Store, StoreFault};
 use gs_linkset::LinkDoc;
 use gs_merge::{MergeFault, merge};
 use gs_port::Files;
+use gs_template::places_ok;
 use std::alloc::Global;
 use tdl_arguments::{NamedFiles, NamedValues};
 use tdl_messages::{FileFault, FileKind, Rejection};
@@ -108,4 +110,25 @@ pub fn load_linked<F: Files>(
     let third = load_other(alloc, FileKind::Third, ais, voc, named.third, files)?;
     let merged = merge_all(alloc, ais, voc, &links, second, third)?;
     Ok(Linked { links, merged })
+}
+
+/// Finds the first error of the template that is the reference of the link of this number.
+fn judge_link(ais: &AiTable, i: usize, link: &Link) -> Result<(), FileFault>
+    ensures { result ≡ first_or (link_errors ais.now (i, link.now)) tt }
+{
+    let key = link.anchor.key().code.as_bytes();
+    match places_ok(ais, key, link.target.href.as_bytes()) {
+        Ok(()) => Ok(()),
+        Err(error) => Err(FileFault::Place(i, error)),
+    }
+}
+
+/// Finds the first error of the templates that are the references of links, in the order of the links. Does not allocate.
+pub fn judge_places(ais: &AiTable, links: &Store) -> Result<(), FileFault>
+    ensures { result ≡ first_or (places_errors ais.now links.now) tt }
+{
+    for i in 0..links.len() {
+        judge_link(ais, i, links.link(i))?;
+    }
+    Ok(())
 }

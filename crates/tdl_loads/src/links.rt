@@ -10,9 +10,9 @@ ghost use Rattle.tdl_loads.specs.Loads.{JudgesFile, JudgesText, LinksGive, Other
 ghost use Rattle.tdl_loads.specs.LoadsSupport.{Loads, files_known};
 ghost use Rattle.tdl_loads.specs.Reads.{JudgedAs, JudgedBy, unread_text};
 
+use crate::linked::judge_places;
 use crate::loads::Unloaded;
 use crate::named_files::read_if_named;
-use crate::places::judge_places;
 use gs_ai::AiTable;
 use gs_chars::{List, Text};
 use gs_json::JsonFault;

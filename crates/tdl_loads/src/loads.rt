@@ -4,11 +4,8 @@ ghost use Rattle.tdl_arguments.specs.Requests.{all_named, description_named, kno
 ghost use Rattle.tdl_loads.specs.Loads.{FilesGive, is_load_short, named_up_to};
 ghost use Rattle.tdl_loads.specs.LoadsSupport.{Loads, SettingsGive, StopsOpening, TabledGive, files_known};
 
-use crate::classes::load_classes;
 use crate::linked::load_linked;
-use crate::named_files::read_if_named;
-use crate::prefixes::load_prefixes;
-use crate::tables::load_tables;
+use crate::named_files::{load_classes, load_prefixes, load_tables, read_if_named};
 use gs_chars::{Memory, Text};
 use gs_class::ClassSet;
 use gs_http::Settings;

@@ -7,8 +7,8 @@ use Rattle.gs_tables_document.specs.declared.error.LimitName.{LimitName}
 use Rattle.gs_tables_document.specs.declared.error.LimitName.TheVariants.{Ais, Kinds, Options, Items, Size}
 use Rattle.gs_tables_document.specs.declared.error.LoadFault.{LoadFault}
 use Rattle.gs_tables_document.specs.declared.error.LoadFault.TheVariants.{Json, Version, Limit, Ai, BadKind, BadItem, Mismatch, Duplicate, Ambiguous, Memory}
-use Rattle.gs_tables_document.specs.declared.level_name.LevelName.{LevelName}
-use Rattle.gs_tables_document.specs.declared.level_name.LevelName.TheVariants.{Binary, Tag, Pure}
+use Rattle.gs_tables_document.specs.declared.document.LevelName.{LevelName}
+use Rattle.gs_tables_document.specs.declared.document.LevelName.TheVariants.{Binary, Tag, Pure}
 use Rattle.gs_class.specs.declared.error.ClassLoadFault.{ClassLoadFault}
 use Rattle.gs_class.specs.declared.error.ClassLoadFault.TheVariants as class
 use Rattle.gs_json.specs.declared.error.JsonFault.{JsonFault}

@@ -7,9 +7,9 @@ use Rattle.gs_ident.proofs.LinkLemmas.{one_link_each}
 use Rattle.gs_tables.specs.Judgements.{IsLoaded}
 use Rattle.gs_tables.specs.Tables.{TableRows}
 use Rattle.gs_translate.specs.declared.form.Form.{Form}
-use Rattle.gs_translate.specs.declared.meaning.Meaning.{Meaning}
+use Rattle.gs_translate.specs.declared.reader.Meaning.{Meaning}
 use Rattle.gs_translate.specs.declared.reason.Reason.{Reason}
-use Rattle.gs_translate.specs.declared.target.Target.TheVariants.{Canon}
+use Rattle.gs_translate.specs.declared.form.Target.TheVariants.{Canon}
 use Rattle.gs_translate.specs.Answers.{IsAnswer}
 use Rattle.gs_translate.specs.Meanings.{IsRead}
 use Rattle.gs_translate.specs.Reasons.{reason_text}

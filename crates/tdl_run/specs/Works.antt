@@ -15,9 +15,9 @@ use Rattle.gs_tables.specs.Tables.{TableRows}
 use Rattle.gs_tables_migration.specs.Migrations.{migrated}
 use Rattle.tdl_serve.specs.Visits.{AreVisits, Visit, entries_of, inputs_of, wants_memory}
 use Rattle.gs_translate.specs.declared.form.Form.{Form}
-use Rattle.gs_translate.specs.declared.target.Target.{Target}
-use Rattle.gs_translate.specs.declared.target.Target.TheVariants as target
-use Rattle.gs_translate.specs.declared.meaning.Meaning.{Meaning}
+use Rattle.gs_translate.specs.declared.form.Target.{Target}
+use Rattle.gs_translate.specs.declared.form.Target.TheVariants as target
+use Rattle.gs_translate.specs.declared.reader.Meaning.{Meaning}
 use Rattle.gs_translate.specs.Meanings.{IsRead}
 use Rattle.gs_translate.specs.Targets.{kept}
 use Rattle.gs_translate.specs.Translations.{Translating, translating_by}

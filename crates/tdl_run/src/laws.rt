@@ -4,7 +4,7 @@ ghost use Rattle.tdl_lines.specs.Statuses.{is_answered};
 ghost use Rattle.gs_translate.specs.declared.form.Form.{Form};
 ghost use Rattle.gs_translate.specs.StepsSupport.{HasOne, HasSome};
 ghost use Rattle.gs_translate.specs.Translations.{NameOne};
-ghost use Rattle.gs_translate.specs.declared.target.Target.{Target};
+ghost use Rattle.gs_translate.specs.declared.form.Target.{Target};
 ghost use Rattle.tdl_arguments.specs.Requests.{Asked, Values, WordsInOrder};
 ghost use Rattle.tdl_loads.specs.declared.loads.Loaded.{Loaded};
 ghost use Rattle.tdl_loads.specs.Loads.{FilesGive, FilesInMemory};

@@ -3,7 +3,7 @@ use Rattle.std.proofs.lemmas.Result.{IfOk-weaker}
 use Rattle.gs_ident.specs.Identities.{identity_of_pairs}
 use Rattle.gs_ident.specs.QualifiedKeys.{pairs_in}
 use Rattle.gs_ai.specs.declared.row.AiRow.{AiRow}
-use Rattle.gs_tables_document.specs.declared.kind.Kind.{Kind}
+use Rattle.gs_tables_document.specs.declared.document.Kind.{Kind}
 use Rattle.gs_epc.specs.Layout.{KeyFields, key_pair, key_value, lay, parts_at}
 use Rattle.gs_epc.specs.LayoutSupport.{serial_pairs}
 use Rattle.gs_epc.proofs.LayoutLaws.{is_qualified, made_is}

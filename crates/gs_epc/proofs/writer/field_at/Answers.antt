@@ -1,6 +1,6 @@
 use Rattle.std.proofs.Common.{◌≡◌, ℕ, ◌<◌, List, length, Option, Some, get_or, refl}
 use Rattle.gs_chars.proofs.TruthsAndLists.{read_at}
-use Rattle.gs_tables_document.specs.declared.field.Field.{Field}
+use Rattle.gs_tables_document.specs.declared.document.Field.{Field}
 use Rattle.gs_epc.specs.Writes.{field_at}
 use Rattle.gs_epc.proofs.writer.field_at.Goals as goal
 

@@ -1,5 +1,5 @@
 use Rattle.std.proofs.lemmas.Result.{err_from_is_err_and}
-use Rattle.gs_tables_document.specs.declared.level_name.LevelName.TheVariants.{Binary}
+use Rattle.gs_tables_document.specs.declared.document.LevelName.TheVariants.{Binary}
 use Rattle.gs_membank.proofs.FilterLemmas.{filter_said, one_in_bits}
 use Rattle.gs_membank.proofs.HeadLemmas.{bank_read, head_long, never_hex, none_read}
 use Rattle.gs_membank.proofs.dump.read_dump.Goals as goal

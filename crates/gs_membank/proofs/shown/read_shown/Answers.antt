@@ -1,4 +1,4 @@
-use Rattle.gs_tables_document.specs.declared.level_name.LevelName.TheVariants.{Tag}
+use Rattle.gs_tables_document.specs.declared.document.LevelName.TheVariants.{Tag}
 use Rattle.gs_membank.proofs.FilterLemmas.{filter_said, one_in_tags}
 use Rattle.gs_membank.proofs.shown.read_shown.Goals as goal
 

@@ -1,5 +1,5 @@
 use Rattle.std.proofs.Common.{◌&&◌, ◌∙◌, rules}
-use Rattle.gs_tables_document.specs.declared.field.Field.TheVariants.{Gcp, Rest, Piece, Total, Serial}
+use Rattle.gs_tables_document.specs.declared.document.Field.TheVariants.{Gcp, Rest, Piece, Total, Serial}
 use Rattle.gs_tables.specs.Forms.{serial_at, serial_room}
 use Rattle.gs_tables.specs.Rules.{items_of_field, keeps_form, keeps_further, keeps_gcp, keeps_rest, keeps_serial}
 use Rattle.gs_tables.specs.Tables.{items_there}

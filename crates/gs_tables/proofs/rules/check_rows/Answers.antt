@@ -1,7 +1,7 @@
 use Rattle.std.proofs.Common.{◌++◌}
 use Rattle.std.specs.Prelude.{Err}
 use Rattle.std.proofs.lemmas.Result.{err_from_is_err_and}
-use Rattle.gs_tables_document.specs.declared.level_name.LevelName.TheVariants.{Binary, Tag, Pure}
+use Rattle.gs_tables_document.specs.declared.document.LevelName.TheVariants.{Binary, Tag, Pure}
 use Rattle.gs_tables.specs.Tables.{kinds_rejections, level_rejections}
 use Rattle.gs_tables.proofs.RejectionLists.{first_in_front, first_behind}
 use Rattle.gs_tables.proofs.rules.check_rows.Goals as goal

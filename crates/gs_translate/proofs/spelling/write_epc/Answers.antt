@@ -1,5 +1,5 @@
 use Rattle.std.proofs.lemmas.Result.{err_from_is_err_and}
-use Rattle.gs_epc.specs.declared.write_error.EpcWriteFault.TheVariants as write
+use Rattle.gs_epc.specs.declared.error.EpcWriteFault.TheVariants as write
 use Rattle.gs_translate.specs.Translations.{write_reason}
 use Rattle.gs_translate.proofs.OneWriting.{written_none}
 use Rattle.gs_translate.proofs.StepLaws.{gives_ok}

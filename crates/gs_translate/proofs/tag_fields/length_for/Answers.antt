@@ -1,6 +1,6 @@
 use Rattle.std.proofs.Common.{◌≡◌, ◌∙◌, ℕ, Bool, false, if◌then◌else◌, Option, Some, refl, subst, sym}
 use Rattle.std.specs.Prelude.{Ok, Err}
-use Rattle.gs_translate.specs.declared.field_name.FieldName.TheVariants.{Gcp}
+use Rattle.gs_translate.specs.declared.form.FieldName.TheVariants.{Gcp}
 use Rattle.gs_translate.specs.declared.reason.Reason.TheVariants.{Missing, NoOption}
 use Rattle.gs_translate.specs.Targets.{and_then, else_rejected, has_option}
 use Rattle.gs_translate.proofs.tag_fields.length_for.Goals as goal

@@ -1,7 +1,7 @@
 use Rattle.std.proofs.Common.{◌∙◌, bytes_eq, rules, tests}
 use Rattle.std.proofs.lemmas.Iterator.{YieldsList-from_slice}
 use Rattle.std.proofs.lemmas.Iterator.Search.{find_from_yields_List}
-use Rattle.gs_translate.specs.declared.target.Target.{Target}
+use Rattle.gs_translate.specs.declared.form.Target.{Target}
 use Rattle.tdl_arguments.specs.CommandReads.{targets}
 use Rattle.tdl_arguments.specs.Commands.{target_word}
 use Rattle.tdl_arguments.proofs.arguments.target_named.Goals as goal

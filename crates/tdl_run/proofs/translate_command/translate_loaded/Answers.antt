@@ -1,6 +1,6 @@
 use Rattle.std.proofs.Common.{[], subst, sym}
 use Rattle.gs_port.specs.Contents.{append_nothing}
-use Rattle.gs_translate.specs.declared.options.Options.{Options}
+use Rattle.gs_translate.specs.declared.form.Options.{Options}
 use Rattle.gs_translate.specs.Translations.{Translating, translating_by}
 use Rattle.tdl_answers.specs.TranslatedAnswers.{IsTranslatedLine}
 use Rattle.tdl_answers.proofs.LineLemmas.{some_translated}

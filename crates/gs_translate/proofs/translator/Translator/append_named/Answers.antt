@@ -1,6 +1,6 @@
 use Rattle.std.proofs.Common.{refl, true}
 use Rattle.std.proofs.lemmas.Result.{err_from_is_err_and}
-use Rattle.gs_translate.specs.declared.meaning.Meaning.{Meaning}
+use Rattle.gs_translate.specs.declared.reader.Meaning.{Meaning}
 use Rattle.gs_translate.specs.Meanings.{IsRead}
 use Rattle.gs_translate.specs.Steps.{rejects}
 use Rattle.gs_translate.specs.Targets.{kept}

@@ -1,6 +1,6 @@
 use Rattle.std.proofs.Common.{◌≡◌}
 use Rattle.gs_translate.specs.declared.reason.Reason.TheVariants.{Memory}
-use Rattle.tdl_answers.specs.declared.class_reason.ClassReason.TheVariants.{Common}
+use Rattle.tdl_answers.specs.declared.class_lines.ClassReason.TheVariants.{Common}
 use Rattle.tdl_answers.specs.ClassAnswers.{IsClassText}
 use Rattle.tdl_answers.specs.ClassReasons.{class_text}
 use Rattle.tdl_answers.proofs.LineLemmas.{adds_known}

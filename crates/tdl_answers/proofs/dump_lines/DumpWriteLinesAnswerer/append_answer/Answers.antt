@@ -1,6 +1,6 @@
 use Rattle.std.proofs.Common.{◌≡◌}
 use Rattle.gs_translate.specs.declared.reason.Reason.TheVariants.{Memory}
-use Rattle.tdl_answers.specs.declared.dump_reason.DumpReason.TheVariants.{Common}
+use Rattle.tdl_answers.specs.declared.dump_lines.DumpReason.TheVariants.{Common}
 use Rattle.tdl_answers.specs.DumpAnswers.{IsDumpWritten}
 use Rattle.tdl_answers.specs.DumpReasons.{dump_text}
 use Rattle.tdl_answers.proofs.LineLemmas.{adds_known}

@@ -1,5 +1,0 @@
-use Rattle.gs_translate.proofs.MigratedTables.{migrated_alike}
-use Rattle.gs_translate.proofs.migration_laws.migrated_tables_translate_alike.Goals as goal
-
-pub returns : goal.returns
-returns c = migrated_alike

@@ -1,0 +1,18 @@
+use Rattle.std.proofs.lemmas.Result.{err_from_is_err_and}
+use Rattle.gs_element.specs.Answers.{IsBracketedRejection}
+use Rattle.gs_element.specs.BracketedTexts.{IsBracketed, IsBracketedError}
+use Rattle.gs_translate.specs.Steps.{goes_on}
+use Rattle.gs_translate.proofs.PairLaws.{elements_rejected}
+use Rattle.gs_translate.proofs.StepLaws.{unless_map}
+use Rattle.gs_translate.proofs.reader.bracketed_meaning.Goals as goal
+
+pub returns-clause-meaning : goal.returns-clause-meaning
+returns-clause-meaning c =
+    unless_map c.meaning_of_pairs.result (λ identified. goes_on c.in_ok-pairs.pairs.items (rw c.ais.ensures.rows at c.in_ok-pairs.ensures.read) identified) c.meaning_of_pairs.ensures.meaning
+
+pub returns-in_err-pairs-clause-meaning : goal.returns-in_err-pairs-clause-meaning
+returns-in_err-pairs-clause-meaning c =
+    let p = err_from_is_err_and c.from_residual.result c.from_residual.ensures.1 in
+    let table = c.args.set.now.ais in
+    let text = c.args.text.now in
+    rw (p.1, p.2) (elements_rejected c.args.set.now (IsBracketed table text) (IsBracketedError table text) (IsBracketedRejection table text) c.in_err-pairs.field-0.0 (λ error f. f) (rw c.ais.ensures.rows at c.in_err-pairs.ensures.rejected))

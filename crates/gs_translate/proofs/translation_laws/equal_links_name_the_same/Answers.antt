@@ -1,5 +1,0 @@
-use Rattle.gs_translate.proofs.SameLinks.{equal_links}
-use Rattle.gs_translate.proofs.translation_laws.equal_links_name_the_same.Goals as goal
-
-pub returns : goal.returns
-returns c = equal_links

@@ -1,5 +1,0 @@
-use Rattle.tdl_loads.proofs.ReadLemmas.{own_loaded}
-use Rattle.tdl_loads.proofs.tables.load_builtin.Goals as goal
-
-pub returns : goal.returns
-returns c = λ files before now. own_loaded files before now c.builtin.result c.tables_of.result c.builtin.ensures (rw c.new.ensures at c.tables_of.ensures)
