@@ -2,7 +2,7 @@
 use Rattle.std.specs.Prelude.{◌≡◌, ℕ, true, not, if◌then◌else◌, List, [], ◌∷◌, ◌++◌, filter, Option, Some, None, option_map}
 use Rattle.std.specs.List.{list_all}
 use Rattle.gs_linkset.specs.Attributes.{every}
-use Rattle.gs_linktext_grammar.specs.Grammar.{is_comma, is_some_part, written_links}
+use Rattle.gs_linktext_grammar.specs.Grammar.{is_comma, is_some_part, written_link, written_links}
 use Rattle.gs_linktext_grammar.specs.Lexemes.{Chain, Lexed}
 use Rattle.gs_linktext_grammar.specs.declared.lexeme.Lexeme.{Lexeme}
 use Rattle.gs_linktext_grammar.specs.declared.lexeme.Lexeme.TheVariants.{Comma}
@@ -20,6 +20,10 @@ IsPiece text piece (Some rest) = has_no_comma piece × Chain (piece ++ Comma ∷
 -- the values so far and the value of a further part, if it has one; an empty part is ignored
 abbrev pub with_part : {X Y : Type 0} → (List X → Option Y) → List X → List Y → Option (List Y)
 with_part f part ys = if is_some_part part then option_map (λ y. ys ++ y ∷ []) (f part) else Some ys
+
+-- the links so far, and the link of a piece, if it has one
+abbrev pub AddsLink : List Lexeme → List WrittenLink → List WrittenLink → Type 0
+AddsLink piece links new = with_part written_link piece links ≡ Some new
 
 -- the values of the parts that have something in them
 abbrev pub given : {X Y : Type 0} → (List X → Option Y) → List (List X) → Option (List Y)

@@ -2,10 +2,11 @@ ghost use Rattle.std.specs.Prelude.{◌≡◌, ◌≤◌, ◌<◌, length, None,
 ghost use Rattle.std.specs.List.{prefix_len};
 ghost use Rattle.gs_linktext_grammar.specs.Answers.{IsSyntax};
 ghost use Rattle.gs_linktext_grammar.specs.Bytes.{after_prefix, prefix_of, is_blank, is_target_byte, is_token};
-ghost use Rattle.gs_linktext_grammar.specs.Prefixes.{after_blanks, first_lexeme, quoted_of, said_from, target_of, with_bytes, word_of};
+ghost use Rattle.gs_linktext_grammar.specs.Bytes.{is_quotable, is_quoted_byte};
+ghost use Rattle.gs_linktext_grammar.specs.Prefixes.{after_blanks, first_lexeme, quoted_of, said_from, target_of};
+ghost use Rattle.gs_linktext_grammar.specs.Prefixes.{with_bytes, word_of};
 ghost use Rattle.gs_linktext_grammar.specs.Lexemes.{unquoted};
 
-use crate::bytes::{is_blank, is_quotable, is_quoted_byte, is_target_byte, is_token};
 use crate::error::LinkTextFault;
 use crate::lexeme::Lexeme;
 use gs_chars::Text;
@@ -198,4 +199,40 @@ pub(crate) fn first_lexeme(alloc: Global, text: &[u8]) -> Result<Next<'_>, LinkT
 {
     let next = read_lexeme(alloc, text)?;
     Ok(next)
+}
+
+/// Returns whether the byte is a blank.
+pub fn is_blank(c: u8) -> bool
+    ensures { result ≡ is_blank c }
+{
+    matches!(c, b' ' | b'\t' | b'\r' | b'\n')
+}
+
+/// Returns whether the byte is one of a token.
+#[tactic(auto, unfolding(crate::specs::Bytes::is_token))]
+pub fn is_token(c: u8) -> bool
+    ensures { result ≡ is_token c }
+{
+    matches!(c, b'!' | b'#'..=b'\'' | b'*'..=b'+' | b'-'..=b'.' | b'0'..=b'9' | b'A'..=b'Z' | b'^'..=b'z' | b'|' | b'~')
+}
+
+/// Returns whether the byte is allowed between `<` and `>`.
+pub fn is_target_byte(c: u8) -> bool
+    ensures { result ≡ is_target_byte c }
+{
+    c.is_ascii_graphic() && c != b'<' && c != b'>'
+}
+
+/// Returns whether the byte may be in a quoted string after a backslash.
+pub fn is_quotable(c: u8) -> bool
+    ensures { result ≡ is_quotable c }
+{
+    c == b'\t' || (c >= b' ' && c != 127)
+}
+
+/// Returns whether the byte may be in a quoted string without a backslash.
+pub(crate) fn is_quoted_byte(c: u8) -> bool
+    ensures { result ≡ is_quoted_byte c }
+{
+    is_quotable(c) && c != b'"' && c != b'\\'
 }

@@ -20,7 +20,6 @@
 //! - Names and values are UTF-8; a text with another one is not a document.
 #![tactic(auto)]
 
-mod bytes;
 mod checked_text;
 mod error;
 mod laws;
@@ -28,13 +27,12 @@ mod lexeme;
 mod lexer;
 mod links;
 mod params;
-mod pieces;
 mod written_link;
 
-pub use bytes::{is_blank, is_quotable, is_target_byte, is_token};
 pub use checked_text::{CheckedText, is_utf8};
 pub use error::LinkTextFault;
 pub use laws::one_lexing;
 pub use lexeme::Lexeme;
+pub use lexer::{is_blank, is_quotable, is_target_byte, is_token};
 pub use links::read_links;
 pub use written_link::{Param, WrittenLink};

@@ -1,15 +1,13 @@
-ghost use Rattle.std.specs.Prelude.{◌≡◌, IfOk, IfErr, List, None, Some, map};
+ghost use Rattle.std.specs.Prelude.{◌≡◌, IfOk, IfErr, None, Some, map};
 ghost use Rattle.std.specs.List.{slice_split};
 ghost use Rattle.gs_linktext_grammar.specs.Answers.{IsSyntax};
-ghost use Rattle.gs_linktext_grammar.specs.Grammar.{href_in, href_of, is_semicolon, link_of, written_link, IsDocument};
-ghost use Rattle.gs_linktext_grammar.specs.Pieces.{with_part};
-ghost use Rattle.gs_linktext_grammar.specs.declared.written_link.WrittenLink.{WrittenLink};
+ghost use Rattle.gs_linktext_grammar.specs.Grammar.{href_in, href_of, is_semicolon, link_of, written_link, IsDocument, IsNoDocument};
+ghost use Rattle.gs_linktext_grammar.specs.Pieces.{with_part, AddsLink};
 
 use crate::checked_text::CheckedText;
 use crate::error::LinkTextFault;
 use crate::lexeme::Lexeme;
-use crate::params::params_of;
-use crate::pieces::{Piece, cut_piece};
+use crate::params::{Piece, cut_piece, params_of};
 use crate::written_link::WrittenLink;
 use gs_chars::{List, Memory};
 use std::alloc::{AllocError, Global};
@@ -71,7 +69,7 @@ fn push_link(
     links: &mut Vec<WrittenLink>,
     piece: &[Lexeme],
 ) -> Result<(), LinkTextFault>
-    ensures ok { IfOk result (λ _. with_part written_link piece.now links.old.items ≡ Some links.new.items) }
+    ensures ok { IfOk result (λ _. AddsLink piece.now links.old.items links.new.items) }
     ensures err { IfErr result (IsSyntax (with_part written_link piece.now links.old.items ≡ None)) }
 {
     if piece.is_empty() {
@@ -84,7 +82,7 @@ fn push_link(
 /// Returns the links of a document, link by link. Returns `Syntax` if and only if the bytes are not a document.
 pub fn read_links(alloc: Global, text: &[u8]) -> Result<Vec<WrittenLink>, LinkTextFault>
     ensures ok { IfOk result (λ links. IsDocument text.now links.items) }
-    ensures err { IfErr result (IsSyntax ((links : List WrittenLink) → IsDocument text.now links → ⊥)) }
+    ensures err { IfErr result (IsSyntax (IsNoDocument text.now)) }
 {
     let mut links = Vec::new(alloc);
     let mut rest = text;

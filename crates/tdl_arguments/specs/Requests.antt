@@ -91,6 +91,14 @@ value_or default name pairs = unwrap_or (look_up (name_word name) pairs) default
 abbrev pub number_named : (List ℕ → Option ℕ) → Name → NamedPairs → Option ℕ
 number_named number_of name pairs = option_and_then number_of (look_up (name_word name) pairs)
 
+-- trusted, own: the filter value in the pairs
+abbrev pub filter_named : NamedPairs → Option ℕ
+filter_named pairs = number_named filter_of Filter pairs
+
+-- trusted, own: the number of digits of the company prefix in the pairs
+abbrev pub gcp_named : NamedPairs → Option ℕ
+gcp_named pairs = number_named gcp_of Gcp pairs
+
 -- trusted, own: the number of connections in the pairs, or 0 if they name none
 abbrev pub count_named : NamedPairs → ℕ
 count_named pairs = unwrap_or (number_named count_of Count pairs) 0
@@ -104,8 +112,8 @@ named_values pairs = record {
   templates = bytes_eq (value_or (codes "no") Templates pairs) (codes "yes");
   listen = value_or default_listen Listen pairs;
   count = count_named pairs;
-  filter = number_named filter_of Filter pairs;
-  gcp = number_named gcp_of Gcp pairs;
+  filter = filter_named pairs;
+  gcp = gcp_named pairs;
   encoding = value_or [] Encoding pairs;
   keys_only = bytes_eq (value_or (codes "no") KeysOnly pairs) (codes "yes");
   stem = value_or canonical_stem Stem pairs;

@@ -6,9 +6,8 @@ ghost use Rattle.tdl_arguments.specs.RequestsSupport.{AsksNothing};
 
 use crate::command::Command;
 use crate::pairs::{are_of_rows, has_required};
-use crate::ranges::lines_of;
 use crate::request::{NamedValues, Request};
-use crate::value_reader::{named_files, named_values};
+use crate::value_reader::{lines_of, named_files, named_values};
 use gs_links::keeps_names;
 use gs_translate::{Form, Target};
 

@@ -23,13 +23,11 @@ mod arguments;
 mod command;
 mod name;
 mod pairs;
-mod ranges;
 mod request;
 mod value_reader;
-mod words;
 
 pub use arguments::read_arguments;
 pub use command::Command;
 pub use name::{Name, NameRow};
+pub use pairs::without_program_name;
 pub use request::{LinksFile, NamedFiles, NamedValues, Request};
-pub use words::without_program_name;

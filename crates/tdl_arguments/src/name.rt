@@ -1,7 +1,7 @@
 ghost use Rattle.std.specs.Prelude.{◌≡◌};
 ghost use Rattle.tdl_arguments.specs.Names.{in_range, name_takes, name_word, row_takes};
 
-use crate::ranges::{count_of, filter_of, gcp_of, is_vocabulary};
+use crate::value_reader::{count_of, filter_of, gcp_of, is_vocabulary};
 use gs_dlink::stem_ok;
 
 /// A name that is before its value among the arguments.

@@ -1,6 +1,7 @@
-ghost use Rattle.std.specs.Prelude.{◌≡◌, true, false};
+ghost use Rattle.std.specs.Prelude.{◌≡◌, true, false, drop};
 ghost use Rattle.tdl_arguments.specs.declared.name.NameRow.{NameRow};
-ghost use Rattle.tdl_arguments.specs.Names.{HasNoPairs, HasPairs, OfPairs, has_required, is_given, is_named, look_up, takes};
+ghost use Rattle.tdl_arguments.specs.Names.{HasNoPairs, HasPairs, OfPairs, has_required, is_given, is_named, look_up};
+ghost use Rattle.tdl_arguments.specs.Names.{takes};
 ghost use Rattle.tdl_arguments.specs.Requests.{known_name, known_words};
 
 use crate::name::{Name, NameRow};
@@ -77,4 +78,14 @@ pub fn has_required(words: &[String], rows: &[NameRow]) -> bool
         }
     }
     true
+}
+
+/// Returns the arguments after the first, which is the name that the program was called by.
+pub fn without_program_name(words: &[String]) -> &[String]
+    ensures { result.now ≡ drop 1 words.now }
+{
+    if words.is_empty() {
+        return words;
+    }
+    &words[1..]
 }

@@ -1,7 +1,7 @@
 use Rattle.std.proofs.Common.{sym, arith}
 use Rattle.gs_linktext_grammar.proofs.ChainLemmas.{nothing, piece_ends, piece_goes_on, piece_more, piece_rejected, something}
 use Rattle.std.proofs.lemmas.Result.{err_from_is_err_and}
-use Rattle.gs_linktext_grammar.proofs.pieces.cut_piece.Goals as goal
+use Rattle.gs_linktext_grammar.proofs.params.cut_piece.Goals as goal
 
 pub returns-then-is_empty-clause-ok : goal.returns-then-is_empty-clause-ok
 returns-then-is_empty-clause-ok c =

@@ -1,6 +1,6 @@
 use Rattle.std.proofs.Common.{◌≡◌, ◌∙◌, ◌-◌, List, [], ◌∷◌, length, take, drop, refl, ap, arith}
 use Rattle.std.proofs.Math.Seq.{take-length}
-use Rattle.tdl_arguments.proofs.words.without_program_name.Goals as goal
+use Rattle.tdl_arguments.proofs.pairs.without_program_name.Goals as goal
 
 all_behind : {X : Type 0} (xs : List X) → take (length xs - 1) (drop 1 xs) ≡ drop 1 xs
 all_behind [] = refl

@@ -1,5 +1,5 @@
 use Rattle.tdl_arguments.proofs.RangeLemmas.{read_err, read_ok}
-use Rattle.tdl_arguments.proofs.ranges.number_of.Goals as goal
+use Rattle.tdl_arguments.proofs.value_reader.number_of.Goals as goal
 
 pub returns-in-Ok : goal.returns-in-Ok
 returns-in-Ok c = read_ok c.args.digits.now c.parse.result c.in-Ok.number c.parse.ensures.value.0 c.requires c.in-Ok.is
