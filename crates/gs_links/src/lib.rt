@@ -29,7 +29,6 @@
 
 mod anchors;
 mod choice;
-mod documents;
 mod error;
 mod index;
 mod languages;

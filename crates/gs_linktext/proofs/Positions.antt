@@ -3,7 +3,7 @@ use Rattle.std.proofs.Common.{◌≡◌, ◌+◌, not, Bool, List, [], ◌∷◌
 use Rattle.std.specs.List.{prefix_len}
 use Rattle.gs_linktext.specs.Lent.{seen}
 use Rattle.gs_linktext.specs.Spelling.{cannot_spell}
-use Rattle.gs_linktext.specs.declared.lent_links.LentLink.{LentLink}
+use Rattle.gs_linktext.specs.declared.writer.LentLink.{LentLink}
 
 module _ {X Y : Type 0} (f : X → Y) (test : Y → Bool) where
   prefix_mapped : (xs : List X) → prefix_len (λ x. not (test (f x))) xs ≡ prefix_len (λ y. not (test y)) (map f xs)

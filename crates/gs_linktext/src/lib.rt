@@ -30,7 +30,6 @@ mod attrs;
 mod cuts;
 mod groups;
 mod laws;
-mod lent_links;
 mod reader;
 mod spellable;
 mod types;

@@ -7,7 +7,7 @@ ghost use Rattle.gs_linktext.specs.Links.{is_language_byte};
 ghost use Rattle.gs_linktext.specs.Spelling.{cannot_spell, has_unspellable_language, is_unspellable_attr, is_unspellable_href, is_unspellable_name, is_unspellable_text, is_unspellable_type, is_unspellable_value, is_upper};
 
 use crate::attrs::is_language_byte;
-use crate::lent_links::LentLink;
+use crate::writer::LentLink;
 use gs_chars::Text;
 use gs_linkset::{Attr, AttrValue};
 use gs_linktext_grammar::{is_blank, is_quotable, is_target_byte, is_token};

@@ -1,15 +1,15 @@
 ghost use Rattle.std.specs.Prelude.{◌≡◌, ◌++◌, IfOk, IfErr, map, position, None};
 ghost use Rattle.std.specs.List.{flat_map};
-ghost use Rattle.gs_linkset.specs.LinkShapes.{links_of_document};
+ghost use Rattle.gs_linkset.specs.LinkShapes.{links_of_document, links_of_context, links_of_relation};
 ghost use Rattle.gs_linktext.specs.Lent.{seen};
-ghost use Rattle.gs_linktext.specs.Spelling.{cannot_spell, quoted, quoted_byte, spelled, spelled_attr, spelled_behind, spelled_link, spelled_links, spelled_pair, spelled_text, spelled_types};
+ghost use Rattle.gs_linktext.specs.Spelling.{cannot_spell, quoted, quoted_byte, spelled, spelled_attr, spelled_behind};
+ghost use Rattle.gs_linktext.specs.Spelling.{spelled_link, spelled_links, spelled_pair, spelled_text, spelled_types};
 ghost use Rattle.gs_linktext.specs.WriteAnswers.{IsUnspellable};
 
-use crate::lent_links::{LentLink, lent_links};
 use crate::spellable::first_unspellable;
 use gs_chars::{Memory, Text};
 use gs_ident::append_escaped;
-use gs_linkset::{Attr, AttrValue, LinkDoc};
+use gs_linkset::{Attr, AttrValue, Context, LinkDoc, Relation, Target};
 use std::alloc::Global;
 
 /// Why a linkset cannot be spelled as text. Links are counted from 0, in the order of the document.
@@ -193,4 +193,55 @@ pub fn write(alloc: Global, doc: &LinkDoc) -> Result<Text, LinkTextWriteFault>
     let mut out = Vec::new(alloc);
     write_links(&mut out, links.as_slice())?;
     Ok(Text::from_vec(out))
+}
+
+/// A link of a document: its anchor, its relation type and its target.
+#[derive(Clone, Copy)]
+pub(crate) struct LentLink<'a> {
+    pub(crate) anchor: &'a [u8],
+    pub(crate) relation: &'a [u8],
+    pub(crate) target: &'a Target,
+}
+
+/// Adds the links of a relation.
+fn push_relation<'a>(
+    links: &mut Vec<LentLink<'a>>,
+    anchor: &'a [u8],
+    relation: &'a Relation,
+) -> Result<(), Memory>
+    ensures { IfOk result (λ _. map seen links.new.items
+        ≡ map seen links.old.items ++ links_of_relation anchor.now relation.now) }
+{
+    let name = relation.name.as_bytes();
+    for target in relation.targets.items() {
+        links.push(LentLink {
+            anchor,
+            relation: name,
+            target,
+        })?;
+    }
+    Ok(())
+}
+
+/// Adds the links of a context.
+fn push_context<'a>(links: &mut Vec<LentLink<'a>>, context: &'a Context) -> Result<(), Memory>
+    ensures { IfOk result (λ _. map seen links.new.items
+        ≡ map seen links.old.items ++ links_of_context context.now) }
+{
+    let anchor = context.anchor.as_bytes();
+    for relation in context.relations.items() {
+        push_relation(links, anchor, relation)?;
+    }
+    Ok(())
+}
+
+/// Returns the links of contexts, in their order.
+pub(crate) fn lent_links(alloc: Global, contexts: &[Context]) -> Result<Vec<LentLink<'_>>, Memory>
+    ensures { IfOk result (λ links. map seen links.items ≡ links_of_document contexts.now) }
+{
+    let mut links = Vec::new(alloc);
+    for context in contexts {
+        push_context(&mut links, context)?;
+    }
+    Ok(links)
 }

@@ -28,6 +28,7 @@
 //! - Limits: 256 application identifiers, 64 kinds, 256 options of a level, 24 items and 512 symbols of an option.
 #![tactic(auto)]
 
+mod builtin_set;
 mod field_items;
 mod form;
 mod kind_rules;
@@ -39,6 +40,7 @@ mod option_rules;
 mod rules;
 mod table_set;
 
+pub use builtin_set::builtin;
 pub use field_items::{keeps_gcp, keeps_rest, keeps_serial, size_within_limit};
 pub use form::{Behind, KeyForm, Room, are_characters, characters_of};
 pub use gs_tables_document::{
@@ -48,4 +50,4 @@ pub use kind_rules::{is_of_key, lists};
 pub use kinds_levels::split_items;
 pub use laws::{built_in_rows_have_one_answer, bytes_have_one_answer, options_keep_the_rules};
 pub use migration::{migrate, migrated_text};
-pub use table_set::{TableSet, builtin};
+pub use table_set::TableSet;

@@ -2,7 +2,7 @@ ghost use Rattle.std.specs.Prelude.{◌≡◌, map};
 ghost use Rattle.gs_tables.specs.Judgements.{IsClear, IsLoaded, Judged};
 ghost use Rattle.gs_tables.specs.Tables.{level_rows, IsShaped, IsAnswer, row_rejections, set_of};
 ghost use Rattle.gs_tables.specs.Numbers.{numbers_of};
-ghost use Rattle.gs_tables.specs.Shapes.{LoadAnswer, BuiltInAnswer};
+ghost use Rattle.gs_tables.specs.Shapes.{LoadAnswer};
 ghost use Rattle.gs_ai.specs.Tables.{table_errors};
 ghost use Rattle.gs_tables_document.specs.declared.error.LoadFault.TheVariants.{Ai};
 
@@ -11,7 +11,6 @@ use crate::rules::{check_limits, check_version, judged_parts};
 use gs_ai::{AiFault, AiRow, AiTable};
 use gs_chars::List;
 use gs_grammar_level::Level;
-use gs_tables_builtin::builtin_document;
 use gs_tables_document::{Document, Kind, LevelName, LoadFault, OptInfo, read_document};
 use std::alloc::Global;
 use std::marker::Model;
@@ -138,17 +137,6 @@ impl TableSet {
             LevelName::Pure => &self.levels.pure,
         }
     }
-}
-
-/// Returns the set of the built-in rows. They are the application identifiers, ten kinds of key, and the options of each
-/// encoding and kind. Each encoding has the binary and the tag option for each company prefix length from 12 to 6, and each
-/// kind the pure option. The rows go through the rules of `TableSet::load`, and its check of levels. Returns the first
-/// rejection if there is one. May return `Memory` instead.
-pub fn builtin(alloc: Global) -> Result<TableSet, LoadFault>
-    ensures { BuiltInAnswer result }
-{
-    let document = builtin_document(alloc)?;
-    TableSet::of_rows(alloc, document)
 }
 
 /// Returns the table of the application identifiers, or their first error.

@@ -1,9 +1,10 @@
-ghost use Rattle.std.specs.Prelude.{◌≡◌, ◌++◌, IfOk, OnOk};
+ghost use Rattle.std.specs.Prelude.{◌≡◌, ◌++◌, IfOk, OnOk, ℕ, List};
 ghost use Rattle.tdl_lines.specs.Outputs.{accepted, printed, rejected};
 ghost use Rattle.tdl_messages.specs.AnswerLines.{AddsLine, HasMemory};
+ghost use Rattle.tdl_messages.specs.Rejections.{numbered_twice};
 
-use crate::reasoned::Reasoned;
 use gs_chars::{Memory, Text};
+use gs_translate::{Reason, append_number, append_numbered, append_reason, append_word};
 use std::alloc::Global;
 
 /// Appends `ok TEXT` and a line feed.
@@ -48,4 +49,58 @@ pub fn append_line<R: Reasoned>(
             Ok(true)
         }
     }
+}
+
+/// Why a text is rejected, as the line of its answer says it.
+pub trait Reasoned: Drop {
+    /// The text of the reason.
+    ghost text: { Self → List ℕ };
+
+    /// The reason is that memory ran out, which no line says.
+    ghost is_memory: { Self → Type 0 };
+
+    /// Appends the text of the reason. Returns `Memory` if memory ran out, here or as the reason itself; `out` may then have a
+    /// part of the text.
+    fn append(&self, alloc: Global, out: &mut Vec<u8>) -> Result<(), Memory>
+        ensures text { OnOk result (out.new.items ≡ out.old.items ++ text self.now) }
+        ensures known { OnOk result (is_memory self.now → ⊥) };
+}
+
+impl Reasoned for Reason {
+    ghost use Rattle.std.specs.Prelude.{◌≡◌};
+    ghost use Rattle.gs_translate.specs.declared.reason.Reason.TheVariants.{Memory as OutOfMemory};
+    ghost use Rattle.gs_translate.specs.Reasons.{reason_text};
+
+    ghost text = { λ reason. reason_text reason };
+
+    ghost is_memory = { λ reason. reason ≡ OutOfMemory };
+
+    fn append(&self, alloc: Global, out: &mut Vec<u8>) -> Result<(), Memory> {
+        match self {
+            Reason::Memory => Err(Memory),
+            reason => append_reason(alloc, out, reason),
+        }
+    }
+}
+
+/// Appends two words in their order.
+pub(crate) fn append_words(out: &mut Vec<u8>, first: &[u8], second: &[u8]) -> Result<(), Memory>
+    ensures { OnOk result (out.new.items ≡ out.old.items ++ (first.now ++ second.now)) }
+{
+    append_word(out, first)?;
+    append_word(out, second)
+}
+
+/// Appends a word, and after it two numbers, each after a blank.
+pub(crate) fn append_numbered_twice(
+    alloc: Global,
+    out: &mut Vec<u8>,
+    word: &[u8],
+    first: usize,
+    second: usize,
+) -> Result<(), Memory>
+    ensures { OnOk result (out.new.items ≡ out.old.items ++ numbered_twice word.now first second) }
+{
+    append_numbered(alloc, out, word, first)?;
+    append_number(alloc, out, second)
 }

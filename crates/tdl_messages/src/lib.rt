@@ -22,16 +22,12 @@
 #![tactic(auto)]
 
 mod answer_lines;
-mod class_rejections;
 mod file_kind;
 mod link_rejections;
-mod numbers;
-mod reasoned;
 mod rejection;
 mod rejections;
 
-pub use answer_lines::{append_accepted, append_line, append_rejected};
+pub use answer_lines::{Reasoned, append_accepted, append_line, append_rejected};
 pub use file_kind::FileKind;
-pub use reasoned::Reasoned;
 pub use rejection::{FileFault, Rejection};
 pub use rejections::rejected_line;

@@ -1,9 +1,8 @@
 ghost use Rattle.std.specs.Prelude.{◌≡◌, ◌++◌, IfOk, OnOk, codes};
 ghost use Rattle.tdl_messages.specs.Rejections.{ai_text, ambiguous_text, error_text, json_text, level_text, limit_text, mismatch_text, of_level, of_level_twice, prefixes_text, rejected_line, shown, shown_byte, tables_text};
 
-use crate::class_rejections::append_classes;
-use crate::link_rejections::{append_link_text, append_place_of, append_store};
-use crate::numbers::{append_numbered_twice, append_words};
+use crate::answer_lines::{append_numbered_twice, append_words};
+use crate::link_rejections::{append_classes, append_link_text, append_place_of, append_store};
 use crate::rejection::{FileFault, Rejection};
 use gs_ai::AiFault;
 use gs_chars::{CharSet, Memory};
