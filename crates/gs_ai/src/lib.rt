@@ -6,8 +6,8 @@
 //!
 //! # Example
 //!
-//! A GTIN whose check digit is wrong. The gate runs this case, for which crates/vectors_texts/src/identifiers.rt makes the
-//! call.
+//! A GTIN whose check digit is wrong. The gate runs this case, for which crates/vectors_translation/src/identifiers.rt makes
+//! the call.
 //!
 //! ```text
 //! gs_ai::value_ok 01 09506000134353

@@ -6,12 +6,12 @@
 //!
 //! # Example
 //!
-//! The first machine reads `ab`, the second `ab` and `ac`, so they share `ab`. The gate runs this case, for which
-//! crates/vectors_values/src/machines.rt makes the calls.
+//! The first option is the text `12`, the second a `1` and a digit, so their machines share `12`. The gate runs this case, for
+//! which crates/vectors_grammars/src/machines.rt makes the calls.
 //!
 //! ```text
-//! gs_ambig::check 0,2/97-97>1/98-98>2/ 0,2/97-97>1/98-99>2/
-//! 0 1 ab
+//! gs_ambig::check text lit:12 | lit:1 digits:1:1
+//! 0 1 12
 //! ```
 //!
 //! # Differences from the standards

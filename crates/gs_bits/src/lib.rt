@@ -7,7 +7,7 @@
 //! # Example
 //!
 //! The header, filter value, partition value and further fields of an SGTIN-96 are taken, and then one bit more than it has.
-//! The gate runs this case, for which crates/vectors_values/src/bits.rt makes the calls.
+//! The gate runs this case, for which crates/vectors_grammars/src/bits.rt makes the calls.
 //!
 //! ```text
 //! gs_bits::take 12 3074257BF7194E4000001A85 8 3 3 24 20 38 1 0

@@ -9,7 +9,7 @@
 //! # Example
 //!
 //! The check digit of a GTIN-13 without its last digit. The gate runs this case, for which
-//! crates/vectors_values/src/characters.rt makes the call.
+//! crates/vectors_grammars/src/characters.rt makes the call.
 //!
 //! ```text
 //! gs_chars::check_digit 629104150021

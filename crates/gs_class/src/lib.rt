@@ -8,7 +8,7 @@
 //! # Example
 //!
 //! A lot of a trade item, by the built-in classes: the key with its check digit, and the lot. The gate runs this case, for which
-//! crates/vectors_class/src/lib.rt makes the call.
+//! crates/vectors_translation/src/class_uris.rt makes the call.
 //!
 //! ```text
 //! gs_class::read - urn:epc:class:lgtin:0614141.812345.998877

@@ -7,7 +7,7 @@
 //! # Example
 //!
 //! A shop's link with its own path before the key, an escape, a query parameter that is not an element, and a fragment. The
-//! gate runs this case, for which crates/vectors_texts/src/digital_links.rt makes the call.
+//! gate runs this case, for which crates/vectors_translation/src/digital_links.rt makes the call.
 //!
 //! ```text
 //! gs_dlink::read_link https://shop.example/a/01/9506000134352/21/%41?linkType=x&17=261231#f

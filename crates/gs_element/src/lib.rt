@@ -7,7 +7,7 @@
 //! # Example
 //!
 //! A GTIN, an expiry date, a lot and a serial number from a GS1-128 symbol, the lot ended by a group separator. The gate runs
-//! this case, for which crates/vectors_texts/src/elements.rt makes the call.
+//! this case, for which crates/vectors_translation/src/elements.rt makes the call.
 //!
 //! ```text
 //! gs_element::read_raw ]C101095060001343521726123110ABC\x1D21X1

@@ -7,7 +7,7 @@
 //! # Example
 //!
 //! The tag bits of an SGTIN-96: header, filter value, partition value, company prefix, item reference and serial number. The
-//! gate runs this case, for which crates/vectors_values/src/grammars.rt makes the call; `\e` is the empty value of a literal.
+//! gate runs this case, for which crates/vectors_grammars/src/grammars.rt makes the call; `\e` is the empty value of a literal.
 //!
 //! ```text
 //! gs_grammar::write_bits bits:00110000 num:3:7 bits:101 numpad:24:7 numpad:20:6 num:38:274877906943 = \e 3 \e 0614141 812345 6789

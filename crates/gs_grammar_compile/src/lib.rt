@@ -6,7 +6,7 @@
 //! # Example
 //!
 //! Three digits are read by `pad:2 pad:1` and by `pad:3`, so the machines of these two options share them. The gate runs this
-//! case, for which crates/vectors_values/src/machines.rt makes the calls.
+//! case, for which crates/vectors_grammars/src/machines.rt makes the calls.
 //!
 //! ```text
 //! gs_grammar_compile::share text pad:2 pad:1 | pad:3

@@ -11,8 +11,8 @@
 //!
 //! # Example
 //!
-//! A pure identity URI by the second of two options. The gate runs this case, for which crates/vectors_values/src/levels.rt makes
-//! the calls; `\e` is the empty value of a literal.
+//! A pure identity URI by the second of two options. The gate runs this case, for which crates/vectors_grammars/src/levels.rt
+//! makes the calls; `\e` is the empty value of a literal.
 //!
 //! ```text
 //! gs_grammar_level::read_text urn:epc:id:sgtin:0614141.812345.6789 pad:3 | lit:urn:epc:id:sgtin: pad:7 lit:. pad:6 lit:. esc:1:20

@@ -7,8 +7,8 @@
 //!
 //! # Example
 //!
-//! A lot that has its own link. The gate runs this case, for which crates/vectors_replies/src/heads.rt makes the call; the head
-//! of crates/vectors_cases/src/lib.rt describes how bytes are written, and `lots` is a linkset of that file.
+//! A lot that has its own link. The gate runs this case, for which crates/vectors_resolver/src/heads.rt makes the call; the
+//! head of crates/vectors_cases/src/lib.rt describes how bytes are written, and `lots` is a linkset of that file.
 //!
 //! ```text
 //! gs_http::reply lots - - GET\x20/01/09506000134352/10/ABC/21/X1\x20HTTP/1.1\x0D\x0AHost:\x20r\x0D\x0A\x0D\x0A

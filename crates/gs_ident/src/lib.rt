@@ -6,7 +6,7 @@
 //! # Example
 //!
 //! A trade item with a lot, a serial number, a variant and an expiry date: the qualifiers are in the order of the standard, the
-//! attribute in the query. The gate runs this case, for which crates/vectors_texts/src/identities.rt makes the calls.
+//! attribute in the query. The gate runs this case, for which crates/vectors_translation/src/identities.rt makes the calls.
 //!
 //! ```text
 //! gs_ident::spell https://r.example/g 01 09506000134352 10 ABC 21 X/1 22 2 17 261231

@@ -9,7 +9,7 @@
 //! # Example
 //!
 //! The first item of the member `a` has no member `c`: the error gives its place as a JSON Pointer (RFC 6901). The gate runs
-//! this case, and crates/vectors_values/src/documents.rt makes the calls.
+//! this case, and crates/vectors_grammars/src/json_documents.rt makes the calls.
 //!
 //! ```text
 //! gs_json::text {"a":[{"b":"c"}]} .a #0 .c

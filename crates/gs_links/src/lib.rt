@@ -10,7 +10,7 @@
 //! # Example
 //!
 //! An anchor needs a key: only the qualifier 21 names nothing. The gate runs this case, for which
-//! crates/vectors_texts/src/links.rt makes the call. That file also has the cases of `choose`, `narrow` and `document`.
+//! crates/vectors_links/src/links.rt makes the call. That file also has the cases of `choose`, `narrow` and `document`.
 //!
 //! ```text
 //! gs_links::load {"linkset":[{"anchor":"/21/A"}]}

@@ -5,7 +5,7 @@
 //!
 //! # Example
 //!
-//! A linkset of one context with two targets. The gate runs this case, and crates/vectors_values/src/linksets.rt makes the
+//! A linkset of one context with two targets. The gate runs this case, and crates/vectors_links/src/linksets.rt makes the
 //! calls.
 //!
 //! ```text

@@ -8,7 +8,7 @@
 //! # Example
 //!
 //! A link with two relation types, which gives two links. Their order is kept, so each has a separate context. The gate runs this
-//! case, for which crates/vectors_web/src/linktexts.rt makes the call.
+//! case, for which crates/vectors_links/src/linktexts.rt makes the call.
 //!
 //! ```text
 //! gs_linktext::read <https://a.example/1>;rel="b\x20a"\x20;\x20anchor="/414/0614141000012",

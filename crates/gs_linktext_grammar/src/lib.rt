@@ -7,7 +7,7 @@
 //! # Example
 //!
 //! A comma in a quoted string divides no links: one link with three parameters. The gate runs this case, for which
-//! crates/vectors_web/src/written_links.rt makes the call.
+//! crates/vectors_links/src/written_links.rt makes the call.
 //!
 //! ```text
 //! gs_linktext_grammar::read_links <https://a.example/1>;rel=item;anchor="/414/0614141000012";title="a,b"

@@ -6,7 +6,7 @@
 //! # Example
 //!
 //! A control word that says six words, and the 96 bits of an SGTIN-96 after it. The gate runs this case, for which
-//! crates/vectors_membank/src/lib.rt makes the calls.
+//! crates/vectors_translation/src/dumps.rt makes the calls.
 //!
 //! ```text
 //! gs_membank::show_dump 30003074257BF7194E4000001A85

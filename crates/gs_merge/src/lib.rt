@@ -8,7 +8,7 @@
 //! # Example
 //!
 //! Two stores of one anchor and one relation; the second has one target of the first, and another one. The gate runs this case,
-//! for which crates/vectors_merge/src/lib.rt makes the call.
+//! for which crates/vectors_links/src/merging.rt makes the call.
 //!
 //! ```text
 //! gs_merge::merge {"linkset":[{"anchor":"/414/0614141000012","r":[{"href":"https://x.example/"}]}]} {"linkset":[{"anchor":"/414/0614141000012","r":[{"href":"https://y.example/"},{"href":"https://x.example/"}]}]}

@@ -5,8 +5,8 @@
 //!
 //! # Example
 //!
-//! A GTIN whose company prefix has 7 digits. The gate runs this case, for which crates/vectors_values/src/prefixes.rt makes the
-//! calls.
+//! A GTIN whose company prefix has 7 digits. The gate runs this case, for which crates/vectors_translation/src/prefixes.rt
+//! makes the calls.
 //!
 //! ```text
 //! gs_prefix::length_of {"version":1,"prefixes":[{"prefix":"0614141","length":7}]} 06141411234578

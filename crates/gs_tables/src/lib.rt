@@ -11,7 +11,7 @@
 //! # Example
 //!
 //! The built-in set has 57 application identifiers, 10 kinds, and 105, 105 and 70 options of tag bits, tag URIs and pure identity
-//! URIs. The gate runs this case, for which crates/vectors_texts/src/tables.rt makes the call.
+//! URIs. The gate runs this case, for which crates/vectors_translation/src/tables.rt makes the call.
 //!
 //! ```text
 //! gs_tables::builtin

@@ -6,7 +6,7 @@
 //! # Example
 //!
 //! The numbers of the rows of application identifiers, of kinds, and of options of tag bits, of tag URIs and of pure identity
-//! URIs. The gate runs this case, for which crates/vectors_texts/src/rows.rt makes the call.
+//! URIs. The gate runs this case, for which crates/vectors_translation/src/rows.rt makes the call.
 //!
 //! ```text
 //! gs_tables_builtin::document

@@ -6,8 +6,8 @@
 //!
 //! # Example
 //!
-//! An item of a tag URI: a company prefix of seven digits. The gate runs this case, for which crates/vectors_texts/src/rows.rt makes
-//! the call.
+//! An item of a tag URI: a company prefix of seven digits. The gate runs this case, for which
+//! crates/vectors_translation/src/rows.rt makes the call.
 //!
 //! ```text
 //! gs_tables_document::read_item tag ["pad","gcp",7]

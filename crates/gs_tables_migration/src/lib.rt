@@ -5,8 +5,8 @@
 //!
 //! # Example
 //!
-//! A document of one kind. The gate runs this case, for which crates/vectors_texts/src/tables.rt makes the call, over the load
-//! of gs_tables.
+//! A document of one kind. The gate runs this case, for which crates/vectors_translation/src/tables.rt makes the call, over the
+//! load of gs_tables.
 //!
 //! ```text
 //! gs_tables::migrate {"version":1,"ais":[{"code":"00","parts":["n18c"],"role":"key"}],"kinds":[{"name":"sscc","key":"00","lead":1,"serial":""}],"binary":[],"tag":[],"pure":[]}

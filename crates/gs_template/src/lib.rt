@@ -7,7 +7,7 @@
 //! # Example
 //!
 //! The serial number has a slash, which is escaped, and there is no lot, so that nothing stands for its place. The gate runs this
-//! case, for which crates/vectors_texts/src/templates.rt makes the call.
+//! case, for which crates/vectors_links/src/templates.rt makes the call.
 //!
 //! ```text
 //! gs_template::expand https://shop.example/p/{01}?s={21}&l={10} 01 09506000134352 21 A/B

@@ -9,8 +9,8 @@
 //!
 //! # Example
 //!
-//! The bits of a tag as a tag URI. The gate runs this case, for which crates/vectors_texts/src/translations.rt makes the call;
-//! its head names the arguments.
+//! The bits of a tag as a tag URI. The gate runs this case, for which crates/vectors_translation/src/translations.rt makes the
+//! call; its head names the arguments.
 //!
 //! ```text
 //! gs_translate::translate Hex Tag - - \e no https://id.gs1.org \e 3074257BF7194E4000001A85

@@ -5,7 +5,8 @@
 //! # Example
 //!
 //! Two lines of at most 38 bytes; the second is not a pure identity. The gate runs this case, for which
-//! crates/vectors_runs/src/translated_lines.rt makes the call: the status, the output, and the bytes of the input that are left.
+//! crates/vectors_program/src/translated_lines.rt makes the call: the status, the output, and the bytes of the input that are
+//! left.
 //!
 //! ```text
 //! tdl_answers::answer_lines Pure Canon - - \e no https://id.gs1.org \e 38 / 1 - urn:epc:id:sgtin:0614141.812345.6789\x0Ax / 1000 -

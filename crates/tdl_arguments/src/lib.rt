@@ -6,7 +6,7 @@
 //! # Example
 //!
 //! The filter value of a translation, and its other values by default: no company prefix length, no encoding, all elements kept,
-//! and the stem. The gate runs this case, for which crates/vectors_runs/src/arguments.rt makes the call.
+//! and the stem. The gate runs this case, for which crates/vectors_program/src/arguments.rt makes the call.
 //!
 //! ```text
 //! tdl_arguments::read_arguments translate link hex --filter 1

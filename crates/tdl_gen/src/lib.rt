@@ -5,8 +5,9 @@
 //!
 //! # Example
 //!
-//! The counts of 1,000 lines by the built-in tables, written by seven bytes at a time: all are answered. The gate runs this case, for
-//! which crates/vectors_runs/src/generated.rt makes the call; the head of crates/vectors_cases/src/lib.rt says how bytes are written.
+//! The counts of 1,000 lines by the built-in tables, written by seven bytes at a time: all are answered. The gate runs this
+//! case, for which crates/vectors_program/src/generated.rt makes the call; the head of crates/vectors_cases/src/lib.rt says how
+//! bytes are written.
 //!
 //! ```text
 //! tdl_gen::generate 1000 / 7 -

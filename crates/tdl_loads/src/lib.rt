@@ -7,7 +7,7 @@
 //!
 //! # Example
 //!
-//! A whole run whose tables are rejected. The gate runs this case: crates/vectors_runs/src/runs.rt makes the call.
+//! A whole run whose tables are rejected. The gate runs this case: crates/vectors_program/src/runs.rt makes the call.
 //!
 //! ```text
 //! tdl_run::run check --tables t / - t {"version":1} / 5 - \e / 1000 -

@@ -8,8 +8,8 @@
 //!
 //! # Example
 //!
-//! The line of tables with a missing member. The gate runs this case, for which crates/vectors_runs/src/messages.rt makes the
-//! call.
+//! The line of tables with a missing member. The gate runs this case, for which crates/vectors_program/src/messages.rt makes
+//! the call.
 //!
 //! ```text
 //! tdl_messages::rejected_line {"version":1}

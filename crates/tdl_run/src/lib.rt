@@ -7,8 +7,8 @@
 //! # Example
 //!
 //! A whole run over objects in memory: the arguments, no files, an input that is read two bytes at a time, and an output that
-//! takes three at a time. The gate runs this case: crates/vectors_runs/src/runs.rt makes the call. The result is the status, the
-//! output, and the rest of the input.
+//! takes three at a time. The gate runs this case: crates/vectors_program/src/runs.rt makes the call. The result is the status,
+//! the output, and the rest of the input.
 //!
 //! ```text
 //! tdl_run::run canon pure / - / 2 - urn:epc:id:sgtin:0614141.812345.6789\x0A / 3 -

@@ -7,7 +7,8 @@
 //! # Example
 //!
 //! A request for a trade item, and the redirection to its default link. The gate runs this case:
-//! crates/vectors_replies/src/resolved.rt makes the call. The head of crates/vectors_cases/src/lib.rt says how bytes are written.
+//! crates/vectors_resolver/src/resolved.rt makes the call. The head of crates/vectors_cases/src/lib.rt says how bytes are
+//! written.
 //!
 //! ```text
 //! tdl_serve::resolve {"linkset":[{"anchor":"/01/09506000134352","gs1:defaultLink":[{"href":"https://example.com/p"}]}]} / 4096 - GET\x20/01/09506000134352\x20HTTP/1.1\x0D\x0A\x0D\x0A / 4096 -
