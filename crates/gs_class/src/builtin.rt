@@ -2,7 +2,7 @@ ghost use Rattle.std.specs.Prelude.{◌≡◌, ◌≤◌, ◌++◌, ◌∷◌, [
 ghost use Rattle.gs_grammar.specs.declared.item.Item.TheVariants.{Lit};
 ghost use Rattle.gs_class.specs.BuiltIn.{built_in_rows, lgtin_items, lgtin_row};
 
-use crate::row::ClassRow;
+use crate::document::ClassRow;
 use gs_chars::{List, Memory, Text};
 use gs_grammar::Item;
 use gs_tables::Field;

@@ -1,21 +1,23 @@
-ghost use Rattle.std.specs.Prelude.{◌≡◌, [], List as ListOf, IfOk, length};
+ghost use Rattle.std.specs.Prelude.{◌≡◌, [], List as ListOf, IfOk, length, ◌≤◌, ◌++◌, false, OnOk, map};
 ghost use Rattle.serde_json.specs.View.{view};
 ghost use Rattle.gs_ai.specs.declared.row.AiRow.{AiRow};
 ghost use Rattle.gs_class.specs.Answers.{BuiltInAnswer, Judged, LoadAnswer, OrMemory, ruled_document, ruled_rows};
-ghost use Rattle.gs_class.specs.Sets.{IsClear, IsOfTable, set_of};
+ghost use Rattle.gs_class.specs.Sets.{IsClear, IsOfTable, set_of, class_of, option_of};
+ghost use Rattle.gs_grammar.specs.Levels.{KeepBounds};
+ghost use Rattle.gs_tables_document.specs.Items.{alone, present};
+ghost use Rattle.gs_class.specs.AnswersSupport.{IsLevelJudged};
+ghost use Rattle.gs_class.specs.Rules.{class_rejections};
 
 use crate::builtin::built_in_rows;
-use crate::checks::{check_rows, check_version};
-use crate::class::Class;
+use crate::document::{ClassRow, judge_form, of_json, read_rows};
 use crate::error::ClassLoadFault;
-use crate::form::{judge_form, of_json};
-use crate::making::{judge_level, make_parts};
-use crate::reading::read_rows;
-use crate::row::ClassRow;
+use crate::rules::{check_rows, check_version};
 use gs_ai::AiTable;
-use gs_chars::{List, Memory};
+use gs_chars::{List, Memory, Text};
+use gs_grammar::Opt;
 use gs_grammar_level::Level;
 use gs_json::{Doc, Node};
+use gs_tables::{Field, split_items};
 use std::alloc::Global;
 use std::marker::Model;
 
@@ -135,5 +137,102 @@ impl ClassSet {
         ensures clear { IsClear self.now }
     {
         &self.level
+    }
+}
+
+/// A class of things that a class URI names: the facts of an option of a set apart from its items.
+#[derive(Drop)]
+pub struct Class {
+    /// The name, as written in class URIs.
+    pub name: Text,
+    /// The code of the key.
+    pub key: Text,
+    /// The AI of the element that identifies the class among the things of one key.
+    pub element: Text,
+    /// How many digits of the key are before the company prefix and go with the rest, 0 or 1.
+    pub lead: u8,
+    /// How many digits the GS1 Company Prefix has, 1 to 12.
+    pub gcp: u8,
+    /// The field of each item, none for literals.
+    pub fields: List<Option<Field>>,
+}
+
+/// Returns the option of a row that no rule rejects, with its facts.
+fn make_class(alloc: Global, row: ClassRow) -> Result<(Opt, Class), Memory>
+    requires lead { row.lead ≤ 1 }
+    requires gcp { row.gcp ≤ 12 }
+    requires items { KeepBounds false (alone (present row.items)) }
+    ensures option { IfOk result (λ made. made.0 ≡ option_of row) }
+    ensures class { IfOk result (λ made. made.1 ≡ class_of row) }
+{
+    let ClassRow {
+        name,
+        key,
+        lead,
+        element,
+        gcp,
+        items,
+    } = row;
+    let (fields, items) = split_items(alloc, items)?;
+    let class = Class {
+        name,
+        key,
+        element,
+        lead: lead as u8,
+        gcp: gcp as u8,
+        fields,
+    };
+    Ok((Opt::of_items(false, items), class))
+}
+
+/// Appends the options of rows that no rule rejects, with the facts of each.
+fn push_classes(
+    alloc: Global,
+    ais: &AiTable,
+    rows: Vec<ClassRow>,
+    options: &mut Vec<Opt>,
+    classes: &mut Vec<Class>,
+) -> Result<(), Memory>
+    requires { class_rejections ais.now rows.items ≡ [] }
+    ensures options { OnOk result (options.new.items ≡ options.old.items ++ map option_of rows.items) }
+    ensures classes { OnOk result (classes.new.items ≡ classes.old.items ++ map class_of rows.items) }
+{
+    // only for the proof: the rows satisfy the rules, given these application identifiers
+    let _ = ais;
+    for row in rows {
+        let (option, class) = make_class(alloc, row)?;
+        options.push(option)?;
+        classes.push(class)?;
+    }
+    Ok(())
+}
+
+/// Returns the options of rows that no rule rejects as a level, with the facts of each.
+pub(crate) fn make_parts(
+    alloc: Global,
+    ais: &AiTable,
+    rows: Vec<ClassRow>,
+) -> Result<(Level, List<Class>), Memory>
+    requires { class_rejections ais.now rows.items ≡ [] }
+    ensures level { IfOk result (λ parts. parts.0 ≡ (set_of rows.items).level) }
+    ensures classes { IfOk result (λ parts. parts.1 ≡ (set_of rows.items).classes) }
+{
+    let mut options = Vec::new(alloc);
+    let mut classes = Vec::new(alloc);
+    push_classes(alloc, ais, rows, &mut options, &mut classes)?;
+    Ok((Level::new(alloc, false, options)?, List::from_vec(classes)))
+}
+
+/// Rejects a level that is ambiguous.
+pub(crate) fn judge_level(alloc: Global, level: &Level) -> Result<(), ClassLoadFault>
+    ensures { IsLevelJudged level.now result }
+{
+    match level.first_share(alloc)? {
+        None => Ok(()),
+        Some(pair) => Err(ClassLoadFault::Ambiguous {
+            i: pair.first,
+            j: pair.second,
+            text: pair.text,
+        }),
     }
 }

@@ -24,17 +24,12 @@
 #![tactic(auto)]
 
 mod builtin;
-mod checks;
-mod class;
 mod class_set;
+mod document;
 mod error;
-mod form;
 mod laws;
-mod making;
 mod reader;
-mod reading;
-mod row;
-mod row_rules;
+mod rules;
 mod writer;
 
 pub use class_set::ClassSet;

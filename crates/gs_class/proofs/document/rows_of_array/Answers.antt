@@ -1,0 +1,16 @@
+use Rattle.std.proofs.Common.{unwrap_or, sym, ap, ◌∙◌}
+use Rattle.serde_json.specs.View.{view}
+use Rattle.gs_json.proofs.ArrayItems.{items_at}
+use Rattle.gs_class.specs.Documents.{row_of}
+use Rattle.gs_class.proofs.ReadLemmas.{all_read, one_read}
+use Rattle.gs_class.proofs.document.rows_of_array.Goals as goal
+
+pub loop-i-preserved : goal.loop-i-preserved
+loop-i-preserved c =
+    one_read row_of (view c.args.array.now.tree) c.loop-i.i (view c.in-Ok.row.tree) c.loop-i.rows.items c.push.new.self.items c.in_ok-read_row.field-0
+    (items_at (view c.args.array.now.tree) c.loop-i.i ∙ sym c.in-Ok.ensures.item) c.loop-i.invariant c.in_ok-push.ensures.items c.in_ok-read_row.ensures
+
+pub returns : goal.returns
+returns c =
+    let size = c.unwrap_or-count.ensures ∙ ap (λ count. unwrap_or count 0) c.items_len.ensures in
+    all_read row_of (view c.args.array.now.tree) c.loop-i.i c.unwrap_or-count.result c.loop-i.rows.items size c.loop-i-test.false c.loop-i.invariant
