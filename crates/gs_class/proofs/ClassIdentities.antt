@@ -26,11 +26,11 @@ use Rattle.gs_epc.proofs.KeptRules.{fits_prefix, fits_room}
 use Rattle.gs_ident.proofs.KeyPairs.{found_place}
 use Rattle.gs_epc.proofs.LayoutLaws.{is_qualified, made_is}
 use Rattle.gs_epc.proofs.LayoutValues.{are_key_digits}
-use Rattle.gs_class.specs.declared.class.Class.{Class}
-use Rattle.gs_class.specs.declared.class.ClassRow.{ClassRow}
-use Rattle.gs_class.specs.Meanings.{class_identity, said_by}
-use Rattle.gs_class.specs.MeaningsSupport.{FitsClass, kind_of}
-use Rattle.gs_class.specs.Sets.{class_of}
+use Rattle.gs_class.specs.declared.class_set.Class.{Class}
+use Rattle.gs_class.specs.declared.document.ClassRow.{ClassRow}
+use Rattle.gs_class.specs.Meanings.{said_by}
+use Rattle.gs_class.specs.MeaningsSupport.{FitsClass}
+use Rattle.gs_class.specs.Sets.{class_of, kind_of}
 use Rattle.gs_class.proofs.KeptClasses.{KeptClass}
 
 -- ---- fields that fit a class
@@ -57,7 +57,8 @@ kind_kept ais row kept = record {
 room_is : (ais : List AiRow) (row : ClassRow) (kept : KeptClass ais row) → serial_room ais (Digits (kept.k - 1) Nothing) (Ai row.element) ≡ Some (Characters kept.most)
 room_is ais row kept = rw (kept.element_found, kept.room.characters) refl
 
-none_stands : (ais : List AiRow) (row : ClassRow) (kept : KeptClass ais row) (value : List ℕ) → stands_for_none ais (record { code = row.element; value = value }) ≡ false
+-- each value of the element counts
+pub none_stands : (ais : List AiRow) (row : ClassRow) (kept : KeptClass ais row) (value : List ℕ) → stands_for_none ais (record { code = row.element; value = value }) ≡ false
 none_stands ais row kept value = rw (kept.element_found, kept.room.none) refl
 
 -- the fields of the values of a row's items fit its class
@@ -92,10 +93,6 @@ module _ (ais : List AiRow) (class : Class) (said : KeyFields) (fits : FitsClass
       let parts : parts_at ais class.key ≡ NumCheck fits.k ∷ [] = rw (fits.fit.of_kind.found, fits.parts) refl in
       rw (parts, fits.fit.further.0, fits.fit.further.1) (append-nil (with_check (key_digits class.lead said.prefix said.rest)))
 
-  -- the identity of the class is the layout of its kind
-  pub laid_is : lay ais (kind_of class) said ≡ class_identity class said
-  laid_is = rw (value_is, fits.counts said.serial) refl
-
   key_is : (code value : List ℕ) → code ≡ class.key → value ≡ with_check (key_digits class.lead said.prefix said.rest) → record { code = code; value = value } ≡ key_pair ais (kind_of class) said
   key_is code value a b = rw (a, b, value_is) refl
 
@@ -111,8 +108,8 @@ module _ (ais : List AiRow) (class : Class) (said : KeyFields) (fits : FitsClass
       is_qualified ais (kind_of class) said own (Some other) (key_is code value a b) (element_is element lot d e) fits.fit rules
 
   pub identity_is : (code value element lot : List ℕ) (identity : Elements) → code ≡ class.key → value ≡ with_check (key_digits class.lead said.prefix said.rest) → element ≡ class.element → lot ≡ said.serial
-      → identity_of_pairs ais (record { code = code; value = value } ∷ pairs_in (Some (record { code = element; value = lot }))) ≡ Ok identity → identity ≡ class_identity class said
+      → identity_of_pairs ais (record { code = code; value = value } ∷ pairs_in (Some (record { code = element; value = lot }))) ≡ Ok identity → identity ≡ lay ais (kind_of class) said
   identity_is code value element lot identity a b d e made =
       let own : Pair = record { code = code; value = value } in
       let other : Pair = record { code = element; value = lot } in
-      made_is ais (kind_of class) said own (Some other) (key_is code value a b) (element_is element lot d e) fits.fit rules identity made ∙ laid_is
+      made_is ais (kind_of class) said own (Some other) (key_is code value a b) (element_is element lot d e) fits.fit rules identity made

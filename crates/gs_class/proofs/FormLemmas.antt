@@ -9,16 +9,14 @@ use Rattle.serde_json.specs.Find.{as_object}
 use Rattle.serde_json.specs.Read.{read as read_text}
 use Rattle.gs_json.specs.Answers.{OrMemory as JsonOrMemory}
 use Rattle.gs_json.specs.Members.{document_of}
-use Rattle.gs_json.specs.Places.{item_place}
 use Rattle.gs_json.specs.Shapes.{first_error, members_errors}
 use Rattle.gs_json.specs.declared.error.JsonFault.{JsonFault}
 use Rattle.gs_json.specs.declared.error.JsonFault.TheVariants as json
-use Rattle.gs_prefix.proofs.FirstRejections.{all_rows, one_more, split_at}
+use Rattle.gs_prefix.proofs.FirstRejections.{first_behind, first_in_front}
 use Rattle.gs_class.specs.declared.error.ClassLoadFault.{ClassLoadFault}
 use Rattle.gs_class.specs.declared.error.ClassLoadFault.TheVariants.{Json, Memory}
 use Rattle.gs_class.specs.AnswersSupport.{IsFormFirst, of_json}
-use Rattle.gs_class.specs.Documents.{array_errors, document_plan, form_errors, row_plan, rows_errors}
-use Rattle.gs_class.proofs.FirstErrors.{first_behind, first_in_front, nothing_in_front}
+use Rattle.gs_class.specs.Documents.{document_plan, form_errors, rows_errors}
 
 -- ---- errors of JSON
 
@@ -41,30 +39,6 @@ pub passed : (errors : List JsonFault) (u : Unit {0}) → JsonOrMemory (Ok u) (f
 passed errors u (inl h) = absurd (let g : Ok u ≡ Err json.Memory = h in cc)
 passed [] u (inr h) = inr refl
 passed (f ∷ errors) u (inr h) = absurd (let g : Ok u ≡ Err f = h in cc)
-
-no_json : (errors : List JsonFault) → map Json errors ≡ [] → errors ≡ []
-no_json [] h = refl
-no_json (f ∷ errors) h = absurd (let g : Json f ∷ map Json errors ≡ [] = h in cc)
-
--- ---- the rows of an array
-
-module _ (place : List ℕ) (items : List Data) where
-  abbrev errors_at : ℕ × Data → List JsonFault
-  errors_at row = members_errors (item_place place row.0) row_plan (as_object row.1)
-
-  pub item_rejected : (i : ℕ) (x : Data) (e : ClassLoadFault) → slice_get items i ≡ Some x → array_errors place (take i items) ≡ [] → IsFormFirst (errors_at (i, x)) (Err e) → IsFormFirst (array_errors place items) (Err e)
-  unfolding array_errors
-  item_rejected i x e at none h =
-      let split = split_at errors_at items i x at none in
-      rw (split.1, map-append) (first_in_front Memory (map Json (errors_at (i, x))) (map Json split.0) (tt {0}) (tt {0}) e h)
-
-  pub one_item_more : (i : ℕ) (x : Data) (z : Unit {0}) → slice_get items i ≡ Some x → array_errors place (take i items) ≡ [] → IsFormFirst (errors_at (i, x)) (Ok z) → array_errors place (take (i + 1) items) ≡ []
-  unfolding array_errors
-  one_item_more i x z at none h = one_more errors_at items i x at none (no_json (errors_at (i, x)) (nothing_in_front Memory (map Json (errors_at (i, x))) (tt {0}) z h))
-
-  pub all_items : (i : ℕ) → length items ≤ i → array_errors place (take i items) ≡ [] → IsFormFirst (array_errors place items) (Ok (tt {0}))
-  unfolding array_errors
-  all_items i all none = rw (all_rows errors_at items i all none) (inr refl)
 
 -- ---- the form of a document
 

@@ -28,7 +28,7 @@ use Rattle.gs_tables.specs.Rules.{items_of_field, keeps_gcp, keeps_rest, keeps_s
 use Rattle.gs_tables.proofs.KeptRows.{gcp_kept}
 use Rattle.gs_class.specs.declared.error.ClassLoadFault.{ClassLoadFault}
 use Rattle.gs_class.specs.declared.error.ClassLoadFault.TheVariants.{Limit, BadItem, Size, Mismatch, Duplicate}
-use Rattle.gs_class.specs.declared.class.ClassRow.{ClassRow}
+use Rattle.gs_class.specs.declared.document.ClassRow.{ClassRow}
 use Rattle.gs_class.specs.Rules.{agrees, are_many, class_rejections, digits_alone, element_room, fits_key, fits_parts, is_bad_item, is_class, is_class_item, is_same_row, keeps_items, row_rejections}
 
 -- ---- parts of rejections

@@ -22,8 +22,7 @@ use Rattle.gs_tables.specs.declared.form.Behind.TheVariants.{Nothing}
 use Rattle.gs_tables.specs.declared.form.KeyForm.TheVariants.{Digits}
 use Rattle.gs_tables.specs.Rules.{is_digits, is_gcp, is_one, keeps_gcp}
 use Rattle.gs_epc.proofs.LaidAgain.{parts_kept}
-use Rattle.gs_class.specs.declared.class.ClassRow.{ClassRow}
-use Rattle.gs_class.specs.Written.{without_check_digit}
+use Rattle.gs_class.specs.declared.document.ClassRow.{ClassRow}
 use Rattle.gs_class.proofs.KeptClasses.{KeptClass}
 
 -- ---- digits
@@ -97,16 +96,16 @@ pub record AreDigits (n : ℕ) (text : List ℕ) : Type 0 where
 
 module _ (k lead n : ℕ) (value : List ℕ) (is : IsKeyValue k value) (low : lead ≤ 1) (length_is : IsLength (k - 1) lead n) where
   abbrev front : List ℕ
-  front = without_check_digit value
+  front = take (k - 1) value
 
   front_count : length front ≡ k - 1
   front_count =
-      let l = length-take (length value - 1) value in
+      let l = length-take (k - 1) value in
       let count = is.count in
       omega arith
 
   front_digits : are_digits front ≡ true
-  front_digits = digits_taken (length value - 1) value is.digits
+  front_digits = digits_taken (k - 1) value is.digits
 
   pub prefix_digits : AreDigits n (take n (drop lead front))
   prefix_digits =

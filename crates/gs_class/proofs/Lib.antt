@@ -1,4 +1,3 @@
-pub mod FirstErrors
 pub mod FormLemmas
 pub mod ReadLemmas
 pub mod RowRejections
@@ -6,6 +5,7 @@ pub mod KeptClasses
 pub mod SetParts
 pub mod ClassIdentities
 pub mod KeyDigits
+pub mod PlacedPairs
 pub mod WrittenItems
 pub mod Loading
 pub mod ReadBack

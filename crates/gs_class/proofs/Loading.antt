@@ -12,16 +12,16 @@ use Rattle.gs_grammar.specs.Levels.{LevelForm}
 use Rattle.gs_json.specs.Members.{document_of, number_in}
 use Rattle.gs_json.specs.declared.error.JsonFault.{JsonFault}
 use Rattle.gs_json.specs.declared.error.JsonFault.TheVariants as json
-use Rattle.gs_class.specs.declared.class.Class.{Class}
+use Rattle.gs_class.specs.declared.class_set.Class.{Class}
 use Rattle.gs_class.specs.declared.error.ClassLoadFault.{ClassLoadFault}
 use Rattle.gs_class.specs.declared.error.ClassLoadFault.TheVariants.{Json, Version, Limit, BadItem, Size, Mismatch, Duplicate, Ambiguous, Memory}
-use Rattle.gs_class.specs.declared.class.ClassRow.{ClassRow}
+use Rattle.gs_class.specs.declared.document.ClassRow.{ClassRow}
 use Rattle.gs_class.specs.Answers.{IsJudged, Judged, LoadAnswer, OrMemory, ruled_bytes, ruled_document, ruled_rows}
 use Rattle.gs_class.specs.AnswersSupport.{IsFirst, IsFormFirst, IsLevelJudged, of_json}
 use Rattle.gs_class.specs.Documents.{form_errors, rows_of}
 use Rattle.gs_class.specs.Rules.{class_rejections}
 use Rattle.gs_class.specs.Sets.{ClassRows, IsClear, IsOfTable, set_of}
-use Rattle.gs_class.proofs.FirstErrors.{no_rejections, nothing_in_front, rejected_in_front}
+use Rattle.gs_prefix.proofs.FirstRejections.{no_rejections, nothing_in_front, rejected_in_front}
 use Rattle.gs_class.proofs.FormLemmas.{is_document}
 
 -- ---- the bytes

@@ -1,6 +1,8 @@
 -- A text is a class URI of one identity, and a set of rows has one answer.
 use Rattle.std.proofs.Common.{◌≡◌, ℕ, List, Option, Some, None, slice_get, refl, sym, ap, ◌∙◌}
 use Rattle.std.specs.Prelude.{All, Result, Ok, Err}
+use Rattle.gs_ai.specs.declared.row.AiRow.{AiRow}
+use Rattle.gs_epc.specs.Layout.{lay}
 use Rattle.gs_ident.specs.Elements.{Elements}
 use Rattle.gs_grammar.specs.Ambiguity.{ShowsFirstShare}
 use Rattle.gs_grammar.specs.Items.{IsItem}
@@ -10,23 +12,23 @@ use Rattle.gs_grammar_level.specs.declared.share.Shared.{Shared}
 use Rattle.gs_grammar_level.specs.FirstShares.{IsFirstShared}
 use Rattle.gs_grammar_level.proofs.SomeAnswer.{some_answer, one_pair}
 use Rattle.gs_grammar_level.proofs.DecidedReadings.{ambiguous_of}
-use Rattle.gs_class.specs.declared.class.Class.{Class}
+use Rattle.gs_class.specs.declared.class_set.Class.{Class}
 use Rattle.gs_class.specs.declared.error.ClassLoadFault.{ClassLoadFault}
 use Rattle.gs_class.specs.declared.error.ClassLoadFault.TheVariants.{Json, Version, Limit, BadItem, Size, Mismatch, Duplicate, Ambiguous, Memory}
 use Rattle.gs_class.specs.Answers.{AreAlike, IsJudged, Judged, same, but_text}
-use Rattle.gs_class.specs.Meanings.{IsClass, class_identity, said_by}
-use Rattle.gs_class.specs.Sets.{ClassRows, IsClear}
+use Rattle.gs_class.specs.Meanings.{IsClass, said_by}
+use Rattle.gs_class.specs.Sets.{ClassRows, IsClear, kind_of}
 
 -- ---- one identity
 
-pub one_identity : (set : ClassRows) (text : List ℕ) (one other : Elements) → IsClear set → IsClass set text one → IsClass set text other → one ≡ other
-one_identity set text one other clear a b =
+pub one_identity : (ais : List AiRow) (set : ClassRows) (text : List ℕ) (one other : Elements) → IsClear set → IsClass ais set text one → IsClass ais set text other → one ≡ other
+one_identity ais set text one other clear a b =
     let level = item_lists set.level.options in
     let both = one_reading level text a.derivation.option b.derivation.option a.derivation.values b.derivation.values (only_derivation level text clear a.derivation) (only_derivation level text clear b.derivation) in
     let here : slice_get set.classes b.derivation.option ≡ Some a.class = rw both.0 at a.named in
     let classes : Some a.class ≡ Some b.class = sym here ∙ b.named in
     let class : a.class ≡ b.class = cc in
-    a.is ∙ ap (λ (c : Class). class_identity c (said_by c a.derivation.values)) class ∙ ap (λ (v : List (List ℕ)). class_identity b.class (said_by b.class v)) both.1 ∙ sym b.is
+    a.is ∙ ap (λ (c : Class). lay ais (kind_of c) (said_by c a.derivation.values)) class ∙ ap (λ (v : List (List ℕ)). lay ais (kind_of b.class) (said_by b.class v)) both.1 ∙ sym b.is
 
 -- ---- one answer
 

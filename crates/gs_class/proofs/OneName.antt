@@ -1,20 +1,22 @@
 -- Classes of one name have one key and one element.
-use Rattle.std.proofs.Common.{◌≡◌, ℕ, zero, suc, ◌<◌, ◌==◌, ◌&&◌, Bool, true, List, [], ◌∷◌, take, Some, None, bytes_eq, find, slice_get, refl, sym, ap, ◌∙◌, arith, inl, inr}
+use Rattle.std.proofs.Common.{◌≡◌, ℕ, zero, suc, ◌<◌, ◌==◌, ◌&&◌, Bool, true, List, [], ◌∷◌, take, Some, None, bytes_eq, find, slice_get, is_some, refl, sym, ap, subst, ◌∙◌, arith, inl, inr}
 use Rattle.std.specs.List.{list_all}
 use Rattle.std.proofs.lemmas.Bool.{cases_lt, cases_eq}
 use Rattle.gs_chars.proofs.TruthsAndLists.{and_parts, equal_bytes, get_take, same_bytes}
 use Rattle.gs_ai.specs.declared.row.AiRow.{AiRow}
+use Rattle.gs_ai.specs.Values.{has_code}
 use Rattle.gs_ident.specs.Elements.{Elements}
-use Rattle.gs_ident.specs.Identities.{IsMadeWith}
+use Rattle.gs_ident.specs.Identities.{IsMadeWith, pair_with}
 use Rattle.gs_ident.proofs.KeyPairs.{found_place}
 use Rattle.gs_ident.proofs.PairLemmas.{found_passes}
-use Rattle.gs_class.specs.declared.class.Class.{Class}
-use Rattle.gs_class.specs.declared.class.ClassRow.{ClassRow}
+use Rattle.gs_class.specs.declared.class_set.Class.{Class}
+use Rattle.gs_class.specs.declared.document.ClassRow.{ClassRow}
 use Rattle.gs_class.specs.Rules.{agrees, class_rejections, is_same_pair}
 use Rattle.gs_class.specs.Sets.{ClassRows, IsOfTable, option_of}
-use Rattle.gs_class.specs.Written.{has_key, is_named_by}
+use Rattle.gs_class.specs.Written.{has_key, is_named_by, others_of}
 use Rattle.gs_class.specs.WrittenSupport.{CanBeWritten, EachCanWrite}
 use Rattle.gs_class.proofs.KeptClasses.{agree_at}
+use Rattle.gs_class.proofs.PlacedPairs.{qualified_pair}
 use Rattle.gs_class.proofs.SetParts.{are_texts, as_many, option_at, row_of_class}
 use Rattle.gs_class.proofs.WrittenItems.{can_write}
 
@@ -77,16 +79,22 @@ module _ (ais : List AiRow) (set : ClassRows) (identity : Elements) (of : IsOfTa
         ap (λ (c : Class). c.element) second.class_is ∙ sym pair.element ∙ ap (λ (c : Class). c.element) (sym first.class_is),
       )
 
-  each_can : EachCanWrite set class.name identity
+  named_by : is_some (pair_with (others_of identity) class.element) ≡ true
+  named_by = (and_parts (has_key identity class) (is_some (pair_with (others_of identity) class.element)) (found_passes (is_named_by identity) set.classes class found)).1
+
+  each_can : EachCanWrite ais set class.name identity
   each_can i other option at options named =
       let row = row_of_class ais set i of other at in
-      let key = (same_pair i other at named).0 in
-      let own : row.row.key ≡ identity.key.code = ap (λ (c : Class). c.key) (sym row.class_is) ∙ key in
-      let write = can_write ais row.row row.kept identity made own in
+      let pair = same_pair i other at named in
+      let own : row.row.key ≡ identity.key.code = ap (λ (c : Class). c.key) (sym row.class_is) ∙ pair.0 in
+      let element : class.element ≡ row.row.element = sym pair.1 ∙ ap (λ (c : Class). c.element) row.class_is in
+      let key : find (has_code identity.key.code) ais ≡ Some row.kept.key = subst (λ (code : List ℕ). find (has_code code) ais ≡ Some row.kept.key) own row.kept.found in
+      let there = qualified_pair ais identity row.kept.key row.row.element made key row.kept.lists (rw element at named_by) in
+      let write = can_write ais row.row row.kept identity made own there.0 there.1 in
       let both : Some option ≡ Some (option_of row.row) = sym options ∙ option_at ais set i of row.row row.at in
       let same : option ≡ option_of row.row = cc in
       rw (row.class_is, same) write
 
   -- each class of its name can write the identity
-  pub can_be_written : CanBeWritten set class.name identity
+  pub can_be_written : CanBeWritten ais set class.name identity
   can_be_written = record { as_many = as_many ais set of; texts = are_texts ais set of; each = each_can }

@@ -11,7 +11,7 @@ use Rattle.gs_ai.specs.declared.pair.Pair.{Pair}
 use Rattle.gs_ai.specs.declared.row.AiRow.{AiRow}
 use Rattle.gs_ai.proofs.Searches.{passes_none, position-cons, position_is}
 use Rattle.gs_ident.specs.Elements.{Elements}
-use Rattle.gs_ident.specs.Identities.{pair_with}
+use Rattle.gs_ident.specs.Identities.{pair_with, stands_for_none}
 use Rattle.gs_ident.proofs.KeyPairs.{found_place}
 use Rattle.gs_ident.proofs.PairLemmas.{find_by_cases, found_passes, not_found}
 use Rattle.gs_grammar.specs.declared.error.Why.{Why}
@@ -28,13 +28,15 @@ use Rattle.gs_tables_document.specs.declared.document.Field.TheVariants.{Serial}
 use Rattle.gs_tables_document.specs.Items.{alone, present}
 use Rattle.gs_tables.specs.Rules.{is_field}
 use Rattle.gs_epc.specs.Epcs.{value_of}
-use Rattle.gs_epc.specs.Layout.{KeyFields}
-use Rattle.gs_class.specs.declared.class.Class.{Class}
-use Rattle.gs_class.specs.declared.class.ClassRow.{ClassRow}
-use Rattle.gs_class.specs.Meanings.{IsClass, class_identity, said_by}
+use Rattle.gs_epc.specs.KeyParts.{fields_at}
+use Rattle.gs_epc.specs.Layout.{KeyFields, key_pair, lay, parts_at}
+use Rattle.gs_class.specs.declared.class_set.Class.{Class}
+use Rattle.gs_class.specs.declared.document.ClassRow.{ClassRow}
+use Rattle.gs_class.specs.Meanings.{IsClass, said_by}
 use Rattle.gs_class.specs.Rules.{agrees, class_rejections, is_same_pair, is_same_row}
-use Rattle.gs_class.specs.Sets.{ClassRows, IsOfTable}
-use Rattle.gs_class.specs.Written.{by_length, by_name, class_answer, has_key, is_extra, is_named_by, is_sized, items_at, length_for, lot_of, others_of, class_fields, values_for, why_not_lot}
+use Rattle.gs_class.specs.Sets.{ClassRows, IsOfTable, kind_of}
+use Rattle.gs_class.specs.Written.{by_length, by_name, class_answer, has_key, is_extra, is_named_by, is_sized, items_at, length_for, others_of, values_for, why_not_lot}
+use Rattle.gs_class.proofs.ClassIdentities.{none_stands}
 use Rattle.gs_class.proofs.KeptClasses.{agree_at, none_same_at}
 use Rattle.gs_class.proofs.OneName.{all_at}
 use Rattle.gs_class.proofs.SetParts.{RowOf, items_at as level_items, row_of_class}
@@ -135,12 +137,17 @@ lot_has_word (field ∷ fields) items values words (one_item item value w others
 
 -- ---- the answer
 
-module _ (ais : List AiRow) (set : ClassRows) (of : IsOfTable ais set) (i : ℕ) (class : Class) (at : slice_get set.classes i ≡ Some class) (said : KeyFields) where
-  abbrev identity : Elements
-  identity = class_identity class said
-
+module _ (ais : List AiRow) (set : ClassRows) (of : IsOfTable ais set) (i : ℕ) (class : Class) (at : slice_get set.classes i ≡ Some class) (value lot : List ℕ) where
   abbrev element : Pair
-  element = record { code = class.element; value = said.serial }
+  element = record { code = class.element; value = lot }
+
+  -- an identity of the class's key and element
+  abbrev identity : Elements
+  identity = record { key = record { code = class.key; value = value }; qualifiers = element ∷ []; attributes = [] }
+
+  -- its fields
+  abbrev said : KeyFields
+  said = fields_at (parts_at ais class.key) (kind_of class) class.gcp value lot
 
   own_key : has_key identity class ≡ true
   own_key = same_bytes class.key
@@ -200,16 +207,12 @@ module _ (ais : List AiRow) (set : ClassRows) (of : IsOfTable ais set) (i : ℕ)
   sized : position (is_sized naming.0.name class.gcp) set.classes ≡ Some i
   sized = position_is (is_sized naming.0.name class.gcp) set.classes i class at own_size not_before
 
-  lot_is : lot_of class identity ≡ said.serial
-  lot_is = ap (λ (o : Option Pair). option_map_or (λ (pair : Pair). pair.value) o []) (only_pair class.element element refl)
-
-  pub answer : (prefixes : List PrefixEntry) → why_not_lot class.fields (items_at set i) said.serial ≡ None
-      → class_answer set prefixes (Some class.gcp) identity ≡ Ok (written (items_at set i) (values_for (class_fields class identity) class.fields))
+  pub answer : (prefixes : List PrefixEntry) → why_not_lot class.fields (items_at set i) lot ≡ None
+      → class_answer ais set prefixes (Some class.gcp) identity ≡ Ok (written (items_at set i) (values_for said class.fields))
   unfolding class_answer by_name by_length length_for
   answer prefixes fits =
-      let held : why_not_lot class.fields (items_at set i) (class_fields class identity).serial ≡ None = rw lot_is fits in
       let some = any_at (has_key identity) set.classes i class at own_key in
-      rw (some, naming.1, none_extra, sized, at, held) refl
+      rw (some, naming.1, none_extra, sized, at, only_pair class.element element refl, fits) refl
 
 -- the items of a class are within their bounds
 good_items : (ais : List AiRow) (set : ClassRows) (of : IsOfTable ais set) (i : ℕ) (class : Class) (items : List Item) → slice_get set.classes i ≡ Some class → slice_get (item_lists set.level.options) i ≡ Some items → All IsItem items
@@ -219,12 +222,25 @@ good_items ais set of i class items at of_level =
     let same : items ≡ alone (present row.row.items) = cc in
     rw same (all_items false (alone (present row.row.items)) row.kept.bounds.none_bad)
 
-pub read_is_written : (ais : List AiRow) (set : ClassRows) (prefixes : List PrefixEntry) (text : List ℕ) (identity : Elements) → IsOfTable ais set → (read : IsClass set text identity) → (written : List ℕ) × (class_answer set prefixes (Some read.class.gcp) identity ≡ Ok written)
+-- each value of the element of a class counts
+value_counts : (ais : List AiRow) (set : ClassRows) (of : IsOfTable ais set) (i : ℕ) (class : Class) (value : List ℕ) → slice_get set.classes i ≡ Some class → stands_for_none ais (record { code = class.element; value = value }) ≡ false
+value_counts ais set of i class value at =
+    let row = row_of_class ais set i of class at in
+    subst (λ (c : Class). stands_for_none ais (record { code = c.element; value = value }) ≡ false) (sym row.class_is) (none_stands ais row.row row.kept value)
+
+laid_elements : (ais : List AiRow) (class : Class) (said : KeyFields) → stands_for_none ais (record { code = class.element; value = said.serial }) ≡ false
+    → lay ais (kind_of class) said ≡ record { key = key_pair ais (kind_of class) said; qualifiers = record { code = class.element; value = said.serial } ∷ []; attributes = [] }
+laid_elements ais class said counts = rw counts refl
+
+pub read_is_written : (ais : List AiRow) (set : ClassRows) (prefixes : List PrefixEntry) (text : List ℕ) (identity : Elements) → IsOfTable ais set → (read : IsClass ais set text identity) → (written : List ℕ) × (class_answer ais set prefixes (Some read.class.gcp) identity ≡ Ok written)
 read_is_written ais set prefixes text identity of read =
     let d = read.derivation in
     let said = said_by read.class d.values in
     let word = lot_has_word read.class.fields d.items d.values d.words d.derives.each (good_items ais set of d.option read.class d.items read.named d.of_level) in
     let items : items_at set d.option ≡ d.items = ap (λ (o : Option (List Item)). option_map_or (λ its. its) o []) d.of_level in
     let fits : why_not_lot read.class.fields (items_at set d.option) said.serial ≡ None = rw items word in
-    let own = answer ais set of d.option read.class read.named said prefixes fits in
-    (written (items_at set d.option) (values_for (class_fields read.class (class_identity read.class said)) read.class.fields), subst (λ (e : Elements). class_answer set prefixes (Some read.class.gcp) e ≡ Ok (written (items_at set d.option) (values_for (class_fields read.class (class_identity read.class said)) read.class.fields))) (sym read.is) own)
+    let value = (key_pair ais (kind_of read.class) said).value in
+    let laid = read.is ∙ laid_elements ais read.class said (value_counts ais set of d.option read.class said.serial read.named) in
+    let own = answer ais set of d.option read.class read.named value said.serial prefixes fits in
+    let text_is = written (items_at set d.option) (values_for (fields_at (parts_at ais read.class.key) (kind_of read.class) read.class.gcp value said.serial) read.class.fields) in
+    (text_is, subst (λ (e : Elements). class_answer ais set prefixes (Some read.class.gcp) e ≡ Ok text_is) (sym laid) own)

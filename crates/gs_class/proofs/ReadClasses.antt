@@ -7,11 +7,11 @@ use Rattle.gs_ai.specs.Tables.{KeepsRules}
 use Rattle.gs_ident.specs.Elements.{Elements}
 use Rattle.gs_grammar.specs.Derivations.{Derivation, OneDerivation}
 use Rattle.gs_grammar.specs.Levels.{LevelForm, item_lists}
-use Rattle.gs_epc.specs.Layout.{AreKeyDigits, KeyFields, key_digits, with_check}
-use Rattle.gs_class.specs.declared.class.Class.{Class}
-use Rattle.gs_class.specs.Meanings.{IsClass, class_identity, said_by}
+use Rattle.gs_epc.specs.Layout.{AreKeyDigits, KeyFields, key_digits, lay, with_check}
+use Rattle.gs_class.specs.declared.class_set.Class.{Class}
+use Rattle.gs_class.specs.Meanings.{IsClass, said_by}
 use Rattle.gs_class.specs.MeaningsSupport.{FitsClass}
-use Rattle.gs_class.specs.Sets.{ClassRows, IsOfTable, class_of}
+use Rattle.gs_class.specs.Sets.{ClassRows, IsOfTable, class_of, kind_of}
 use Rattle.gs_class.proofs.ClassIdentities.{digits_fit, fits_class}
 use Rattle.gs_class.proofs.KeptClasses.{class_at}
 use Rattle.gs_class.proofs.SetParts.{class_of_row, row_of_items}
@@ -49,7 +49,7 @@ module _ (ais : List AiRow) (set : ClassRows) (text : List ℕ) (option : ℕ) (
       rw same at own.fits
 
   -- the text is a class URI of the fields of the values
-  pub is_class : (class : Class) (identity : Elements) → class ≡ get_or classes option class → identity ≡ class_identity class (said_by class values) → IsClass set text identity
+  pub is_class : (class : Class) (identity : Elements) → class ≡ get_or classes option class → identity ≡ lay ais (kind_of class) (said_by class values) → IsClass ais set text identity
   is_class class identity read is = record {
     derivation = one.derivation;
     class = class;
@@ -58,8 +58,8 @@ module _ (ais : List AiRow) (set : ClassRows) (text : List ℕ) (option : ℕ) (
   }
 
 -- without a derivation there is no class
-pub no_class : (set : ClassRows) (text : List ℕ) → (Derivation (item_lists set.level.options) text → ⊥) → (identity : Elements) → IsClass set text identity → ⊥
-no_class set text none identity is = none is.derivation
+pub no_class : (ais : List AiRow) (set : ClassRows) (text : List ℕ) → (Derivation (item_lists set.level.options) text → ⊥) → (identity : Elements) → IsClass ais set text identity → ⊥
+no_class ais set text none identity is = none is.derivation
 
 -- ---- the digits of the key
 
@@ -77,5 +77,5 @@ one_here set level text option values same one = subst (λ (l : LevelForm). OneD
 pub fits_values : (ais : List AiRow) (class : Class) (values given : List (List ℕ)) → given ≡ values → FitsClass ais class (said_by class values) → FitsClass ais class (said_by class given)
 fits_values ais class values given same fits = subst (λ (v : List (List ℕ)). FitsClass ais class (said_by class v)) (sym same) fits
 
-pub same_values : (class : Class) (values given : List (List ℕ)) (identity : Elements) → given ≡ values → identity ≡ class_identity class (said_by class given) → identity ≡ class_identity class (said_by class values)
-same_values class values given identity same is = is ∙ ap (λ (v : List (List ℕ)). class_identity class (said_by class v)) same
+pub same_values : (ais : List AiRow) (class : Class) (values given : List (List ℕ)) (identity : Elements) → given ≡ values → identity ≡ lay ais (kind_of class) (said_by class given) → identity ≡ lay ais (kind_of class) (said_by class values)
+same_values ais class values given identity same is = is ∙ ap (λ (v : List (List ℕ)). lay ais (kind_of class) (said_by class v)) same

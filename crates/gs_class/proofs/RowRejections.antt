@@ -9,9 +9,9 @@ use Rattle.gs_class.specs.declared.error.ClassLoadFault.{ClassLoadFault}
 use Rattle.gs_class.specs.AnswersSupport.{IsFirst}
 use Rattle.gs_ai.specs.declared.row.AiRow.{AiRow}
 use Rattle.gs_class.specs.declared.error.ClassLoadFault.TheVariants.{Limit}
-use Rattle.gs_class.specs.declared.class.ClassRow.{ClassRow}
+use Rattle.gs_class.specs.declared.document.ClassRow.{ClassRow}
 use Rattle.gs_class.specs.Rules.{are_many, class_rejections, row_rejections}
-use Rattle.gs_class.proofs.FirstErrors.{no_rejections, rejected_in_front}
+use Rattle.gs_prefix.proofs.FirstRejections.{no_rejections, rejected_in_front}
 
 -- the rejections of a row by the tests that they come of
 abbrev pub listed : Option ℕ → Option ℕ → (ℕ → ClassLoadFault) → (ℕ → ClassLoadFault) → Bool → Bool → ClassLoadFault → ClassLoadFault → List ClassLoadFault

@@ -15,7 +15,7 @@ use Rattle.gs_json.specs.Members.{document_of, number_in}
 use Rattle.gs_json.specs.declared.error.JsonFault.TheVariants.{Syntax}
 use Rattle.gs_tables_document.specs.Items.{alone, present}
 use Rattle.gs_class.specs.declared.error.ClassLoadFault.TheVariants.{Json, Version}
-use Rattle.gs_class.specs.declared.class.ClassRow.{ClassRow}
+use Rattle.gs_class.specs.declared.document.ClassRow.{ClassRow}
 use Rattle.gs_class.specs.Answers.{ruled_bytes, ruled_document, ruled_rows}
 use Rattle.gs_class.specs.Documents.{form_errors, rows_of}
 use Rattle.gs_class.specs.Rules.{class_rejections}

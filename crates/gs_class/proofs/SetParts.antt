@@ -10,8 +10,8 @@ use Rattle.gs_ai.specs.declared.row.AiRow.{AiRow}
 use Rattle.gs_grammar.specs.declared.item.Item.{Item}
 use Rattle.gs_grammar.specs.Levels.{OptionForm, item_lists}
 use Rattle.gs_tables_document.specs.Items.{alone, present}
-use Rattle.gs_class.specs.declared.class.Class.{Class}
-use Rattle.gs_class.specs.declared.class.ClassRow.{ClassRow}
+use Rattle.gs_class.specs.declared.class_set.Class.{Class}
+use Rattle.gs_class.specs.declared.document.ClassRow.{ClassRow}
 use Rattle.gs_grammar.specs.Levels.{LevelForm}
 use Rattle.gs_class.specs.Rules.{class_rejections}
 use Rattle.gs_class.specs.Sets.{ClassRows, IsOfTable, class_of, option_of, set_of}

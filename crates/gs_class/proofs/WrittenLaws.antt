@@ -5,7 +5,7 @@ use Rattle.std.specs.List.{filter_map, list_any}
 use Rattle.std.specs.Option.{option_map_or}
 use Rattle.std.proofs.lemmas.Bool.Decides.{nat_tests}
 use Rattle.std.proofs.lemmas.List.{append-nil, length-map}
-use Rattle.gs_chars.proofs.TruthsAndLists.{and_parts, equal_bytes, false_from, false_from_not, or_parts, place_left, place_right, same_bytes, true_from_not, true_or_false}
+use Rattle.gs_chars.proofs.TruthsAndLists.{and_parts, equal_bytes, false_from, false_from_not, mapped_some, or_parts, place_left, place_right, same_bytes, true_from_not, true_or_false}
 use Rattle.gs_ai.specs.declared.pair.Pair.{Pair}
 use Rattle.gs_ai.specs.declared.row.AiRow.{AiRow}
 use Rattle.gs_ai.specs.Tables.{KeepsRules, is_key_of}
@@ -16,7 +16,7 @@ use Rattle.gs_ident.proofs.CodeOrder.{own_ascending}
 use Rattle.gs_ident.proofs.IdentityLemmas.{made_facts}
 use Rattle.gs_ident.proofs.PairLemmas.{find_by_cases, found_passes}
 use Rattle.gs_tables_document.specs.declared.document.SerialAt.TheVariants.{Ai}
-use Rattle.gs_epc.specs.KeyParts.{IsOfKind, fields_at, serial_in}
+use Rattle.gs_epc.specs.KeyParts.{IsOfKind, fields_at, serial_in, take_apart}
 use Rattle.gs_epc.proofs.LaidSets.{no_pairs}
 use Rattle.std.proofs.lemmas.Bool.{leb-true}
 use Rattle.gs_ai.specs.declared.part.Part.{Part}
@@ -41,36 +41,38 @@ use Rattle.gs_epc.specs.Layout.{KeyFields, lay, parts_at}
 use Rattle.gs_epc.proofs.LaidLaws.{again}
 use Rattle.gs_ident.proofs.KeyPairs.{IsKeyPair, is_key_pair}
 use Rattle.gs_epc.proofs.ReadBack.{none_stands, one_stands, value_where}
-use Rattle.gs_class.specs.declared.class.Class.{Class}
+use Rattle.gs_class.specs.declared.class_set.Class.{Class}
 use Rattle.gs_class.specs.declared.error.ClassWriteFault.{ClassWriteFault}
 use Rattle.gs_class.specs.declared.error.ClassWriteFault.TheVariants.{NoClass, MissingElement, Extra, MissingGcp, NoOption, CannotHold}
-use Rattle.gs_class.specs.declared.class.ClassRow.{ClassRow}
-use Rattle.gs_class.specs.Meanings.{IsClass, class_identity, said_by}
-use Rattle.gs_class.specs.MeaningsSupport.{FitsClass, kind_of}
-use Rattle.gs_class.specs.Sets.{ClassRows, IsOfTable, class_of}
-use Rattle.gs_class.specs.Written.{by_class, by_items, by_length, by_name, class_answer, has_key, is_extra, is_named_by, is_sized, items_at, length_for, lot_of, others_of, class_fields, without_check_digit, value_for, values_for, why_not_lot}
-use Rattle.gs_class.specs.WrittenSupport.{CanWrite}
-use Rattle.gs_class.proofs.ClassIdentities.{fits_class, kind_kept, laid_is}
+use Rattle.gs_class.specs.declared.document.ClassRow.{ClassRow}
+use Rattle.gs_class.specs.Meanings.{IsClass, said_by}
+use Rattle.gs_class.specs.Sets.{ClassRows, IsOfTable, class_of, kind_of}
+use Rattle.gs_class.specs.Written.{by_class, by_fields, by_items, by_length, by_name, class_answer, has_key, is_extra, is_named_by, is_sized, items_at, length_for, others_of, value_for, values_for, why_not_lot}
+use Rattle.gs_class.specs.WrittenSupport.{CanWrite, HasOneLot, HoldOthers}
+use Rattle.gs_class.proofs.ClassIdentities.{kind_kept}
 use Rattle.gs_class.proofs.KeptClasses.{KeptClass}
-use Rattle.gs_class.proofs.KeyDigits.{AreDigits, IsKeyValue, key_of_identity, length_kept, one_of_prefix, rest_digits}
+use Rattle.gs_class.proofs.KeyDigits.{AreDigits, key_of_identity, length_kept, one_of_prefix, rest_digits}
 use Rattle.gs_class.proofs.OneName.{naming_key, same_pair}
 use Rattle.gs_class.proofs.SetParts.{RowOf, items_at as level_items, row_of_class}
-use Rattle.gs_class.proofs.WrittenItems.{all_held, can_write}
+use Rattle.gs_class.proofs.PlacedPairs.{ArePlaced, are_placed, qualified_pair}
+use Rattle.gs_class.proofs.WrittenItems.{all_held, can_write, taken, taken_apart}
 
 -- ---- the steps of an answer
 
 -- the class that writes, the class that names the identity, and the tests on the way
-pub record Steps (set : ClassRows) (identity : Elements) (text : List ℕ) : Type 0 where
+pub record Steps (ais : List AiRow) (set : ClassRows) (identity : Elements) (text : List ℕ) : Type 0 where
   pub naming : Class
   pub i : ℕ
   pub class : Class
   pub n : ℕ
+  pub said : KeyFields
   pub found : find (is_named_by identity) set.classes ≡ Some naming
   pub none_extra : find (is_extra naming) (others_of identity) ≡ None
   pub sized : position (is_sized naming.name n) set.classes ≡ Some i
   pub at : slice_get set.classes i ≡ Some class
-  pub held : why_not_lot class.fields (items_at set i) (class_fields class identity).serial ≡ None
-  pub wrote : written (items_at set i) (values_for (class_fields class identity) class.fields) ≡ text
+  pub apart : take_apart ais (kind_of class) identity class.gcp ≡ Some said
+  pub held : why_not_lot class.fields (items_at set i) said.serial ≡ None
+  pub wrote : written (items_at set i) (values_for said class.fields) ≡ text
 
 -- a result of Ok has an optional value that is present
 there_is : {X : Type 0} (f : X → Result (List ℕ) ClassWriteFault) (o : Option X) (e : ClassWriteFault) (text : List ℕ) → option_map_or f o (Err e) ≡ Ok text → (x : X) × (o ≡ Some x) × (f x ≡ Ok text)
@@ -86,34 +88,37 @@ passes : (test : Bool) (answer : Result (List ℕ) ClassWriteFault) (e : ClassWr
 passes true answer e text h = h
 passes false answer e text h = absurd (let g : Err e ≡ Ok text = h in cc)
 
-pub steps : (set : ClassRows) (prefixes : List PrefixEntry) (gcp : Option ℕ) (identity : Elements) (text : List ℕ) → class_answer set prefixes gcp identity ≡ Ok text → Steps set identity text
+pub steps : (ais : List AiRow) (set : ClassRows) (prefixes : List PrefixEntry) (gcp : Option ℕ) (identity : Elements) (text : List ℕ) → class_answer ais set prefixes gcp identity ≡ Ok text → Steps ais set identity text
 unfolding class_answer by_name by_length
-steps set prefixes gcp identity text h =
+steps ais set prefixes gcp identity text h =
     let some = passes (list_any (has_key identity) set.classes) _ NoClass text h in
-    let naming = there_is (by_name set prefixes gcp identity) (find (is_named_by identity) set.classes) MissingElement text some in
-    let extra = none_there (λ (pair : Pair). Extra pair.code) (find (is_extra naming.0) (others_of identity)) (option_map_or (by_length set identity naming.0) (length_for prefixes gcp naming.0 identity) (Err MissingGcp)) text naming.2 in
-    let n = there_is (by_length set identity naming.0) (length_for prefixes gcp naming.0 identity) MissingGcp text extra.1 in
-    let i = there_is (by_class set identity) (position (is_sized naming.0.name n.0) set.classes) NoOption text n.2 in
-    let class = there_is (λ class. by_items class identity (items_at set i.0)) (slice_get set.classes i.0) NoOption text i.2 in
-    let items = none_there CannotHold (why_not_lot class.0.fields (items_at set i.0) (class_fields class.0 identity).serial) (Ok (written (items_at set i.0) (values_for (class_fields class.0 identity) class.0.fields))) text class.2 in
+    let naming = there_is (by_name ais set prefixes gcp identity) (find (is_named_by identity) set.classes) MissingElement text some in
+    let extra = none_there (λ (pair : Pair). Extra pair.code) (find (is_extra naming.0) (others_of identity)) (option_map_or (by_length ais set identity naming.0) (length_for prefixes gcp naming.0 identity) (Err MissingGcp)) text naming.2 in
+    let n = there_is (by_length ais set identity naming.0) (length_for prefixes gcp naming.0 identity) MissingGcp text extra.1 in
+    let i = there_is (by_class ais set identity) (position (is_sized naming.0.name n.0) set.classes) NoOption text n.2 in
+    let class = there_is (λ class. by_items ais class identity (items_at set i.0)) (slice_get set.classes i.0) NoOption text i.2 in
+    let said = there_is (by_fields class.0 (items_at set i.0)) (take_apart ais (kind_of class.0) identity class.0.gcp) MissingElement text class.2 in
+    let items = none_there CannotHold (why_not_lot class.0.fields (items_at set i.0) said.0.serial) (Ok (written (items_at set i.0) (values_for said.0 class.0.fields))) text said.2 in
     record {
       naming = naming.0;
       i = i.0;
       class = class.0;
       n = n.0;
+      said = said.0;
       found = naming.1;
       none_extra = extra.0;
       sized = i.1;
       at = class.1;
+      apart = said.1;
       held = items.0;
-      wrote = let e : Ok (written (items_at set i.0) (values_for (class_fields class.0 identity) class.0.fields)) ≡ Ok text = items.1 in cc;
+      wrote = let e : Ok (written (items_at set i.0) (values_for said.0 class.0.fields)) ≡ Ok text = items.1 in cc;
     }
 
 -- ---- the identity that is read from the values of a class
 
-module _ (ais : List AiRow) (row : ClassRow) (kept : KeptClass ais row) (identity : Elements) (made : IsMadeWith ais identity) (same : row.key ≡ identity.key.code) where
+module _ (ais : List AiRow) (row : ClassRow) (kept : KeptClass ais row) (identity : Elements) (made : IsMadeWith ais identity) (same : row.key ≡ identity.key.code) (serial : List ℕ) where
   abbrev said : KeyFields
-  said = class_fields (class_of row) identity
+  said = taken ais row kept identity serial
 
   abbrev fields : List (Option Field)
   fields = fields_of (present row.items)
@@ -157,64 +162,6 @@ module _ (ais : List AiRow) (row : ClassRow) (kept : KeptClass ais row) (identit
 
 -- ---- the pairs of an identity that a class writes
 
-or_more : (a b : Bool) → b ≡ true → (a || b) ≡ true
-or_more true b h = refl
-or_more false b h = h
-
--- the pair that is found by the first code, or one after it
-code_here : (code : List ℕ) (codes : List (List ℕ)) (first pair : Pair) (others : List Pair) (j : ℕ) → bytes_eq code first.code ≡ true → slice_get (first ∷ others) j ≡ Some pair
-    → ((k : ℕ) → slice_get others k ≡ Some pair → list_any (bytes_eq pair.code) codes ≡ true) → list_any (bytes_eq pair.code) (code ∷ codes) ≡ true
-code_here code codes first pair others zero passes at rest =
-    let same : first ≡ pair = cc in
-    let code_is : code ≡ pair.code = equal_bytes code first.code passes ∙ ap (λ (p : Pair). p.code) same in
-    rw (code_is, same_bytes pair.code) refl
-code_here code codes first pair others (suc j) passes at rest = or_more (bytes_eq pair.code code) (list_any (bytes_eq pair.code) codes) (rest j at)
-
--- a pair that is found by one of the codes has a listed code
-listed_code : (pairs : List Pair) (codes : List (List ℕ)) (j : ℕ) (pair : Pair) → slice_get (filter_map (pair_with pairs) codes) j ≡ Some pair → list_any (bytes_eq pair.code) codes ≡ true
-listed_code pairs [] j pair at = absurd (let e : None ≡ Some pair = at in cc)
-listed_code pairs (code ∷ codes) j pair at = elim (find_by_cases (λ (p : Pair). bytes_eq code p.code) pairs) [
-  | inl found ↦
-      let here : pair_with pairs code ≡ Some found.0 = found.1 in
-      let list : slice_get (found.0 ∷ filter_map (pair_with pairs) codes) j ≡ Some pair = rw here at at in
-      code_here code codes found.0 pair (filter_map (pair_with pairs) codes) j (found_passes (λ (p : Pair). bytes_eq code p.code) pairs found.0 found.1) list (λ k there. listed_code pairs codes k pair there)
-  | inr none ↦
-      let here : pair_with pairs code ≡ None = none in
-      or_more (bytes_eq pair.code code) (list_any (bytes_eq pair.code) codes) (listed_code pairs codes j pair (rw here at at))
-]
-
--- an item that is found among those that pass a test passes it
-found_kept : (t p : Pair → Bool) (pairs : List Pair) (pair : Pair) → find p (filter t pairs) ≡ Some pair → t pair ≡ true
-found_kept t p [] pair e = absurd (let f : None ≡ Some pair = e in cc)
-found_kept t p (first ∷ pairs) pair e = elim (true_or_false (t first)) [
-  | inl h ↦ let f : find p (first ∷ filter t pairs) ≡ Some pair = rw h at e in elim (true_or_false (p first)) [
-    | inl g ↦ let k : Some first ≡ Some pair = rw g at f in let same : first ≡ pair = cc in rw (← same) h
-    | inr g ↦ found_kept t p pairs pair (rw g at f)
-  ]
-  | inr h ↦ found_kept t p pairs pair (rw h at e)
-]
-
--- the qualifiers of an identity of the table have listed codes, and its attributes have none of these
-record ArePlaced (ais : List AiRow) (identity : Elements) (codes : List (List ℕ)) : Type 0 where
-  qualified : (j : ℕ) (pair : Pair) → slice_get identity.qualifiers j ≡ Some pair → list_any (bytes_eq pair.code) codes ≡ true
-  other : (j : ℕ) (pair : Pair) → slice_get identity.attributes j ≡ Some pair → is_other codes identity.key pair ≡ true
-
-are_placed : (ais : List AiRow) (identity : Elements) (row : AiRow) → IsMadeWith ais identity → find (has_code identity.key.code) ais ≡ Some row → ArePlaced ais identity row.qualifiers
-unfolding elements_of
-are_placed ais identity row made found =
-    let pairs = counted ais (pairs_of identity) in
-    let facts = made_facts ais pairs identity made.given_back in
-    let key : identity.key ≡ facts.key = ap (λ (e : Elements). e.key) facts.elements in
-    let row_is : find (has_code facts.key.code) ais ≡ Some row = rw key at found in
-    let lists : listed ais facts.key ≡ row.qualifiers = rw row_is refl in
-    let qualifiers : identity.qualifiers ≡ filter_map (pair_with pairs) row.qualifiers = ap (λ (e : Elements). e.qualifiers) facts.elements ∙ ap (filter_map (pair_with pairs)) lists in
-    let attributes : identity.attributes ≡ ascending (filter (is_other row.qualifiers identity.key) pairs) =
-    ap (λ (e : Elements). e.attributes) facts.elements ∙ ap (λ (codes : List (List ℕ)). ascending (filter (is_other codes facts.key) pairs)) lists ∙ ap (λ (k : Pair). ascending (filter (is_other row.qualifiers k) pairs)) (sym key) in
-    record {
-      qualified = λ j pair at. listed_code pairs row.qualifiers j pair (rw qualifiers at at);
-      other = λ j pair at. found_kept (is_other row.qualifiers identity.key) (λ (p : Pair). bytes_eq pair.code p.code) pairs pair (own_ascending (filter (is_other row.qualifiers identity.key) pairs) j pair (rw attributes at at));
-    }
-
 -- a code that passes the test is not in a list without passing codes
 unlisted : (p : List ℕ → Bool) (code : List ℕ) (codes : List (List ℕ)) → p code ≡ true → list_any p codes ≡ false → list_any (bytes_eq code) codes ≡ false
 unlisted p code [] passes none = refl
@@ -223,40 +170,6 @@ unlisted p code (other ∷ codes) passes none =
     let differs : bytes_eq code other ≡ false = false_from (bytes_eq code other) (λ same. true≢false (sym passes ∙ ap p (equal_bytes code other same) ∙ both.0)) in
     rw differs (unlisted p code codes passes both.1)
 
--- ---- the digits that a class takes, over plain lists
-
--- the element has a pair among the qualifiers if there are no attributes
-pair_there : (qualifiers attributes : List Pair) (element other : List ℕ) → attributes ≡ [] → element ≡ other → is_some (pair_with (qualifiers ++ attributes) other) ≡ true → (pair : Pair) × (pair_with qualifiers element ≡ Some pair)
-pair_there qualifiers attributes element other none same some =
-    let own : is_some (pair_with (qualifiers ++ []) element) ≡ true = rw (none, ← same) at some in
-    let there : is_some (pair_with qualifiers element) ≡ true = rw append-nil at own in
-    by (pair_with qualifiers element) refl there
-  where
-    by : (found : Option Pair) → pair_with qualifiers element ≡ found → is_some found ≡ true → (pair : Pair) × (pair_with qualifiers element ≡ Some pair)
-    by None e h = absurd (let f : false ≡ true = h in cc)
-    by (Some pair) e h = (pair, e)
-
-lot_there : (qualifiers attributes : List Pair) (element : List ℕ) (pair : Pair) → attributes ≡ [] → pair_with qualifiers element ≡ Some pair → option_map_or (λ (p : Pair). p.value) (pair_with (qualifiers ++ attributes) element) [] ≡ pair.value
-lot_there qualifiers attributes element pair none at = rw (none, append-nil, at) refl
-
-serial_there : (ais : List AiRow) (element : List ℕ) (identity : Elements) (pair : Pair) (lot : List ℕ) → pair_with identity.qualifiers element ≡ Some pair → lot ≡ pair.value → (parts : List Part) → serial_in ais parts (Ai element) identity ≡ Some lot
-serial_there ais element identity pair lot at is parts = rw (at, is) refl
-
-parts_there : (ais : List AiRow) (key : List ℕ) (row : AiRow) (k : ℕ) → find (has_code key) ais ≡ Some row → row.parts ≡ NumCheck k ∷ [] → parts_at ais key ≡ NumCheck k ∷ []
-parts_there ais key row k found parts = rw (found, parts) refl
-
-abbrev fields_of_value : ℕ → ℕ → List ℕ → List ℕ → KeyFields
-fields_of_value lead n value serial = record {
-  prefix = take n (drop lead (without_check_digit value));
-  rest = take lead (without_check_digit value) ++ drop n (drop lead (without_check_digit value));
-  piece = [];
-  total = [];
-  serial = serial;
-}
-
-fields_there : (parts : List Part) (k : ℕ) (class : Class) (n : ℕ) (value serial : List ℕ) → parts ≡ NumCheck k ∷ [] → length value ≡ k → fields_at parts (kind_of class) n value serial ≡ fields_of_value class.lead n value serial
-fields_there parts k class n value serial p count = rw (p, ← count) refl
-
 -- a pair that is not extra has the code of the key or of the element
 one_of_two : (key element code : List ℕ) → (not (bytes_eq key code) && not (bytes_eq element code)) ≡ false → (bytes_eq key code ≡ true) ⊎ (element ≡ code)
 one_of_two key element code h = elim (true_or_false (bytes_eq key code)) [
@@ -264,7 +177,7 @@ one_of_two key element code h = elim (true_or_false (bytes_eq key code)) [
   | inr k ↦ let g : not (bytes_eq element code) ≡ false = rw k at h in inr (equal_bytes element code (true_from_not (bytes_eq element code) g))
 ]
 
-module _ (ais : List AiRow) (rules : KeepsRules ais) (set : ClassRows) (identity : Elements) (of : IsOfTable ais set) (made : IsMadeWith ais identity) (text : List ℕ) (s : Steps set identity text) where
+module _ (ais : List AiRow) (rules : KeepsRules ais) (set : ClassRows) (identity : Elements) (of : IsOfTable ais set) (made : IsMadeWith ais identity) (text : List ℕ) (s : Steps ais set identity text) where
   sized_at : (c : Class) × (slice_get set.classes s.i ≡ Some c) × (is_sized s.naming.name s.n c ≡ true)
   sized_at = position_some (is_sized s.naming.name s.n) set.classes s.i s.sized
 
@@ -342,31 +255,26 @@ module _ (ais : List AiRow) (rules : KeepsRules ais) (set : ClassRows) (identity
   kept_kind : KeptKind ais (kind_of s.class)
   kept_kind = subst (λ (c : Class). KeptKind ais (kind_of c)) (sym its_row.class_is) (kind_kept ais its_row.row its_kept)
 
+  laid_out : identity ≡ lay ais (kind_of s.class) s.said
+  laid_out =
+      let parts = parts_at ais s.class.key in
+      let serial = mapped_some (fields_at parts (kind_of s.class) s.class.gcp identity.key.value) (serial_in ais parts (Ai s.class.element) identity) s.said s.apart in
+      again ais (kind_of s.class) s.class.gcp serial.0 identity rules kept_kind of_kind made serial.1 ∙ ap (λ (f : KeyFields). lay ais (kind_of s.class) f) serial.2
+
   -- the element has a pair among the qualifiers
-  element_there : (pair : Pair) × (pair_with identity.qualifiers s.class.element ≡ Some pair)
+  element_there : (pair : Pair) × (pair_with identity.qualifiers its_row.row.element ≡ Some pair)
   element_there =
       let named_by = and_parts (has_key identity s.naming) (is_some (pair_with (others_of identity) s.naming.element)) (found_passes (is_named_by identity) set.classes s.naming s.found) in
-      pair_there identity.qualifiers identity.attributes s.class.element s.naming.element no_attributes pair_is.1 named_by.1
+      let code : s.naming.element ≡ its_row.row.element = sym pair_is.1 ∙ ap (λ (c : Class). c.element) its_row.class_is in
+      qualified_pair ais identity its_kept.key its_row.row.element made found_key its_kept.lists (rw code at named_by.1)
 
-  lot_is : lot_of s.class identity ≡ element_there.0.value
-  lot_is = lot_there identity.qualifiers identity.attributes s.class.element element_there.0 no_attributes element_there.1
-
-  serial_is : (parts : List Part) → serial_in ais parts (Ai s.class.element) identity ≡ Some (lot_of s.class identity)
-  serial_is = serial_there ais s.class.element identity element_there.0 (lot_of s.class identity) element_there.1 lot_is
-
-  value_is : IsKeyValue its_kept.k identity.key.value
-  value_is = key_of_identity ais its_row.row its_kept identity made row_key
-
-  parts_are : parts_at ais s.class.key ≡ NumCheck its_kept.k ∷ []
-  parts_are = parts_there ais s.class.key its_kept.key its_kept.k (subst (λ (code : List ℕ). find (has_code code) ais ≡ Some its_kept.key) (sym pair_is.0) found_key) its_kept.parts
-
-  fields_are : fields_at (parts_at ais s.class.key) (kind_of s.class) s.class.gcp identity.key.value (lot_of s.class identity) ≡ class_fields s.class identity
-  fields_are = fields_there (parts_at ais s.class.key) its_kept.k s.class s.class.gcp identity.key.value (lot_of s.class identity) parts_are value_is.count
-
-  laid_out : identity ≡ lay ais (kind_of s.class) (class_fields s.class identity)
-  laid_out =
-      again ais (kind_of s.class) s.class.gcp (lot_of s.class identity) identity rules kept_kind of_kind made (serial_is (parts_at ais s.class.key))
-      ∙ ap (λ (f : KeyFields). lay ais (kind_of s.class) f) fields_are
+  -- the fields that the class takes
+  said_is : s.said ≡ taken ais its_row.row its_kept identity element_there.0.value
+  said_is =
+      let own : take_apart ais (kind_of s.class) identity s.class.gcp ≡ Some (taken ais its_row.row its_kept identity element_there.0.value) =
+      subst (λ (c : Class). take_apart ais (kind_of c) identity c.gcp ≡ Some (taken ais its_row.row its_kept identity element_there.0.value)) (sym its_row.class_is) (taken_apart ais its_row.row its_kept identity element_there.0 element_there.1) in
+      let both : Some s.said ≡ Some (taken ais its_row.row its_kept identity element_there.0.value) = sym s.apart ∙ own in
+      cc
 
   -- ---- the derivation
 
@@ -374,41 +282,51 @@ module _ (ais : List AiRow) (rules : KeepsRules ais) (set : ClassRows) (identity
   items = alone (present its_row.row.items)
 
   abbrev values : List (List ℕ)
-  values = values_for (class_fields s.class identity) s.class.fields
+  values = values_for s.said s.class.fields
 
   items_are : items_at set s.i ≡ items
   items_are = ap (λ (o : Option (List Item)). option_map_or (λ its. its) o []) (level_items ais set s.i of its_row.row its_row.at)
 
-  can : CanWrite s.class items identity
-  can = subst (λ (c : Class). CanWrite c items identity) (sym its_row.class_is) (can_write ais its_row.row its_kept identity made row_key)
+  can : CanWrite ais (class_of its_row.row) items identity
+  can = can_write ais its_row.row its_kept identity made row_key element_there.0 element_there.1
+
+  said_can : s.said ≡ can.said
+  said_can =
+      let own : take_apart ais (kind_of s.class) identity s.class.gcp ≡ Some can.said = subst (λ (c : Class). take_apart ais (kind_of c) identity c.gcp ≡ Some can.said) (sym its_row.class_is) can.apart in
+      let both : Some s.said ≡ Some can.said = sym s.apart ∙ own in
+      cc
+
+  others : HoldOthers s.class items s.said
+  others = subst (λ (f : KeyFields). HoldOthers s.class items f) (sym said_can) (subst (λ (c : Class). HoldOthers c items can.said) (sym its_row.class_is) can.others)
+
+  lot : HasOneLot s.class
+  lot = subst (λ (c : Class). HasOneLot c) (sym its_row.class_is) can.lot
 
   held : AreHeld items values
-  held = all_held s.class items identity can (subst (λ (its : List Item). why_not_lot s.class.fields its (class_fields s.class identity).serial ≡ None) items_are s.held)
+  held = all_held s.class items s.said others lot (subst (λ (its : List Item). why_not_lot s.class.fields its s.said.serial ≡ None) items_are s.held)
 
   count : length values ≡ length items
-  count = length-map s.class.fields (value_for (class_fields s.class identity)) ∙ can.as_many
+  count = length-map s.class.fields (value_for s.said) ∙ subst (λ (c : Class). length c.fields ≡ length items) (sym its_row.class_is) can.as_many
 
   derives : Derives items text values (written_words items values)
   derives =
       let wrote : written items values ≡ text = subst (λ (its : List Item). written its values ≡ text) items_are s.wrote in
       subst (λ (t : List ℕ). Derives items t values (written_words items values)) wrote (written_derives items values (all_items false items its_kept.bounds.none_bad) count held)
 
-  back : said_by s.class values ≡ class_fields s.class identity
-  back = subst (λ (c : Class). said_by c (values_for (class_fields c identity) c.fields) ≡ class_fields c identity) (sym its_row.class_is) (said_back ais its_row.row its_kept identity made row_key)
+  back : said_by s.class values ≡ s.said
+  back =
+      let own = said_back ais its_row.row its_kept identity made row_key element_there.0.value in
+      subst (λ (c : Class). said_by c (values_for s.said c.fields) ≡ s.said) (sym its_row.class_is)
+      (subst (λ (f : KeyFields). said_by (class_of its_row.row) (values_for f (class_of its_row.row).fields) ≡ f) (sym said_is) own)
 
-  fits : FitsClass ais s.class (class_fields s.class identity)
-  fits =
-      let own : FitsClass ais s.class (said_by s.class values) = subst (λ (c : Class). FitsClass ais c (said_by c values)) (sym its_row.class_is) (fits_class ais its_row.row its_kept values (written_words items values) derives.each) in
-      subst (λ (f : KeyFields). FitsClass ais s.class f) back own
-
-  pub is_class : IsClass set text identity
+  pub is_class : IsClass ais set text identity
   is_class = record {
     derivation = record { option = s.i; items = items; values = values; words = written_words items values; of_level = level_items ais set s.i of its_row.row its_row.at; derives = derives };
     class = s.class;
     named = s.at;
-    is = laid_out ∙ laid_is ais s.class (class_fields s.class identity) fits rules ∙ ap (λ (f : KeyFields). class_identity s.class f) (sym back);
+    is = laid_out ∙ ap (λ (f : KeyFields). lay ais (kind_of s.class) f) (sym back);
   }
 
 -- the text that is written of an identity of the table is a class URI of it
-pub written_is_read : (ais : List AiRow) → KeepsRules ais → (set : ClassRows) (prefixes : List PrefixEntry) (gcp : Option ℕ) (identity : Elements) (text : List ℕ) → IsOfTable ais set → IsMadeWith ais identity → class_answer set prefixes gcp identity ≡ Ok text → IsClass set text identity
-written_is_read ais rules set prefixes gcp identity text of made h = is_class ais rules set identity of made text (steps set prefixes gcp identity text h)
+pub written_is_read : (ais : List AiRow) → KeepsRules ais → (set : ClassRows) (prefixes : List PrefixEntry) (gcp : Option ℕ) (identity : Elements) (text : List ℕ) → IsOfTable ais set → IsMadeWith ais identity → class_answer ais set prefixes gcp identity ≡ Ok text → IsClass ais set text identity
+written_is_read ais rules set prefixes gcp identity text of made h = is_class ais rules set identity of made text (steps ais set prefixes gcp identity text h)

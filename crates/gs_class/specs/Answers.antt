@@ -10,7 +10,7 @@ use Rattle.gs_json.specs.Members.{document_of, number_in}
 use Rattle.gs_json.specs.declared.error.JsonFault.TheVariants.{Syntax}
 use Rattle.gs_class.specs.declared.error.ClassLoadFault.{ClassLoadFault}
 use Rattle.gs_class.specs.declared.error.ClassLoadFault.TheVariants.{Json, Version, Ambiguous, Memory}
-use Rattle.gs_class.specs.declared.class.ClassRow.{ClassRow}
+use Rattle.gs_class.specs.declared.document.ClassRow.{ClassRow}
 use Rattle.gs_class.specs.BuiltIn.{built_in_rows}
 use Rattle.gs_class.specs.Documents.{form_errors, rows_of}
 use Rattle.gs_class.specs.Rules.{class_rejections}

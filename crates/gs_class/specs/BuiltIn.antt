@@ -3,7 +3,7 @@ use Rattle.std.specs.Prelude.{ℕ, ◌-◌, List, [], ◌∷◌, map, codes, Opt
 use Rattle.gs_grammar.specs.declared.item.Item.TheVariants.{Lit, Pad, Esc}
 use Rattle.gs_tables_document.specs.declared.document.Field.TheVariants.{Gcp, Rest, Serial}
 use Rattle.gs_tables_document.specs.Items.{FieldItem}
-use Rattle.gs_class.specs.declared.class.ClassRow.{ClassRow}
+use Rattle.gs_class.specs.declared.document.ClassRow.{ClassRow}
 
 -- trusted, TDS 2.0, 'EPC Class URIs': a company prefix of n digits, the indicator digit with the item reference, and the lot
 abbrev pub lgtin_items : ℕ → List (Option FieldItem)

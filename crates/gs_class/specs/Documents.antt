@@ -1,16 +1,16 @@
 -- Documents of classes in JSON, this project's own profile: the form of a document, and its rows.
 use Rattle.std.specs.Prelude.{ℕ, false, List, [], ◌∷◌, ◌++◌, map, codes}
-use Rattle.std.specs.List.{flat_map, enumerate_from}
 use Rattle.serde_json.specs.Data.{Data}
 use Rattle.serde_json.specs.Find.{as_object}
 use Rattle.gs_json.specs.Members.{items_in, must, number_in, text_in}
-use Rattle.gs_json.specs.Places.{item_place, member_place}
+use Rattle.gs_json.specs.Places.{member_place}
 use Rattle.gs_json.specs.Shapes.{members_errors}
 use Rattle.gs_json.specs.declared.error.JsonFault.{JsonFault}
 use Rattle.gs_json.specs.declared.plan.Entry.{Entry}
 use Rattle.gs_json.specs.declared.plan.Sort.TheVariants.{Text, Number, Array, Arrays}
+use Rattle.gs_prefix.specs.Documents.{array_errors}
 use Rattle.gs_tables_document.specs.Items.{item_of}
-use Rattle.gs_class.specs.declared.class.ClassRow.{ClassRow}
+use Rattle.gs_class.specs.declared.document.ClassRow.{ClassRow}
 
 -- trusted, own: the members of the document
 abbrev pub document_plan : List Entry
@@ -20,14 +20,9 @@ document_plan = must (codes "version") Number ∷ must (codes "classes") Array �
 abbrev pub row_plan : List Entry
 row_plan = must (codes "name") Text ∷ must (codes "key") Text ∷ must (codes "lead") Number ∷ must (codes "element") Text ∷ must (codes "gcp") Number ∷ must (codes "items") Arrays ∷ []
 
--- trusted, own: the errors of the rows of the array at a place, row by row
-unfoldable pub array_errors : List ℕ → List Data → List JsonFault
-array_errors place items =
-    flat_map (λ row. members_errors (item_place place row.0) row_plan (as_object row.1)) (enumerate_from 0 items)
-
 -- trusted, own: the errors of the rows of a document
 unfoldable pub rows_errors : Data → List JsonFault
-rows_errors d = array_errors (member_place [] (codes "classes")) (items_in (codes "classes") d)
+rows_errors d = array_errors row_plan (member_place [] (codes "classes")) (items_in (codes "classes") d)
 
 -- trusted, own: the errors of the form of a document: those of its object, then of its rows
 unfoldable pub form_errors : Data → List JsonFault

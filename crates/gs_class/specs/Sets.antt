@@ -3,9 +3,11 @@ use Rattle.std.specs.Prelude.{◌≡◌, false, List, [], map}
 use Rattle.gs_ai.specs.declared.row.AiRow.{AiRow}
 use Rattle.gs_grammar.specs.Ambiguity.{IsUnambiguous}
 use Rattle.gs_grammar.specs.Levels.{LevelForm, OptionForm, item_lists}
+use Rattle.gs_tables_document.specs.declared.document.Kind.{Kind}
+use Rattle.gs_tables_document.specs.declared.document.SerialAt.TheVariants.{Ai}
 use Rattle.gs_tables_document.specs.Items.{alone, fields_of, present}
-use Rattle.gs_class.specs.declared.class.Class.{Class}
-use Rattle.gs_class.specs.declared.class.ClassRow.{ClassRow}
+use Rattle.gs_class.specs.declared.class_set.Class.{Class}
+use Rattle.gs_class.specs.declared.document.ClassRow.{ClassRow}
 use Rattle.gs_class.specs.Rules.{class_rejections}
 
 -- trusted, own: a set of classes: the level of their texts, and the facts of each of its options
@@ -23,6 +25,10 @@ class_of row = record {
   gcp = row.gcp;
   fields = fields_of (present row.items);
 }
+
+-- trusted, TDS 2.0, 'EPC Class URIs': the kind of EPC that a class is: its serial is the lot
+abbrev pub kind_of : Class → Kind
+kind_of class = record { name = class.name; key = class.key; lead = class.lead; serial = Ai class.element; further = [] }
 
 -- trusted, own: the option of a row
 abbrev pub option_of : ClassRow → OptionForm

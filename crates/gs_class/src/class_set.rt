@@ -8,16 +8,16 @@ ghost use Rattle.gs_tables_document.specs.Items.{alone, present};
 ghost use Rattle.gs_class.specs.AnswersSupport.{IsLevelJudged};
 ghost use Rattle.gs_class.specs.Rules.{class_rejections};
 
-use crate::checks::{check_rows, check_version};
-use crate::class::{Class, ClassRow, built_in_rows};
+use crate::builtin::built_in_rows;
+use crate::document::{ClassRow, judge_form, of_json, read_rows};
 use crate::error::ClassLoadFault;
-use crate::form::{judge_form, of_json, read_rows};
+use crate::rules::{check_rows, check_version};
 use gs_ai::AiTable;
-use gs_chars::{List, Memory};
+use gs_chars::{List, Memory, Text};
 use gs_grammar::Opt;
 use gs_grammar_level::Level;
 use gs_json::{Doc, Node};
-use gs_tables::split_items;
+use gs_tables::{Field, split_items};
 use std::alloc::Global;
 use std::marker::Model;
 
@@ -138,6 +138,23 @@ impl ClassSet {
     {
         &self.level
     }
+}
+
+/// A class of things that a class URI names: the facts of an option of a set apart from its items.
+#[derive(Drop)]
+pub struct Class {
+    /// The name, as written in class URIs.
+    pub name: Text,
+    /// The code of the key.
+    pub key: Text,
+    /// The AI of the element that identifies the class among the things of one key.
+    pub element: Text,
+    /// How many digits of the key are before the company prefix and go with the rest, 0 or 1.
+    pub lead: u8,
+    /// How many digits the GS1 Company Prefix has, 1 to 12.
+    pub gcp: u8,
+    /// The field of each item, none for literals.
+    pub fields: List<Option<Field>>,
 }
 
 /// Returns the option of a row that no rule rejects, with its facts.

@@ -13,8 +13,8 @@ use gs_ai::AiTable;
 
 /// States that a text is a class URI of at most one identity, by a set by which no text has two readings.
 pub fn one_class()
-    ensures { (set : ClassRows) (text : List ℕ) (one other : Elements) → IsClear set
-        → IsClass set text one → IsClass set text other → one ≡ other }
+    ensures { (ais : List AiRow) (set : ClassRows) (text : List ℕ) (one other : Elements) → IsClear set
+        → IsClass ais set text one → IsClass ais set text other → one ≡ other }
 {}
 
 /// States that the text that is written of an identity is a class URI of it. The set is of the table, and the identity was made
@@ -22,7 +22,8 @@ pub fn one_class()
 pub fn what_is_written_is_read(table: &AiTable)
     ensures { (set : ClassRows) (prefixes : List PrefixEntry) (gcp : Option ℕ) (identity : Elements)
         (text : List ℕ) → IsOfTable table.now set → IsMadeWith table.now identity
-        → class_answer set prefixes gcp identity ≡ Ok text → IsClass set text identity }
+        → class_answer table.now set prefixes gcp identity ≡ Ok text
+        → IsClass table.now set text identity }
 {
     // only for the proof: the rows satisfy the rules of application identifiers
     let _ = table.rows();
@@ -32,8 +33,9 @@ pub fn what_is_written_is_read(table: &AiTable)
 /// never rejected, whatever the prefixes. The set is of a table.
 pub fn what_is_read_is_written()
     ensures { (ais : List AiRow) (set : ClassRows) (prefixes : List PrefixEntry) (text : List ℕ)
-        (identity : Elements) → IsOfTable ais set → (read : IsClass set text identity)
-        → (written : List ℕ) × (class_answer set prefixes (Some read.class.gcp) identity ≡ Ok written) }
+        (identity : Elements) → IsOfTable ais set → (read : IsClass ais set text identity)
+        → (written : List ℕ)
+        × (class_answer ais set prefixes (Some read.class.gcp) identity ≡ Ok written) }
 {}
 
 /// States that all bytes have exactly one result of `ClassSet::load`, apart from the text of an ambiguous set. The built-in

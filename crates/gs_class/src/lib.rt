@@ -23,14 +23,13 @@
 //! - Limits: 256 classes, 24 items and 512 symbols of one.
 #![tactic(auto)]
 
-mod checks;
-mod class;
+mod builtin;
 mod class_set;
+mod document;
 mod error;
-mod form;
 mod laws;
 mod reader;
-mod row_rules;
+mod rules;
 mod writer;
 
 pub use class_set::ClassSet;

@@ -1,29 +1,20 @@
-ghost use Rattle.std.specs.Prelude.{◌≡◌, IfOk, position};
-ghost use Rattle.gs_tables.specs.Rules.{is_field};
+ghost use Rattle.std.specs.Prelude.{◌≡◌, IfOk};
 ghost use Rattle.gs_ident.specs.Identities.{IsMadeWith};
 ghost use Rattle.gs_epc.specs.Epcs.{value_of};
-ghost use Rattle.gs_epc.specs.Layout.{key_digits, with_check};
-ghost use Rattle.gs_class.specs.Meanings.{ReadsAs, class_identity, said_by};
+ghost use Rattle.gs_epc.specs.Layout.{key_digits, lay, with_check};
+ghost use Rattle.gs_class.specs.Meanings.{ReadsAs, said_by};
 ghost use Rattle.gs_class.specs.MeaningsSupport.{FitsClass};
-ghost use Rattle.gs_class.specs.Sets.{IsOfTable};
+ghost use Rattle.gs_class.specs.Sets.{IsOfTable, kind_of};
 
-use crate::class::Class;
-use crate::class_set::ClassSet;
+use crate::class_set::{Class, ClassSet};
 use crate::error::ClassFault;
 use gs_ai::{AiTable, Pair};
 use gs_chars::{Memory, Text};
-use gs_epc::push_checked;
+use gs_epc::{place_of, push_checked};
 use gs_grammar_level::{Reading, read_text};
 use gs_ident::Identity;
 use gs_tables::Field;
 use std::alloc::Global;
-
-/// Returns the place of the first item that stands for a field.
-fn place_of(field: Field, fields: &[Option<Field>]) -> Option<usize>
-    ensures { result ≡ position (is_field field) fields.now }
-{
-    fields.iter().position(|named| *named == Some(field))
-}
 
 /// Returns the value of a field, and the empty value if no item has the field.
 fn value_of<'a>(field: Field, fields: &[Option<Field>], values: &'a [Text]) -> &'a [u8]
@@ -63,7 +54,7 @@ fn identity_of(
 ) -> Result<Identity, Memory>
     requires { FitsClass ais.now class.now (said_by class.now values.now) }
     ensures identity { IfOk result (λ identity. identity
-        ≡ class_identity class.now (said_by class.now values.now)) }
+        ≡ lay ais.now (kind_of class.now) (said_by class.now values.now)) }
     ensures with_table { IfOk result (IsMadeWith ais.now) }
 {
     // only for the proof: the rows satisfy the rules of application identifiers
@@ -90,7 +81,7 @@ pub fn read_class(
     text: &[u8],
 ) -> Result<Identity, ClassFault>
     requires { IsOfTable table.now set.now }
-    ensures answer { ReadsAs set.now text.now result }
+    ensures answer { ReadsAs table.now set.now text.now result }
     ensures with_table { IfOk result (IsMadeWith table.now) }
 {
     match read_text(alloc, set.level(), text) {

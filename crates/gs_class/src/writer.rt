@@ -1,16 +1,17 @@
-ghost use Rattle.std.specs.Prelude.{◌≡◌, ◌++◌, false, IfOk, Some, drop, length, map, position, take};
+ghost use Rattle.std.specs.Prelude.{◌≡◌, ◌++◌, false, IfErr, IfOk, Some, length, map, position};
 ghost use Rattle.std.specs.List.{find, list_any};
 ghost use Rattle.std.specs.Option.{option_copied};
 ghost use Rattle.gs_ident.specs.Identities.{IsMadeWith, pair_with};
-ghost use Rattle.gs_class.specs.Sets.{IsOfTable};
-ghost use Rattle.gs_class.specs.Written.{OrMemory, by_items, by_length, by_name, class_answer, has_key, is_extra, is_named_by, is_sized, length_for, lot_of, others_of, class_fields, without_check_digit, value_for, values_for};
-ghost use Rattle.gs_class.specs.WrittenSupport.{CanBeWritten, CanWrite, fields_in};
+ghost use Rattle.gs_epc.specs.KeyParts.{take_apart};
+ghost use Rattle.gs_class.specs.Sets.{IsOfTable, kind_of};
+ghost use Rattle.gs_class.specs.Written.{OrMemory, by_items, by_length, by_name, class_answer, has_key, is_extra, is_named_by, is_sized, length_for, others_of, value_for, values_for};
+ghost use Rattle.gs_class.specs.WrittenSupport.{CanBeWritten, CanWrite, IsQualified, fields_in};
 
-use crate::class::Class;
-use crate::class_set::ClassSet;
+use crate::class_set::{Class, ClassSet};
 use crate::error::ClassWriteFault;
 use gs_ai::{AiTable, Pair};
 use gs_chars::{Memory, Text};
+use gs_epc::{joined, pair_with, parts_at, prefix_in, rest_in, skip_first};
 use gs_grammar::{Opt, WriteFault, write_text};
 use gs_ident::Identity;
 use gs_prefix::PrefixList;
@@ -29,7 +30,7 @@ struct Said {
 }
 
 /// Returns the first pair with the code, other than the key.
-fn pair_with<'a>(identity: &'a Identity, code: &[u8]) -> Option<&'a Pair>
+fn other_with<'a>(identity: &'a Identity, code: &[u8]) -> Option<&'a Pair>
     ensures { option_copied result ≡ pair_with (others_of identity.now) code.now }
 {
     let qualifiers = identity.qualifiers().iter();
@@ -56,7 +57,7 @@ fn some_has_key(identity: &Identity, classes: &[Class]) -> bool
 fn is_named_by(identity: &Identity, class: &Class) -> bool
     ensures { result ≡ is_named_by identity.now class.now }
 {
-    has_key(identity, class) && pair_with(identity, class.element.as_bytes()).is_some()
+    has_key(identity, class) && other_with(identity, class.element.as_bytes()).is_some()
 }
 
 /// Returns the first class that names the identity.
@@ -83,50 +84,28 @@ fn extra_of<'a>(class: &Class, identity: &'a Identity) -> Option<&'a Pair>
         .find(|pair| is_extra(class, pair))
 }
 
-/// Returns the value of the element of the class.
-fn lot_of<'a>(class: &Class, identity: &'a Identity) -> &'a [u8]
-    ensures { result.now ≡ lot_of class.now identity.now }
+/// Returns the fields that an identity has by a class. The element is a qualifier of the identity.
+fn class_fields(
+    alloc: Global,
+    ais: &AiTable,
+    class: &Class,
+    identity: &Identity,
+) -> Result<Said, ClassWriteFault>
+    requires { IsQualified class.now identity.now }
+    ensures apart { IfOk result (λ said. take_apart ais.now (kind_of class.now) identity.now class.now.gcp
+        ≡ Some (fields_in said)) }
+    ensures only_memory { IfErr result (λ error. error ≡ ClassWriteFault.Memory) }
 {
-    match pair_with(identity, class.element.as_bytes()) {
-        Some(pair) => pair.value.as_bytes(),
-        None => &[],
-    }
-}
-
-/// Returns the bytes after the first `count`, if there are any.
-fn skip_first(text: &[u8], count: usize) -> &[u8]
-    ensures { result.now ≡ drop count text.now }
-{
-    &text[count.min(text.len())..]
-}
-
-/// Returns the first `count` bytes, or all if there are fewer.
-fn take_first(text: &[u8], count: usize) -> &[u8]
-    ensures { result.now ≡ take count text.now }
-{
-    &text[..count.min(text.len())]
-}
-
-/// Returns the digits of a key before its check digit.
-fn without_check_digit(value: &[u8]) -> &[u8]
-    ensures { result.now ≡ without_check_digit value.now }
-{
-    take_first(value, value.len().saturating_sub(1))
-}
-
-/// Returns the fields that an identity has by a class.
-fn class_fields(alloc: Global, class: &Class, identity: &Identity) -> Result<Said, Memory>
-    ensures { IfOk result (λ said. fields_in said ≡ class_fields class.now identity.now) }
-{
-    let (lead, gcp) = (usize::from(class.lead), usize::from(class.gcp));
-    let digits = without_check_digit(identity.key().value.as_bytes());
-    let others = skip_first(digits, lead);
-    let mut rest = Text::from_bytes(alloc, take_first(digits, lead))?;
-    rest.extend_from_slice(skip_first(others, gcp))?;
+    let Some(lot) = pair_with(identity.qualifiers(), class.element.as_bytes()) else {
+        return Err(ClassWriteFault::MissingElement);
+    };
+    let parts = parts_at(ais, class.key.as_bytes());
+    let value = identity.key().value.as_bytes();
+    let (lead, behind) = rest_in(parts, class.lead, class.gcp, value);
     Ok(Said {
-        prefix: Text::from_bytes(alloc, take_first(others, gcp))?,
-        rest,
-        serial: Text::from_bytes(alloc, lot_of(class, identity))?,
+        prefix: Text::from_bytes(alloc, prefix_in(parts, class.lead, class.gcp, value))?,
+        rest: joined(alloc, lead, behind)?,
+        serial: lot.value.copy(alloc)?,
     })
 }
 
@@ -156,15 +135,16 @@ fn values_for(alloc: Global, said: &Said, fields: &[Option<Field>]) -> Result<Ve
 /// Writes the identity by the option of the class.
 fn write_option(
     alloc: Global,
+    ais: &AiTable,
     class: &Class,
     option: &Opt,
     identity: &Identity,
 ) -> Result<Text, ClassWriteFault>
     requires text_level { option.now.bit_level ≡ false }
-    requires can_write { CanWrite class.now option.now.items identity.now }
-    ensures { OrMemory result (by_items class.now identity.now option.now.items) }
+    requires can_write { CanWrite ais.now class.now option.now.items identity.now }
+    ensures { OrMemory result (by_items ais.now class.now identity.now option.now.items) }
 {
-    let said = class_fields(alloc, class, identity)?;
+    let said = class_fields(alloc, ais, class, identity)?;
     let values = values_for(alloc, &said, class.fields.items())?;
     match write_text(alloc, option, values.as_slice()) {
         Ok(text) => Ok(text),
@@ -186,17 +166,19 @@ fn sized(classes: &[Class], name: &[u8], n: u8) -> Option<usize>
 #[tactic(auto, unfolding(crate::specs::Written::by_length))]
 fn write_by_length(
     alloc: Global,
+    ais: &AiTable,
     set: &ClassSet,
     class: &Class,
     identity: &Identity,
     n: u8,
 ) -> Result<Text, ClassWriteFault>
-    requires { CanBeWritten set.now class.now.name identity.now }
-    ensures { OrMemory result (by_length set.now identity.now class.now n) }
+    requires { CanBeWritten ais.now set.now class.now.name identity.now }
+    ensures { OrMemory result (by_length ais.now set.now identity.now class.now n) }
 {
     match sized(set.classes(), class.name.as_bytes(), n) {
         Some(i) => write_option(
             alloc,
+            ais,
             &set.classes()[i],
             &set.level().options()[i],
             identity,
@@ -228,20 +210,21 @@ fn length_for(
 #[tactic(auto, unfolding(crate::specs::Written::by_name))]
 fn write_by_name(
     alloc: Global,
+    ais: &AiTable,
     set: &ClassSet,
     prefixes: &PrefixList,
     gcp: Option<u8>,
     identity: &Identity,
     class: &Class,
 ) -> Result<Text, ClassWriteFault>
-    requires { CanBeWritten set.now class.now.name identity.now }
-    ensures { OrMemory result (by_name set.now prefixes.now gcp identity.now class.now) }
+    requires { CanBeWritten ais.now set.now class.now.name identity.now }
+    ensures { OrMemory result (by_name ais.now set.now prefixes.now gcp identity.now class.now) }
 {
     if let Some(pair) = extra_of(class, identity) {
         return Err(ClassWriteFault::Extra(pair.code.copy(alloc)?));
     }
     match length_for(prefixes, gcp, class, identity) {
-        Some(n) => write_by_length(alloc, set, class, identity, n),
+        Some(n) => write_by_length(alloc, ais, set, class, identity, n),
         None => Err(ClassWriteFault::MissingGcp),
     }
 }
@@ -263,7 +246,7 @@ pub fn write_class(
 ) -> Result<Text, ClassWriteFault>
     requires of_table { IsOfTable table.now set.now }
     requires made { IsMadeWith table.now identity.now }
-    ensures { OrMemory result (class_answer set.now prefixes.now gcp identity.now) }
+    ensures { OrMemory result (class_answer table.now set.now prefixes.now gcp identity.now) }
 {
     // only for the proof: the rows satisfy the rules of application identifiers
     let _ = table.rows();
@@ -272,7 +255,7 @@ pub fn write_class(
         return Err(ClassWriteFault::NoClass);
     }
     match naming(identity, classes) {
-        Some(class) => write_by_name(alloc, set, prefixes, gcp, identity, class),
+        Some(class) => write_by_name(alloc, table, set, prefixes, gcp, identity, class),
         None => Err(ClassWriteFault::MissingElement),
     }
 }

@@ -6,7 +6,6 @@ use Rattle.gs_class.specs.declared.error.ClassFault.TheVariants as reading
 use Rattle.gs_class.specs.declared.error.ClassWriteFault.{ClassWriteFault}
 use Rattle.gs_class.specs.declared.error.ClassWriteFault.TheVariants as writing
 use Rattle.gs_class.specs.Meanings.{ReadsAs}
-use Rattle.gs_class.specs.Sets.{ClassRows}
 use Rattle.gs_class.specs.Written.{OrMemory, class_answer}
 use Rattle.gs_ident.specs.Elements.{Elements}
 use Rattle.gs_ident.specs.Links.{canonical_link}
@@ -18,20 +17,20 @@ use Rattle.gs_translate.specs.Meanings.{IsRead}
 use Rattle.gs_translate.specs.Steps.{UnlessMemory, goes_on, rejects, reworded}
 use Rattle.gs_translate.proofs.StepLaws.{known_answer}
 use Rattle.tdl_answers.specs.declared.class_lines.ClassReason.TheVariants.{Common}
-use Rattle.tdl_answers.specs.ClassAnswers.{ClassWriting, IsClassLink, IsClassText}
+use Rattle.tdl_answers.specs.ClassAnswers.{ClassReading, ClassWriting, IsClassLink, IsClassText}
 use Rattle.tdl_answers.specs.ClassReasons.{of_class, of_class_writing}
 use Rattle.tdl_answers.specs.LongTexts.{is_short}
 use Rattle.gs_chars.specs.Limits.{longest_text}
 
 -- ---- class URIs
 
-module _ (set : ClassRows) (text : List ℕ) (few : length text ≤ longest_text) where
+module _ (by : ClassReading) (text : List ℕ) (few : length text ≤ longest_text) where
   -- the text names nothing
-  pub class_rejects : (error : ClassFault) → ReadsAs set text (Err error) → error ≢ reading.Memory → IsClassLink set text (Err (of_class error))
+  pub class_rejects : (error : ClassFault) → ReadsAs by.ais by.classes text (Err error) → error ≢ reading.Memory → IsClassLink by text (Err (of_class error))
   class_rejects error read enough = is_short few (rejects (of_class error) (record { given = Err error; enough = λ e. enough (let f : Err error ≡ Err reading.Memory = e in cc); is_given = read; is = refl }) refl)
 
   -- it names an identity, whose canonical link is the answer
-  pub class_links : (identity : Elements) (link : List ℕ) → ReadsAs set text (Ok identity) → link ≡ canonical_link identity → IsClassLink set text (Ok link)
+  pub class_links : (identity : Elements) (link : List ℕ) → ReadsAs by.ais by.classes text (Ok identity) → link ≡ canonical_link identity → IsClassLink by text (Ok link)
   class_links identity link read is = is_short few (goes_on identity (record { given = Ok identity; enough = λ e. (let f : Ok identity ≡ Err reading.Memory = e in cc); is_given = read; is = refl }) (ap Ok is))
 
 -- ---- links
@@ -45,6 +44,6 @@ module _ (by : ClassWriting) (text : List ℕ) where
       rejects (Common error) (record { given = given; is_given = read; is = refl }) refl
 
   -- the class URI that is written of its meaning
-  pub class_writes : (meaning : Meaning) (answer : Result (List ℕ) ClassWriteFault) → IsRead by.tables Link text (Ok meaning) → answer ≢ Err writing.Memory → OrMemory answer (class_answer by.classes by.prefixes by.gcp meaning.identity) → IsClassText by text (reworded of_class_writing answer)
+  pub class_writes : (meaning : Meaning) (answer : Result (List ℕ) ClassWriteFault) → IsRead by.tables Link text (Ok meaning) → answer ≢ Err writing.Memory → OrMemory answer (class_answer by.tables.ais by.classes by.prefixes by.gcp meaning.identity) → IsClassText by text (reworded of_class_writing answer)
   class_writes meaning answer read enough (inl memory) = absurd (enough memory)
   class_writes meaning answer read enough (inr is) = goes_on meaning (record { given = Ok meaning; is_given = read; is = refl }) (ap (reworded of_class_writing) is)

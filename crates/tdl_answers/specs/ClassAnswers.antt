@@ -32,17 +32,17 @@ reading_by ais classes = record { ais = ais; classes = classes }
 
 -- trusted, own: the answer to a text that is not long: the canonical link of the identity that it is a class URI of, or why it
 -- is not one
-abbrev pub LinksClass : ClassRows → List ℕ → Result (List ℕ) ClassReason → Type 0
-LinksClass set text answer =
-    Then (Reworded Memory of_class (ReadsAs set text)) (λ identity link. link ≡ Ok (canonical_link identity)) answer
+abbrev pub LinksClass : ClassReading → List ℕ → Result (List ℕ) ClassReason → Type 0
+LinksClass by text answer =
+    Then (Reworded Memory of_class (ReadsAs by.ais by.classes text)) (λ identity link. link ≡ Ok (canonical_link identity)) answer
 
 -- trusted, own: the answer to a text, by the canonical link of the identity that it is a class URI of
-abbrev pub IsClassLink : ClassRows → List ℕ → Result (List ℕ) ClassReason → Type 0
-IsClassLink set text answer = AfterLong (Common Long) (LinksClass set) text answer
+abbrev pub IsClassLink : ClassReading → List ℕ → Result (List ℕ) ClassReason → Type 0
+IsClassLink by text answer = AfterLong (Common Long) (LinksClass by) text answer
 
 -- trusted, own: the answer line of a text, by the canonical link of the identity that it is a class URI of
-abbrev pub IsClassCanonLine : ClassRows → List ℕ → LineAnswer → Type 0
-IsClassCanonLine set text line = IsLineOf class_text (IsClassLink set text) line
+abbrev pub IsClassCanonLine : ClassReading → List ℕ → LineAnswer → Type 0
+IsClassCanonLine by text line = IsLineOf class_text (IsClassLink by text) line
 
 -- ---- links
 
@@ -62,7 +62,7 @@ writing_by tables prefixes classes gcp = record { tables = tables; prefixes = pr
 abbrev pub IsClassText : ClassWriting → List ℕ → Result (List ℕ) ClassReason → Type 0
 IsClassText by text answer =
     Then (Restated Common (IsRead by.tables Link text))
-    (λ meaning written. written ≡ reworded of_class_writing (class_answer by.classes by.prefixes by.gcp meaning.identity)) answer
+    (λ meaning written. written ≡ reworded of_class_writing (class_answer by.tables.ais by.classes by.prefixes by.gcp meaning.identity)) answer
 
 -- trusted, own: the answer line of a text, by the class URI of its meaning as a link
 abbrev pub IsClassUriLine : ClassWriting → List ℕ → LineAnswer → Type 0

@@ -8,8 +8,7 @@ use Rattle.gs_translate.specs.Steps.{goes_on, rejects}
 use Rattle.gs_tables.specs.Tables.{TableRows}
 use Rattle.tdl_answers.specs.declared.class_lines.ClassReason.{ClassReason}
 use Rattle.tdl_answers.specs.declared.class_lines.ClassReason.TheVariants.{Common}
-use Rattle.gs_class.specs.Sets.{ClassRows}
-use Rattle.tdl_answers.specs.ClassAnswers.{ClassWriting, IsClassCanonLine, IsClassText, IsClassUriLine, LinksClass}
+use Rattle.tdl_answers.specs.ClassAnswers.{ClassReading, ClassWriting, IsClassCanonLine, IsClassText, IsClassUriLine, LinksClass}
 use Rattle.tdl_answers.specs.ClassReasons.{class_text}
 use Rattle.tdl_answers.specs.LongTexts.{Restated}
 use Rattle.tdl_answers.specs.LongLines.{long_read}
@@ -17,8 +16,8 @@ use Rattle.tdl_answers.specs.LongTextsSupport.{long_lines}
 use Rattle.gs_chars.specs.Limits.{longest_text}
 use Rattle.tdl_lines.specs.OutputsSupport.{AnswersLongAlike}
 
-pub long_classes_read : (set : ClassRows) → AnswersLongAlike (IsClassCanonLine set)
-long_classes_read set = long_lines (Common Long) (LinksClass set) class_text
+pub long_classes_read : (by : ClassReading) → AnswersLongAlike (IsClassCanonLine by)
+long_classes_read by = long_lines (Common Long) (LinksClass by) class_text
 
 long_link : (set : TableRows) (text other : List ℕ) (answer : Result Meaning ClassReason) → longest_text < length text → longest_text < length other → Restated Common (IsRead set Link text) answer → Restated Common (IsRead set Link other) answer
 long_link set text other answer long more read =

@@ -27,7 +27,7 @@ fn link_text(
 ) -> Result<Text, ClassReason>
     requires { IsOfTable table.now classes.now }
     ensures { HasMemory (λ reason. reason ≡ Common OutOfMemory) result
-        → IsClassLink classes.now text.now result }
+        → IsClassLink (reading_by table.now classes.now) text.now result }
 {
     if text.len() > LONGEST_TEXT {
         return Err(ClassReason::Common(Reason::Long));
@@ -70,13 +70,13 @@ impl Answerer for ClassCanonLines<'_> {
     ghost use Rattle.tdl_answers.specs.ClassAnswers.{IsClassCanonLine};
     ghost use Rattle.tdl_answers.specs.LongClasses.{long_classes_read};
 
-    ghost is_answer = { λ s. IsClassCanonLine s.classes };
+    ghost is_answer = { λ s. IsClassCanonLine s };
 
     fn append_answer(&self, alloc: Global, text: &[u8], out: &mut Vec<u8>) -> Result<bool, Memory> {
         append_line(alloc, out, link_text(alloc, self.table, self.classes, text))
     }
 
-    ghost long_alike = { λ s. long_classes_read s.classes };
+    ghost long_alike = { λ s. long_classes_read s };
 }
 
 /// An answerer of links by the class URIs of the things that they name. The classes are of the table of the tables.

@@ -1,6 +1,7 @@
 -- A work has an outcome, and all its outcomes are alike.
 use Rattle.std.proofs.Common.{◌≡◌, ◌⊎◌, inl, inr, ℕ, ◌||◌, false, List, [], Option, Some, refl, sym, ◌∙◌, ap}
 use Rattle.std.specs.Bool.{OnTrue}
+use Rattle.tdl_answers.specs.ClassAnswers.{reading_by}
 use Rattle.tdl_answers.proofs.ClassLineLemmas.{one_class_read, one_class_written, some_class_read, some_class_written}
 use Rattle.tdl_answers.proofs.DumpLineLemmas.{one_dump_read, one_dump_written, some_dump_read, some_dump_written}
 use Rattle.tdl_answers.proofs.LineLemmas.{one_translated, some_translated}
@@ -46,7 +47,7 @@ command_defined Resolve values loaded keeps classes = tt
 command_defined Serve values loaded keeps classes = tt
 command_defined (Gen lines) values loaded keeps classes = (some_generated loaded.tables keeps lines, one_generated loaded.tables lines)
 command_defined Migrate values loaded keeps classes = ((migrated_line loaded, refl), (λ one other a b. a ∙ sym b))
-command_defined ClassCanon values loaded keeps classes = (some_class_read loaded.tables.ais loaded.classes classes.of_table classes.clear, one_class_read loaded.classes classes.clear)
+command_defined ClassCanon values loaded keeps classes = (some_class_read (reading_by loaded.tables.ais loaded.classes) classes.of_table classes.clear, one_class_read (reading_by loaded.tables.ais loaded.classes) classes.clear)
 command_defined ClassUri values loaded keeps classes = (some_class_written (writing_classes loaded values), one_class_written (writing_classes loaded values))
 command_defined DumpRead values loaded keeps classes = (some_dump_read loaded.tables keeps, one_dump_read loaded.tables)
 command_defined DumpWrite values loaded keeps classes = (some_dump_written loaded.tables keeps, one_dump_written loaded.tables)

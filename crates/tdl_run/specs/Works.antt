@@ -23,7 +23,7 @@ use Rattle.gs_translate.specs.Targets.{kept}
 use Rattle.gs_translate.specs.Translations.{Translating, translating_by}
 use Rattle.tdl_arguments.specs.declared.command.Command.{Command}
 use Rattle.tdl_arguments.specs.declared.command.Command.TheVariants.{Canon, Translate, Check, Resolve, Serve, Gen, Migrate, ClassCanon, ClassUri, DumpRead, DumpWrite, Merge}
-use Rattle.tdl_answers.specs.ClassAnswers.{ClassWriting, IsClassCanonLine, IsClassUriLine, writing_by}
+use Rattle.tdl_answers.specs.ClassAnswers.{ClassWriting, IsClassCanonLine, IsClassUriLine, reading_by, writing_by}
 use Rattle.tdl_answers.specs.DumpAnswers.{IsDumpReadLine, IsDumpWriteLine}
 use Rattle.tdl_answers.specs.TranslatedAnswers.{IsTranslatedLine}
 use Rattle.tdl_arguments.specs.Commands.{Work, on_door, on_heads, on_lines, on_none, work_of}
@@ -176,7 +176,7 @@ doing_of Resolve values loaded = resolves
 doing_of Serve values loaded = serves values.count
 doing_of (Gen lines) values loaded = prints (Generated loaded.tables lines)
 doing_of Migrate values loaded = prints (λ output. output ≡ migrated_line loaded)
-doing_of ClassCanon values loaded = answers (IsClassCanonLine loaded.classes)
+doing_of ClassCanon values loaded = answers (IsClassCanonLine (reading_by loaded.tables.ais loaded.classes))
 doing_of ClassUri values loaded = answers (IsClassUriLine (writing_classes loaded values))
 doing_of DumpRead values loaded = answers (IsDumpReadLine loaded.tables)
 doing_of DumpWrite values loaded = answers (IsDumpWriteLine loaded.tables)

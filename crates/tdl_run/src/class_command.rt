@@ -1,4 +1,4 @@
-ghost use Rattle.tdl_answers.specs.ClassAnswers.{IsClassCanonLine, IsClassUriLine};
+ghost use Rattle.tdl_answers.specs.ClassAnswers.{IsClassCanonLine, IsClassUriLine, reading_by};
 ghost use Rattle.tdl_arguments.specs.Requests.{known_values};
 ghost use Rattle.tdl_run.specs.CommandRuns.{AnswersLines, moment_of};
 ghost use Rattle.tdl_loads.specs.LoadsSupport.{AreKept};
@@ -20,7 +20,7 @@ pub fn link_classes<S: Source, K: Sink>(
     output: &mut K,
 ) -> Status
     requires { AreKept loaded.now.tables.ais loaded.now.classes }
-    ensures { AnswersLines (IsClassCanonLine loaded.now.classes) result
+    ensures { AnswersLines (IsClassCanonLine (reading_by loaded.now.tables.ais loaded.now.classes)) result
         (K.held output.old) (K.held output.new)
         (moment_of (S.left input.old) (S.errors input.old) (K.errors output.old))
         (moment_of (S.left input.new) (S.errors input.new) (K.errors output.new)) }

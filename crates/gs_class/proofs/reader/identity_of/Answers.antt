@@ -3,7 +3,9 @@ use Rattle.std.proofs.lemmas.Result.{IfOk-weaker}
 use Rattle.gs_ai.specs.declared.pair.Pair.{Pair}
 use Rattle.gs_ident.specs.Identities.{identity_of_pairs}
 use Rattle.gs_ident.specs.QualifiedKeys.{pairs_in}
-use Rattle.gs_class.specs.Meanings.{class_identity, said_by}
+use Rattle.gs_epc.specs.Layout.{lay}
+use Rattle.gs_class.specs.Meanings.{said_by}
+use Rattle.gs_class.specs.Sets.{kind_of}
 use Rattle.gs_class.proofs.ClassIdentities.{identity_is, is_key}
 use Rattle.gs_class.proofs.reader.identity_of.Goals as goal
 
@@ -19,5 +21,5 @@ returns-clause-identity c =
     let said = said_by class c.args.values.now in
     let lot = c.in_ok-from_bytes.ensures ∙ (rw c.items.ensures at c.value_of-lot.ensures) in
     let element : Pair = record { code = c.in_ok-copy-2.field-0; value = c.in_ok-from_bytes.field-0 } in
-    IfOk-weaker c.of_key.result (λ identity. identity_of_pairs c.args.ais.now (_ ∷ pairs_in (Some element)) ≡ Ok identity) (λ identity. identity ≡ class_identity class said)
+    IfOk-weaker c.of_key.result (λ identity. identity_of_pairs c.args.ais.now (_ ∷ pairs_in (Some element)) ≡ Ok identity) (λ identity. identity ≡ lay c.args.ais.now (kind_of class) said)
     (λ identity. identity_is c.args.ais.now class said c.requires c.rows.ensures.kept _ _ _ _ identity c.in_ok-copy.ensures c.in_ok-key_value.ensures c.in_ok-copy-2.ensures lot) c.of_key.ensures.made

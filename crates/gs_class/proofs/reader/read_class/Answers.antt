@@ -11,4 +11,4 @@ pub returns-in_ok-identity_of-in-One-clause-answer : goal.returns-in_ok-identity
 returns-in_ok-identity_of-in-One-clause-answer c =
     let one = one_here c.args.set.now c.level.result.now c.args.text.now c.in-One.option c.in-One.values c.level.ensures.level (rw c.in-One.is at c.read_text.ensures) in
     is_class c.args.table.now c.args.set.now c.args.text.now c.in-One.option c.in-One.values c.classes.result.now c.requires one c.classes.ensures c.index-classes-option.result c.in_ok-identity_of-in-One.field-0 c.index-classes-option.is
-    (same_values c.index-classes-option.result c.in-One.values c.items.result.now c.in_ok-identity_of-in-One.field-0 c.items.ensures c.in_ok-identity_of-in-One.ensures.identity)
+    (same_values c.args.table.now c.index-classes-option.result c.in-One.values c.items.result.now c.in_ok-identity_of-in-One.field-0 c.items.ensures c.in_ok-identity_of-in-One.ensures.identity)

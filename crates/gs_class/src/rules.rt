@@ -1,16 +1,24 @@
-ghost use Rattle.std.specs.Prelude.{◌≡◌, position};
-ghost use Rattle.std.specs.List.{list_all};
-ghost use Rattle.gs_class.specs.Rules.{agrees, digits_alone, element_room, fits_key, fits_parts, is_bad_item, is_class, is_class_item, is_same_pair, is_same_row, keeps_items};
+ghost use Rattle.std.specs.Prelude.{◌≡◌, position, ◌==◌, ◌≤◌, not, codes, length, option_map, option_to_list};
+ghost use Rattle.std.specs.List.{list_all, flat_map, enumerate_from};
+ghost use Rattle.gs_class.specs.Rules.{agrees, digits_alone, element_room, fits_key, fits_parts, is_bad_item, is_class};
+ghost use Rattle.gs_class.specs.Rules.{is_class_item, is_same_pair, is_same_row, keeps_items, are_many};
+ghost use Rattle.gs_class.specs.Rules.{class_rejections, has_long, row_rejections};
+ghost use Rattle.serde_json.specs.View.{view};
+ghost use Rattle.gs_chars.specs.Answers.{error_if};
+ghost use Rattle.gs_json.specs.Members.{number_in};
+ghost use Rattle.gs_class.specs.AnswersSupport.{IsFirst};
 
-use crate::class::ClassRow;
+use crate::document::ClassRow;
+use crate::error::ClassLoadFault;
 use gs_ai::{AiRow, AiTable, Part};
 use gs_chars::are_visible;
 use gs_grammar::Item;
+use gs_json::{Node, number_in};
 use gs_tables::{
     Behind, Field, KeyForm, Room, characters_of, is_of_key, keeps_gcp, keeps_rest, keeps_serial,
-    lists,
+    lists, size_within_limit,
 };
-use gs_tables_document::FieldItem;
+use gs_tables_document::{FieldItem, MOST_ITEMS};
 
 /// Returns whether the item is a literal, or stands for the company prefix, the rest or the lot.
 fn is_class_item(item: &FieldItem) -> bool
@@ -155,4 +163,87 @@ pub(crate) fn is_class(ais: &AiTable, earlier: &[ClassRow], row: &ClassRow) -> b
         Some(key) => fits_key(ais, row, key),
         None => false,
     }
+}
+
+/// The most classes of a set.
+pub const MOST_CLASSES: usize = 256;
+
+/// Rejects a document of another version.
+pub(crate) fn check_version(root: &Node<'_>) -> Result<(), ClassLoadFault>
+    ensures { IsFirst (error_if (not (number_in (codes "version") (view root.now.tree) == 1))
+        ClassLoadFault.Version) result }
+{
+    if number_in(root.value(), "version") == 1 {
+        Ok(())
+    } else {
+        Err(ClassLoadFault::Version)
+    }
+}
+
+/// Returns whether some class has more items than the limit.
+fn has_long(rows: &[ClassRow]) -> bool
+    ensures { result ≡ has_long rows.now }
+{
+    rows.iter().any(|row| row.items.items().len() > MOST_ITEMS)
+}
+
+/// Returns whether there are more classes, or more items of a class, than the limit.
+fn are_many(rows: &[ClassRow]) -> bool
+    ensures { result ≡ are_many rows.now }
+{
+    rows.len() > MOST_CLASSES || has_long(rows)
+}
+
+/// Rejects row `i` if it equals an earlier one.
+fn check_unlike(earlier: &[ClassRow], i: usize, row: &ClassRow) -> Result<(), ClassLoadFault>
+    ensures { IsFirst (option_to_list (option_map (λ j. ClassLoadFault.Duplicate j i)
+        (position (is_same_row row.now) earlier.now))) result }
+{
+    match first_same(earlier, row) {
+        Some(j) => Err(ClassLoadFault::Duplicate(j, i)),
+        None => Ok(()),
+    }
+}
+
+/// Finds the first rejection of row `i`.
+fn check_row(
+    ais: &AiTable,
+    rows: &[ClassRow],
+    i: usize,
+    row: &ClassRow,
+) -> Result<(), ClassLoadFault>
+    requires { i ≤ length rows.now }
+    ensures { IsFirst (row_rejections ais.now rows.now (i, row.now)) result }
+{
+    let items = row.items.items();
+    if let Some(k) = first_bad(items) {
+        return Err(ClassLoadFault::BadItem(i, k));
+    }
+    if size_within_limit(items).is_none() {
+        return Err(ClassLoadFault::Size(i));
+    }
+    if !is_class(ais, &rows[..i], row) {
+        return Err(ClassLoadFault::Mismatch(i));
+    }
+    check_unlike(&rows[..i], i, row)
+}
+
+/// Finds the first rejection of the rows: of their limits, then row by row.
+pub(crate) fn check_rows(ais: &AiTable, rows: &[ClassRow]) -> Result<(), ClassLoadFault>
+    ensures { IsFirst (class_rejections ais.now rows.now) result }
+{
+    if are_many(rows) {
+        return Err(ClassLoadFault::Limit);
+    }
+    check_each(ais, rows)
+}
+
+/// Finds the first rejection of the rows, row by row.
+fn check_each(ais: &AiTable, rows: &[ClassRow]) -> Result<(), ClassLoadFault>
+    ensures { IsFirst (flat_map (row_rejections ais.now rows.now) (enumerate_from 0 rows.now)) result }
+{
+    for (i, row) in rows.iter().enumerate() {
+        check_row(ais, rows, i, row)?;
+    }
+    Ok(())
 }

@@ -6,7 +6,7 @@ use Rattle.gs_class.specs.declared.error.ClassLoadFault.TheVariants.{BadItem, Si
 use Rattle.gs_class.specs.Rules.{is_bad_item, is_class, is_same_row, row_rejections}
 use Rattle.gs_tables.proofs.OptionLemmas.{above_limit, within_limit}
 use Rattle.gs_class.proofs.RowRejections.{bad_first, size_next, mismatch_next, twin_decides}
-use Rattle.gs_class.proofs.checks.check_row.Goals as goal
+use Rattle.gs_class.proofs.rules.check_row.Goals as goal
 
 pub returns-in-Some : goal.returns-in-Some
 unfolding row_rejections

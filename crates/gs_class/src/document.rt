@@ -3,18 +3,35 @@ ghost use Rattle.serde_json.specs.View.{view};
 ghost use Rattle.gs_json.specs.Members.{items_of, items_in, text_in};
 ghost use Rattle.gs_json.specs.Shapes.{shape_errors};
 ghost use Rattle.gs_class.specs.AnswersSupport.{IsFormFirst, of_json};
-ghost use Rattle.gs_class.specs.Documents.{array_errors, document_plan, form_errors, row_plan, rows_errors, row_of};
-ghost use Rattle.gs_class.specs.Documents.{rows_of};
+ghost use Rattle.gs_prefix.specs.Documents.{array_errors};
+ghost use Rattle.gs_class.specs.Documents.{document_plan, form_errors, row_plan, rows_errors, row_of, rows_of};
 ghost use Rattle.gs_tables_document.specs.Items.{item_of};
 
-use crate::class::ClassRow;
 use crate::error::ClassLoadFault;
 use gs_chars::{List, Memory, Text};
 use gs_json::{Entry, JsonFault, Node, Sort, number_in, plan_of, text_in};
+use gs_prefix::judge_rows;
 use gs_tables::{ItemFault, read_item};
 use gs_tables_document::FieldItem;
 use serde_json::Value;
 use std::alloc::Global;
+
+/// A class of a document, before it is judged.
+#[derive(Drop)]
+pub struct ClassRow {
+    /// The name, as written in class URIs.
+    pub name: Text,
+    /// The code of the key.
+    pub key: Text,
+    /// How many digits of the key are before the company prefix and go with the rest.
+    pub lead: u64,
+    /// The AI of the element that identifies the class among the things of one key.
+    pub element: Text,
+    /// How many digits the GS1 Company Prefix has.
+    pub gcp: u64,
+    /// The items. One is absent if the document has an item there that is not an item of a text.
+    pub items: List<Option<FieldItem>>,
+}
 
 /// Returns the members of the document.
 fn document_plan(alloc: Global) -> Result<List<Entry>, Memory>
@@ -66,33 +83,20 @@ fn judge_object(alloc: Global, object: &Node<'_>, plan: &[Entry]) -> Result<(), 
     }
 }
 
-/// Finds the first error of the rows of an array by the plan of a row, row by row.
-#[tactic(auto, unfolding(crate::specs::Documents::array_errors))]
-fn judge_by(alloc: Global, array: &Node<'_>, plan: &[Entry]) -> Result<(), ClassLoadFault>
-    requires { plan.now ≡ row_plan }
-    ensures { IsFormFirst (array_errors array.now.place (items_of (view array.now.tree))) result }
-{
-    let count = array.items_len().unwrap_or(0);
-    for i in 0..count {
-        let Ok(row) = array.item(alloc, i) else {
-            return Err(ClassLoadFault::Memory);
-        };
-        judge_object(alloc, &row, plan)?;
-    }
-    Ok(())
-}
-
 /// Finds the first error of the rows of an array, row by row.
 fn judge_items(alloc: Global, array: &Node<'_>) -> Result<(), ClassLoadFault>
-    ensures { IsFormFirst (array_errors array.now.place (items_of (view array.now.tree))) result }
+    ensures { IsFormFirst (array_errors row_plan array.now.place (items_of (view array.now.tree))) result }
 {
     let plan = row_plan(alloc)?;
-    judge_by(alloc, array, plan.items())
+    match judge_rows(alloc, array, plan.items()) {
+        Ok(()) => Ok(()),
+        Err(error) => Err(of_json(error)),
+    }
 }
 
 /// Finds the first error of the rows of a document, row by row.
-#[tactic(auto, unfolding(crate::specs::Documents::array_errors, crate::specs::Documents::rows_errors))]
-fn judge_rows(alloc: Global, root: &Node<'_>) -> Result<(), ClassLoadFault>
+#[tactic(auto, unfolding(gs_prefix::specs::Documents::array_errors, crate::specs::Documents::rows_errors))]
+fn judge_classes(alloc: Global, root: &Node<'_>) -> Result<(), ClassLoadFault>
     requires { root.now.place ≡ [] }
     ensures { IsFormFirst (rows_errors (view root.now.tree)) result }
 {
@@ -109,7 +113,7 @@ pub(crate) fn judge_form(alloc: Global, root: &Node<'_>) -> Result<(), ClassLoad
 {
     let plan = document_plan(alloc)?;
     judge_object(alloc, root, plan.items())?;
-    judge_rows(alloc, root)
+    judge_classes(alloc, root)
 }
 
 /// Returns a copy of the text of the named member, and of the empty text if there is none.

@@ -2,7 +2,7 @@ use Rattle.std.proofs.Common.{arith}
 use Rattle.std.proofs.lemmas.Result.{err_from_is_err_and}
 use Rattle.gs_class.specs.Rules.{row_rejections}
 use Rattle.gs_class.proofs.RowRejections.{row_passed, row_rejected, rows_passed}
-use Rattle.gs_class.proofs.checks.check_each.Goals as goal
+use Rattle.gs_class.proofs.rules.check_each.Goals as goal
 
 pub returns-in_err-check_row : goal.returns-in_err-check_row
 returns-in_err-check_row c =

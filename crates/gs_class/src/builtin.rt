@@ -2,45 +2,12 @@ ghost use Rattle.std.specs.Prelude.{◌≡◌, ◌≤◌, ◌++◌, ◌∷◌, [
 ghost use Rattle.gs_grammar.specs.declared.item.Item.TheVariants.{Lit};
 ghost use Rattle.gs_class.specs.BuiltIn.{built_in_rows, lgtin_items, lgtin_row};
 
+use crate::document::ClassRow;
 use gs_chars::{List, Memory, Text};
 use gs_grammar::Item;
 use gs_tables::Field;
 use gs_tables_document::FieldItem;
 use std::alloc::Global;
-
-/// A class of things that a class URI names: the facts of an option of a set apart from its items.
-#[derive(Drop)]
-pub struct Class {
-    /// The name, as written in class URIs.
-    pub name: Text,
-    /// The code of the key.
-    pub key: Text,
-    /// The AI of the element that identifies the class among the things of one key.
-    pub element: Text,
-    /// How many digits of the key are before the company prefix and go with the rest, 0 or 1.
-    pub lead: u8,
-    /// How many digits the GS1 Company Prefix has, 1 to 12.
-    pub gcp: u8,
-    /// The field of each item, none for literals.
-    pub fields: List<Option<Field>>,
-}
-
-/// A class of a document, before it is judged.
-#[derive(Drop)]
-pub struct ClassRow {
-    /// The name, as written in class URIs.
-    pub name: Text,
-    /// The code of the key.
-    pub key: Text,
-    /// How many digits of the key are before the company prefix and go with the rest.
-    pub lead: u64,
-    /// The AI of the element that identifies the class among the things of one key.
-    pub element: Text,
-    /// How many digits the GS1 Company Prefix has.
-    pub gcp: u64,
-    /// The items. One is absent if the document has an item there that is not an item of a text.
-    pub items: List<Option<FieldItem>>,
-}
 
 /// Returns a literal.
 fn literal(alloc: Global, text: &[u8]) -> Result<Option<FieldItem>, Memory>

@@ -3,7 +3,7 @@ use Rattle.serde_json.specs.View.{view}
 use Rattle.gs_json.proofs.ArrayItems.{items_at}
 use Rattle.gs_tables_document.specs.Items.{item_of}
 use Rattle.gs_class.proofs.ReadLemmas.{all_read, one_read}
-use Rattle.gs_class.proofs.form.read_items.Goals as goal
+use Rattle.gs_class.proofs.document.read_items.Goals as goal
 
 pub loop-i-preserved : goal.loop-i-preserved
 loop-i-preserved c =
