@@ -11,13 +11,16 @@ use gs_chars::{Memory, Text};
 use gs_ident::append_escaped;
 use gs_linkset::{Attr, AttrValue, Context, LinkDoc, Relation, Target};
 use std::alloc::Global;
+use thiserror::Error;
 
 /// Why a linkset cannot be spelled as text. Links are counted from 0, in the order of the document.
-#[derive(Clone, Copy, Debug)]
+#[derive(Clone, Copy, Debug, PartialEq, Error)]
 pub enum LinkTextWriteFault {
     /// The link at this index cannot be spelled.
+    #[error("link {0} cannot be written as text")]
     CannotSpell(usize),
     /// Out of memory.
+    #[error("out of memory")]
     Memory,
 }
 

@@ -12,6 +12,7 @@ use crate::source::ReadAnswer;
 use gs_chars::{List, Memory, Text};
 use std::alloc::{AllocError, Global};
 use std::marker::Model;
+use thiserror::Error;
 
 /// The result of opening a file.
 #[derive(Clone, Copy)]
@@ -76,13 +77,16 @@ pub trait Files {
 }
 
 /// Why a file was not read whole.
-#[derive(Drop)]
+#[derive(Debug, Drop, Error)]
 pub enum FileFault {
     /// The file has more than the most bytes. These are its first bytes, one more than the most.
+    #[error("the file has more bytes than it may have")]
     Over(Text),
     /// An error of the files, which they counted, or a file that is not among those that are known.
+    #[error("the file cannot be read")]
     Failed,
     /// Out of memory.
+    #[error("out of memory")]
     Memory,
 }
 

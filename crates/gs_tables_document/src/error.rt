@@ -2,6 +2,7 @@ use crate::document::LevelName;
 use gs_ai::AiFault;
 use gs_chars::{Memory, Text};
 use gs_json::JsonFault;
+use thiserror::Error;
 
 /// A quantity that is limited.
 #[derive(Clone, Copy, Debug)]
@@ -19,26 +20,35 @@ pub enum LimitName {
 }
 
 /// Why tables are rejected. The indexes count from 0.
-#[derive(Debug, Drop)]
+#[derive(Debug, Drop, Error)]
 pub enum LoadFault {
     /// The document is not of the form of a table document.
+    #[error("another form than that of a table document")]
     Json(JsonFault),
     /// The version is neither 1 nor 2.
+    #[error("the version is neither 1 nor 2")]
     Version,
     /// There is more than the limit allows.
+    #[error("more than a limit allows")]
     Limit(LimitName),
     /// A rule of the application identifiers is broken.
+    #[error("a rule of application identifiers is broken")]
     Ai(AiFault),
     /// The kind at this index breaks a rule.
+    #[error("kind {0} breaks a rule")]
     BadKind(usize),
     /// The item at the last index, of the option of the level, is not an item of the level or breaks a bound.
+    #[error("an item of an option breaks a bound or is not of the level")]
     BadItem(LevelName, usize, usize),
     /// The option of the level does not fit its kind.
+    #[error("an option breaks a rule of options")]
     Mismatch(LevelName, usize),
     /// The options of the level at the two indexes have the same kind, encoding and prefix length.
+    #[error("two options have one kind, encoding and company prefix length")]
     Duplicate(LevelName, usize, usize),
     /// The options of the level at the two indexes, which may be one option, are the first pair that shares a list of symbols.
     /// No earlier level has such a pair. The text is one that they share, with bits as `0` and `1`.
+    #[error("two options both read a text")]
     Ambiguous {
         /// The level.
         level: LevelName,
@@ -50,15 +60,18 @@ pub enum LoadFault {
         text: Text,
     },
     /// Out of memory.
+    #[error("out of memory")]
     Memory,
 }
 
 /// Why an item is not read.
-#[derive(Clone, Copy)]
+#[derive(Clone, Copy, Debug, PartialEq, Error)]
 pub enum ItemFault {
     /// It is not an item of the level.
+    #[error("no item of the level")]
     Bad,
     /// Out of memory.
+    #[error("out of memory")]
     Memory,
 }
 

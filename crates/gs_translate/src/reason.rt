@@ -7,33 +7,46 @@ use gs_epc::{EpcFault, EpcWriteFault, FieldsFault};
 use gs_grammar::Why;
 use gs_ident::IdentFault;
 use gs_tables::Field;
+use thiserror::Error;
 
 /// Why a text is rejected.
-#[derive(Drop)]
+#[derive(Debug, Drop, Error)]
 pub enum Reason {
     /// The text has more than 2,048 bytes.
+    #[error("the text has more than 2,048 bytes")]
     Long,
     /// The text says no EPC, for this reason, which is never out of memory.
+    #[error("the text says no EPC")]
     Epc(EpcFault),
     /// An element of the text is not valid: where, and why.
+    #[error("an element is not valid")]
     Element(ElementFault),
     /// The text does not begin with `http://` or `https://` and an authority.
+    #[error("the text does not begin with http:// or https:// and an authority")]
     NotHttp,
     /// The path of the link ends in no key with its qualifiers.
+    #[error("the path ends in no key with its qualifiers")]
     NoKeyPath,
     /// The elements of the text have no identity, for this reason, which is never out of memory.
+    #[error("the elements have no identity")]
     Ident(IdentFault),
     /// The tables have no kind of EPC for the key.
+    #[error("no kind of EPC has this key")]
     NoKind,
     /// An element is neither the key nor its serial, so no EPC says it: its code.
+    #[error("no EPC holds an element")]
     Extra(Text),
     /// Neither the text nor the options give this.
+    #[error("a field is missing")]
     Missing(FieldName),
     /// The tables have no option for the kind, the length of the company prefix and the encoding.
+    #[error("no option for the kind, the company prefix length and the encoding")]
     NoOption,
     /// No such option holds every field. The last one does not hold this field, for this reason.
+    #[error("no option holds every field")]
     CannotHold(Field, Why),
     /// Out of memory.
+    #[error("out of memory")]
     Memory,
 }
 

@@ -17,6 +17,7 @@ use std::alloc::Global;
 use std::marker::Model;
 use tdl_lines::Answerer;
 use tdl_messages::{Reasoned, append_line};
+use thiserror::Error;
 
 /// Returns the canonical link of the identity that a text is a class URI of.
 fn link_text(
@@ -159,13 +160,16 @@ impl Answerer for ClassUriLines<'_> {
 }
 
 /// Why a class URI names nothing, or why the identity of a link is not written as a class URI.
-#[derive(Drop)]
+#[derive(Debug, Drop, Error)]
 pub enum ClassReason {
     /// A reason that translations have too: the text is long or has no reading, is not a link, or its identity is not written.
+    #[error("{0}")]
     Common(Reason),
     /// No class has the key of the identity.
+    #[error("no class has this key")]
     NoClass,
     /// No class that has the key has an element that the identity has.
+    #[error("no element makes a class")]
     MissingElement,
 }
 

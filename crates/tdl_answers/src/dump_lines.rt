@@ -14,6 +14,7 @@ use gs_translate::{Reason, append_number, append_numbered, append_reason, append
 use std::alloc::Global;
 use tdl_lines::Answerer;
 use tdl_messages::{Reasoned, append_line};
+use thiserror::Error;
 
 /// Returns the line that shows the dump that a text is.
 fn shown_text(alloc: Global, set: &TableSet, text: &[u8]) -> Result<Text, DumpReason>
@@ -79,18 +80,23 @@ impl Answerer for DumpWriteLines<'_> {
 }
 
 /// Why a dump is not shown, or a line that shows one is not written as a dump.
-#[derive(Drop)]
+#[derive(Debug, Drop, Error)]
 pub enum DumpReason {
     /// A reason that translations have too: the text is long, is not a hexadecimal text or has no reading, or the EPC is not
     /// written.
+    #[error("{0}")]
     Common(Reason),
     /// There are fewer bits than a protocol control word has.
+    #[error("shorter than the control word")]
     NoWord,
     /// The bit of the word that says that an extended word follows is 1.
+    #[error("the extended bit is set")]
     Extended,
     /// The bit of the word that says that the bank holds no EPC is 1.
+    #[error("the toggle bit is set")]
     Toggle,
     /// The number of bits after the word is not that of the words in it.
+    #[error("{said} words of 16 bits are announced, but {bits} bits follow")]
     Words {
         /// How many words it says.
         said: u8,
@@ -98,8 +104,10 @@ pub enum DumpReason {
         bits: u16,
     },
     /// The line does not begin with the user memory bit and the attribute bits.
+    #[error("the line does not begin with the user memory bit and the attribute bits")]
     Line,
     /// The encoding has more words than a control word can say.
+    #[error("an encoding of more than 31 words")]
     TooLong,
 }
 

@@ -17,6 +17,7 @@ use gs_tables::TableSet;
 use std::alloc::Global;
 use tdl_arguments::{NamedFiles, NamedValues, Request};
 use tdl_messages::{FileKind, Rejection};
+use thiserror::Error;
 
 /// Tables, and their document.
 #[derive(Drop)]
@@ -81,13 +82,16 @@ impl Drop for Loaded {
 }
 
 /// The reason why a run has not loaded its files.
-#[derive(Drop)]
+#[derive(Debug, Drop, Error)]
 pub enum Unloaded {
     /// A file is rejected.
+    #[error("a file is rejected")]
     Refused(Rejection),
     /// The files counted an error, or a file is missing.
+    #[error("a file cannot be read")]
     ReadFault,
     /// Out of memory.
+    #[error("out of memory")]
     Memory,
 }
 
