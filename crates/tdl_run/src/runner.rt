@@ -77,7 +77,7 @@ pub fn run<F: Files, S: Source, K: Sink, D: Door>(
     ensures untouched { ((input.new ≡ input.old) × (door.new ≡ door.old))
         ⊎ LoadsSome (known_words words.now) (F.files files.old) }
     ensures unopened { NamesNoFile (known_words words.now) → files.new ≡ files.old }
-    ensures opened { OpensNamed (known_words words.now) (F.files files.old)
+    ensures opened { OpensNamed (known_words words.now) result (F.files files.old)
         (F.opened files.old) (F.opened files.new) }
     ensures all_opened { OpensAll result (known_words words.now) (F.opened files.old) (F.opened files.new) }
     ensures known { F.files files.new ≡ F.files files.old }
