@@ -1,5 +1,5 @@
 -- The outcome of a request, by how its files were loaded and how its command ran.
-use Rattle.std.proofs.Common.{◌≡◌, ◌≢◌, ◌⊎◌, inl, inr, ℕ, ◌+◌, ◌≤◌, false, List, [], Option, refl, sym, ap, ◌∙◌}
+use Rattle.std.proofs.Common.{◌≡◌, ◌≢◌, ◌⊎◌, inl, inr, ℕ, ◌+◌, ◌≤◌, true, false, List, [], Option, refl, sym, ap, ◌∙◌}
 use Rattle.std.specs.Prelude.{Result, Ok, Err}
 use Rattle.std.specs.Bool.{OnTrue}
 use Rattle.tdl_lines.specs.declared.status.Status.{Status}
@@ -21,7 +21,7 @@ use Rattle.tdl_loads.specs.declared.loads.Loaded.{Loaded}
 use Rattle.tdl_loads.specs.declared.loads.Unloaded.{Unloaded}
 use Rattle.tdl_loads.specs.declared.loads.Unloaded.TheVariants as unloaded
 use Rattle.tdl_run.specs.Requests.{AskedRan, Reports}
-use Rattle.tdl_loads.specs.Loads.{FilesGive, Stop, missing, rejected}
+use Rattle.tdl_loads.specs.Loads.{FilesGive, Stop, is_short, missing, rejected}
 use Rattle.tdl_loads.specs.LoadsSupport.{LoadedBy}
 use Rattle.tdl_run.specs.CommandRuns.{BeginsOne, CutShort, Moment}
 use Rattle.tdl_run.specs.RanSupport.{AskedEnded, AskedRun, CommandEnded, CommandRan, CommandRun}
@@ -167,6 +167,12 @@ pub reports_unanswered : (why : Unloaded) (s : Status) (held held' : Option (Lis
 reports_unanswered (unloaded.Refused rejection) s held held' r = rejection_unanswered (rejected_line rejection) r.0 s r.2
 reports_unanswered unloaded.ReadFault s held held' r = ap is_answered r.0
 reports_unanswered unloaded.Memory s held held' r = ap is_answered r.0
+
+-- memory that ran out in a load is reported
+pub reports_short : (why : Unloaded) (s : Status) (held held' : Option (List ℕ)) → Reports why s held held' → is_short why ≡ true → is_status s status.Memory ≡ true
+reports_short (unloaded.Refused rejection) s held held' r e = absurd (let f : false ≡ true = e in cc)
+reports_short unloaded.ReadFault s held held' r e = absurd (let f : false ≡ true = e in cc)
+reports_short unloaded.Memory s held held' r e = ap (λ (ending : Status). is_status ending status.Memory) r.0
 
 pub reports_answered : (fact : Type 0) (why : Unloaded) (s : Status) (held held' : Option (List ℕ)) → Reports why s held held' → OnTrue (is_answered s) fact
 reports_answered fact (unloaded.Refused rejection) s held held' r = rejection_answered fact (rejected_line rejection) r.0 s r.2

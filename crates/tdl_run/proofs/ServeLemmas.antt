@@ -206,7 +206,7 @@ pub none_finish : (aside : Aside) → FinishesFirst aside aside
 none_finish aside = record { inputs = []; entries = []; waited = still_wait aside.waiting; finished = none_more aside.finished; as_many = refl }
 
 -- a listener after a command, which is unchanged if the command does not use it
-pub door_left : {Door : Type 0} (is_open : Door → Bool) (aside : Door → Aside) (before now : Door) (uses : Bool) (listen : List ℕ) → is_open before ≡ false → (uses ≡ false → now ≡ before) → (uses ≡ true → UsesDoor listen (is_open now) (aside before) (aside now)) → (is_open now ≡ false) × FinishesFirst (aside before) (aside now)
+pub door_left : {Door : Type 0} {lost : Bool} (is_open : Door → Bool) (aside : Door → Aside) (before now : Door) (uses : Bool) (listen : List ℕ) → is_open before ≡ false → (uses ≡ false → now ≡ before) → (uses ≡ true → UsesDoor lost listen (is_open now) (aside before) (aside now)) → (is_open now ≡ false) × FinishesFirst (aside before) (aside now)
 door_left is_open aside before now true listen none same used = let u = used refl in (u.closed, u.waiting)
 door_left is_open aside before now false listen none same used = rw (same refl) (none, none_finish (aside before))
 

@@ -2,10 +2,11 @@
 use Rattle.std.specs.Prelude.{◌≡◌, ◌⊎◌, ℕ, Bool, false, List, [], ◌∷◌, Option, None, Ok}
 use Rattle.std.specs.Bool.{OnTrue}
 use Rattle.tdl_lines.specs.declared.status.Status.{Status}
-use Rattle.tdl_lines.specs.Statuses.{is_answered}
+use Rattle.tdl_lines.specs.declared.status.Status.TheVariants.{Memory}
+use Rattle.tdl_lines.specs.Statuses.{is_answered, is_status}
 use Rattle.gs_port.specs.Connections.{Aside, Finished}
 use Rattle.gs_port.specs.Counts.{Rises}
-use Rattle.gs_port.specs.Files.{AddsNames}
+use Rattle.gs_port.specs.Files.{AddsNames, with_names}
 use Rattle.tdl_serve.specs.Doors.{OpensAt}
 use Rattle.tdl_serve.specs.Resolutions.{StreamServed}
 use Rattle.tdl_arguments.specs.declared.command.Command.{Command}
@@ -52,7 +53,7 @@ AskedLoads asked files = (loaded : Loaded) × FilesGive files asked (Ok loaded)
 
 -- the fact of ListensAt, by the request
 abbrev pub AskedListens : Asked → Status → Option (List (List ℕ)) → Option (List (List ℕ)) → Type 0
-AskedListens asked ending before now = AddsNames before (asked.values.listen ∷ []) now ⊎ ((now ≡ before) × (is_answered ending ≡ false))
+AskedListens asked ending before now = AddsNames (is_status ending Memory) before (asked.values.listen ∷ []) now ⊎ ((now ≡ before) × (is_answered ending ≡ false))
 
 -- the fact of ServesInput, by the request
 abbrev pub AskedServes : Type 0 → Asked → Option FilesInMemory → Status → Option (List ℕ) → Option (List ℕ) → Option (List ℕ) → Option (List ℕ) → Type 0
@@ -62,7 +63,7 @@ AskedServes AsItWas asked files ending left left' held held' =
 
 -- holds if all files of a request were opened, in their order, once the whole input was answered
 abbrev pub OpensAsked : Status → Request → Option (List (List ℕ)) → Option (List (List ℕ)) → Type 0
-OpensAsked ending request before now = OnTrue (is_answered ending) (AddsNames before (all_named request) now)
+OpensAsked ending request before now = OnTrue (is_answered ending) (now ≡ with_names before (all_named request))
 
 -- the cause of a read error, by the work of a command: an error that the listener itself counted, or one of the input
 abbrev pub WorkCause : Work → Type 0 → Type 0 → Type 0
@@ -70,11 +71,11 @@ WorkCause on_door OfInput OfDoor = OfDoor
 WorkCause work OfInput OfDoor = OfInput
 
 -- holds if a command opened the listener once, at this address, finished the first of the waiting connections, and left none
--- open
-pub record UsesDoor (listen : List ℕ) (open_now : Bool) (before now : Aside) : Type 0 where
+-- open; only where memory was lost the addresses may be unknown
+pub record UsesDoor (lost : Bool) (listen : List ℕ) (open_now : Bool) (before now : Aside) : Type 0 where
   pub closed : open_now ≡ false
   pub waiting : FinishesFirst before now
-  pub listens : OpensAt listen before now
+  pub listens : OpensAt lost listen before now
 
 -- holds if a command left this outcome between two moments, over the loaded contents; `errors` and `errors'` are the listener's
 -- own counts

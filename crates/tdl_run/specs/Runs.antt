@@ -5,11 +5,11 @@ use Rattle.tdl_lines.specs.declared.status.Status.{Status}
 use Rattle.tdl_lines.specs.declared.status.Status.TheVariants as status
 use Rattle.tdl_lines.specs.Inputs.{IsAtEnd, TakesAtMost}
 use Rattle.tdl_lines.specs.Outputs.{Appends}
-use Rattle.tdl_lines.specs.Statuses.{is_answered}
+use Rattle.tdl_lines.specs.Statuses.{is_answered, is_status}
 use Rattle.gs_http.specs.Sites.{SiteData}
 use Rattle.gs_port.specs.Connections.{Aside}
 use Rattle.gs_port.specs.Counts.{Rises}
-use Rattle.gs_port.specs.Files.{AddsNames}
+use Rattle.gs_port.specs.Files.{AddsNames, with_names}
 use Rattle.tdl_serve.specs.Resolutions.{StreamServed}
 use Rattle.tdl_serve.specs.Visits.{Visit, is_done}
 use Rattle.tdl_messages.specs.declared.file_kind.FileKind.{FileKind}
@@ -137,19 +137,20 @@ abbrev pub WritesAfterError : Type 0 → Type 0 → Option (List ℕ) → Option
 WritesAfterError AsItWas Counted held held' Ended =
     (AsItWas × Appends held held' (λ output. output ≡ [])) ⊎ (Counted × Appends held held' Ended)
 
--- trusted, own: holds if all files that the words name were opened, in their order, once the whole input was answered
+-- trusted, own: holds if all files that the words name, and no others, were opened, in their order, once the whole input was
+-- answered
 abbrev pub OpensAll : Status → List (List ℕ) → Option (List (List ℕ)) → Option (List (List ℕ)) → Type 0
-OpensAll ending words before now = OnTrue (is_answered ending) (Asking words (λ asked. AddsNames before (names_in_order asked.files) now))
+OpensAll ending words before now = OnTrue (is_answered ending) (Asking words (λ asked. now ≡ with_names before (names_in_order asked.files)))
 
 -- trusted, own: holds if only the first of the files that the words name were opened, and none after the one at which the run
--- stops; and no file if the words are invalid
-abbrev pub OpensNamed : List (List ℕ) → Option FilesInMemory → Option (List (List ℕ)) → Option (List (List ℕ)) → Type 0
-OpensNamed words files before now = AskingOr words (λ asked. OpensUpTo files asked before now) (now ≡ before)
+-- stops; and no file if the words are invalid. Only if memory ran out the opened names may be unknown instead
+abbrev pub OpensNamed : List (List ℕ) → Status → Option FilesInMemory → Option (List (List ℕ)) → Option (List (List ℕ)) → Type 0
+OpensNamed words ending files before now = AskingOr words (λ asked. OpensUpTo (is_status ending status.Memory) files asked before now) (now ≡ before)
 
 -- trusted, own: holds if the listener was to be opened once, at the address that the words ask for; or not at all, if the run
--- stops at its files
+-- stops at its files. Only if memory ran out the addresses may be unknown instead
 abbrev pub ListensAt : List (List ℕ) → Status → Option (List (List ℕ)) → Option (List (List ℕ)) → Type 0
-ListensAt words ending before now = Asking words (λ asked. AddsNames before (asked.values.listen ∷ []) now ⊎ ((now ≡ before) × (is_answered ending ≡ false)))
+ListensAt words ending before now = Asking words (λ asked. AddsNames (is_status ending status.Memory) before (asked.values.listen ∷ []) now ⊎ ((now ≡ before) × (is_answered ending ≡ false)))
 
 -- trusted, own: holds if the words are valid, and all files that they ask for load
 abbrev pub LoadsSome : List (List ℕ) → Option FilesInMemory → Type 0

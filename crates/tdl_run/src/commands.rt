@@ -1,4 +1,5 @@
 ghost use Rattle.std.specs.Prelude.{◌≡◌, ◌≤◌, None, false, true};
+ghost use Rattle.tdl_lines.specs.Statuses.{is_status};
 ghost use Rattle.tdl_serve.specs.Resolutions.{StreamServed};
 ghost use Rattle.gs_tables.specs.Judgements.{IsLoaded};
 ghost use Rattle.gs_translate.specs.Translations.{AreInOrder};
@@ -61,7 +62,8 @@ pub fn run_command<S: Source, K: Sink, D: Door>(
         (S.left input.old) (S.left input.new) None None (K.held output.old) (K.held output.new) }
     ensures unread { reads_input command ≡ false → input.new ≡ input.old }
     ensures unserved { uses_door command ≡ false → door.new ≡ door.old }
-    ensures used { uses_door command ≡ true → UsesDoor (known_values values.entry).listen
+    ensures used { uses_door command ≡ true
+        → UsesDoor (is_status result Status.Memory) (known_values values.entry).listen
         (D.is_open door.new) (D.aside door.old) (D.aside door.new) }
     ensures door_counts { (D.aside door.old).errors ≤ (D.aside door.new).errors }
 {

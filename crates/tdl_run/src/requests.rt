@@ -91,7 +91,8 @@ pub fn run_request<F: Files, S: Source, K: Sink, D: Door>(
         → AskedListens (known_request request.entry) result
         (D.aside door.old).addresses (D.aside door.new).addresses }
     ensures door_counts { (D.aside door.old).errors ≤ (D.aside door.new).errors }
-    ensures opened { OpensUpTo (F.files files.old) (known_request request.entry)
+    ensures opened { OpensUpTo (is_status result Status.Memory) (F.files files.old)
+        (known_request request.entry)
         (F.opened files.old) (F.opened files.new) }
     ensures all_opened { OpensAsked result request.entry (F.opened files.old) (F.opened files.new) }
     ensures unopened { all_named request.entry ≡ [] → files.new ≡ files.old }

@@ -25,8 +25,9 @@ const USAGE: &[u8] =
 /// most 1,000 replies are written. `Done` leaves nothing unread, except after a reply that ends the connection.
 ///
 /// The files are opened in their order, and none after a missing or rejected one. The listener is opened once, at the address
-/// that the arguments name, if its command runs. After the run no connection is open, and the finished ones no longer wait. If
-/// a file does not load, the input and the listener are unchanged, even if the line that says so could not be written.
+/// that the arguments name, if its command runs. Only a run that ends with `Memory` may forget the opened names or addresses.
+/// After the run no connection is open, and the finished ones no longer wait. If a file does not load, the input and the
+/// listener are unchanged, even if the line that says so could not be written.
 ///
 /// - `Usage` is returned only if the arguments are invalid. The usage line was written, and nothing was read or opened.
 /// - `Refused` is returned only if a file, or a built-in row, is rejected. One line says why, and the input was not read.
@@ -77,7 +78,7 @@ pub fn run<F: Files, S: Source, K: Sink, D: Door>(
     ensures untouched { ((input.new ≡ input.old) × (door.new ≡ door.old))
         ⊎ LoadsSome (known_words words.now) (F.files files.old) }
     ensures unopened { NamesNoFile (known_words words.now) → files.new ≡ files.old }
-    ensures opened { OpensNamed (known_words words.now) (F.files files.old)
+    ensures opened { OpensNamed (known_words words.now) result (F.files files.old)
         (F.opened files.old) (F.opened files.new) }
     ensures all_opened { OpensAll result (known_words words.now) (F.opened files.old) (F.opened files.new) }
     ensures known { F.files files.new ≡ F.files files.old }

@@ -1,11 +1,13 @@
 use Rattle.std.proofs.Common.{[], inl, inr, refl, arith}
 use Rattle.tdl_arguments.specs.Requests.{known_request}
 use Rattle.tdl_lines.specs.Statuses.{is_answered, is_status}
-use Rattle.tdl_lines.specs.declared.status.Status.TheVariants.{Refused}
+use Rattle.tdl_lines.specs.declared.status.Status.TheVariants.{Memory, Refused}
 use Rattle.tdl_lines.proofs.StatusLemmas.{when_always}
-use Rattle.tdl_run.proofs.AskedLemmas.{asked_of_command, asked_of_report, ended_of_command, never_rejected, reports_answered, reports_nothing, reports_unanswered}
+use Rattle.tdl_run.proofs.AskedLemmas.{asked_of_command, asked_of_report, ended_of_command, never_rejected, reports_answered, reports_nothing, reports_short, reports_unanswered}
 use Rattle.tdl_loads.proofs.ClassLoads.{classes_kept}
 use Rattle.tdl_run.proofs.RanLemmas.{none_more}
+use Rattle.tdl_loads.proofs.DecidedLoads.{stops_anyway, stops_as}
+use Rattle.tdl_loads.proofs.OpenedNames.{opens_anyway, opens_as}
 use Rattle.tdl_loads.proofs.ReadLemmas.{source_of}
 use Rattle.tdl_run.proofs.ServeLemmas.{door_left, none_finish}
 use Rattle.tdl_run.proofs.requests.run_request.Goals as goal
@@ -42,7 +44,8 @@ pub returns-in-Ok-clause-known : goal.returns-in-Ok-clause-known
 returns-in-Ok-clause-known g c = c.load_files.ensures.loads.known
 
 pub returns-in-Ok-clause-opened : goal.returns-in-Ok-clause-opened
-returns-in-Ok-clause-opened g c = record { first = c.load_files.ensures.loads.opened; decided = c.load_files.ensures.decided.decided }
+returns-in-Ok-clause-opened g c =
+    record { first = opens_anyway _ _ _ _ c.in-Ok.ensures.loads.opened; decided = (stops_anyway (is_status c.run_command.result Memory) c.in-Ok.ensures.decided).decided }
 
 pub returns-in-Ok-clause-unopened : goal.returns-in-Ok-clause-unopened
 returns-in-Ok-clause-unopened g c = c.load_files.ensures.loads.unopened
@@ -73,7 +76,9 @@ pub returns-in-Err-clause-known : goal.returns-in-Err-clause-known
 returns-in-Err-clause-known g c = c.load_files.ensures.loads.known
 
 pub returns-in-Err-clause-opened : goal.returns-in-Err-clause-opened
-returns-in-Err-clause-opened g c = record { first = c.load_files.ensures.loads.opened; decided = c.load_files.ensures.decided.decided }
+returns-in-Err-clause-opened g c =
+    let short = reports_short c.in-Err.unloaded c.report.result _ _ c.report.ensures.written in
+    record { first = opens_as _ _ _ _ _ short c.in-Err.ensures.loads.opened; decided = (stops_as _ _ short c.in-Err.ensures.decided).decided }
 
 pub returns-in-Err-clause-unopened : goal.returns-in-Err-clause-unopened
 returns-in-Err-clause-unopened g c = c.load_files.ensures.loads.unopened
