@@ -55,7 +55,7 @@ pub enum ClassFault {
 }
 
 /// Why an identity is not written as a class URI.
-#[derive(Debug, Drop, Error)]
+#[derive(Debug, PartialEq, Drop, Error)]
 pub enum ClassWriteFault {
     /// No class has the key of the identity.
     #[error("no class has this key")]

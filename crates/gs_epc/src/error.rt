@@ -30,7 +30,7 @@ impl From<Memory> for EpcFault {
 }
 
 /// Why an identity is not taken apart.
-#[derive(Clone, Copy, Debug, Error)]
+#[derive(Clone, Copy, Debug, PartialEq, Error)]
 pub enum FieldsFault {
     /// The kind has a serial, the identity has none, and no text means its absence.
     #[error("the identity lacks the serial that its kind has")]
@@ -52,7 +52,7 @@ impl From<Memory> for FieldsFault {
 }
 
 /// Why an EPC is not written.
-#[derive(Clone, Copy, Debug, Error)]
+#[derive(Clone, Copy, Debug, PartialEq, Error)]
 pub enum EpcWriteFault {
     /// The level has no option of this kind, company prefix length and requested encoding.
     #[error("no option has the kind, the company prefix length and the encoding")]

@@ -37,7 +37,7 @@ pub enum DumpFault {
 }
 
 /// Why a dump is not written.
-#[derive(Clone, Copy, Debug, Error)]
+#[derive(Clone, Copy, Debug, PartialEq, Error)]
 pub enum DumpWriteFault {
     /// The level has no option of the EPC's kind and prefix length and of its encoding.
     #[error("no option of this scheme and company prefix length")]
