@@ -4,6 +4,7 @@ ghost use Rattle.gs_tables_builtin.specs.BuiltInAis.{date_ais, item_ais, locatio
 ghost use Rattle.gs_tables_builtin.specs.BuiltInAis.{variant_ais, weight_ais};
 ghost use Rattle.gs_tables_builtin.specs.BuiltInAisSupport.{ai_row, goods_ais, other_ais, row_of, known};
 
+use crate::builtin_codes::AiLine::{Attribute, Key, Qualifier};
 use gs_ai::Part::{Date, Num, NumCheck, NumOpt, NumUpTo, Set, SetOpt, Zero};
 use gs_ai::{AiRow, Part, Role};
 use gs_chars::{List, Memory, Text};
