@@ -3,7 +3,8 @@
 //! - `CharSet` is the digits, or the 82 characters of GS1 General Specifications, figure 7.11-1. `are_digits` and `are_visible`
 //!   return whether all bytes of a text are digits, or visible characters; `count_digits` returns the number of leading digits.
 //! - `check_digit` gives the check digit of digits; `read_escape` and `write_escape` the escape of a character in a URI.
-//! - `Text` holds bytes, `CowText` lends or holds them, `List` holds values, and `Memory` says that memory ran out; `LONGEST_TEXT` is the most bytes of a text that is read.
+//! - `Text` holds bytes, `CowText` lends or holds them, `List` holds values, and `Memory` says that memory ran out;
+//!   `LONGEST_TEXT` is the most bytes of a text that is read.
 //! - `place_of` finds a byte in a text.
 //!
 //! # Example
