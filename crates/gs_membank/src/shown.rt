@@ -1,5 +1,4 @@
-ghost use Rattle.std.specs.Prelude.{◌≡◌, ℕ, Bool, List, IfNone, IfOk, IfSome, ◌<◌};
-ghost use Rattle.gs_chars.specs.Escapes.{hex_value, hex_digit};
+ghost use Rattle.std.specs.Prelude.{◌≡◌, ℕ, Bool, List, IfNone, IfOk, IfSome};
 ghost use Rattle.gs_epc.specs.Candidates.{HasFilter};
 ghost use Rattle.gs_epc.specs.Epcs.{IsOfSet};
 ghost use Rattle.gs_membank.specs.Answers.{ReadsShown, ShowsDump};
@@ -7,22 +6,10 @@ ghost use Rattle.gs_membank.specs.ShownLines.{IsShownStart, shown_start};
 
 use crate::dump::Dump;
 use crate::error::{DumpLineFault, DumpWriteFault};
-use gs_chars::Text;
+use gs_chars::{Text, hex_digit, hex_value};
 use gs_epc::{EpcFault, read_tag, write_tag};
 use gs_tables::TableSet;
 use std::alloc::Global;
-
-/// Returns the value of a hexadecimal digit of either case.
-fn hex_value(digit: u8) -> Option<u8>
-    ensures { result ≡ hex_value digit }
-{
-    match digit {
-        b'0'..=b'9' => Some(digit - b'0'),
-        b'A'..=b'F' => Some(digit - b'A' + 10),
-        b'a'..=b'f' => Some(digit - b'a' + 10),
-        _ => None,
-    }
-}
 
 /// The start of a line, before its tag URI.
 #[derive(Clone, Copy)]
@@ -82,14 +69,6 @@ pub fn read_shown(alloc: Global, set: &TableSet, text: &[u8]) -> Result<Dump, Du
         // a tag URI is not a hexadecimal text
         Err(EpcFault::Hex(_)) => unreachable!(),
     }
-}
-
-/// Returns the byte of a number below 16 as an upper-case hexadecimal digit.
-fn hex_digit(n: u8) -> u8
-    requires { n < 16 }
-    ensures { result ≡ hex_digit n }
-{
-    if n < 10 { b'0' + n } else { b'A' + (n - 10) }
 }
 
 /// Returns the start of a line that shows a dump: `u`, the user memory bit, ` a`, the attribute bits in two digits, and a space.
