@@ -8,6 +8,7 @@ pub mod DocumentLemmas
 pub mod StreamLemmas
 pub mod WrittenLemmas
 pub mod TokenLemmas
+pub mod LentLemmas
 pub mod PlainTrees
 pub mod RoundTrip
 pub mod NameSets

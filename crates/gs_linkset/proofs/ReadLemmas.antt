@@ -2,8 +2,12 @@
 use Rattle.std.proofs.Common.{◌≡◌, Bool, true, false, codes, ℕ, zero, suc, ◌+◌, ◌≤◌, List, [], ◌∷◌, ◌++◌, length, take, map, Option, Some, None, slice_get, refl, sym, ap, ◌∙◌, inl, inr, arith}
 use Rattle.std.specs.Prelude.{IfSome, Result, Ok, Err, option_map, option_and_then, unwrap_or}
 use Rattle.std.specs.List.{cons_option, enumerate_from, filter_map, flat_map, list_all}
-use Rattle.std.proofs.lemmas.List.{append-nil, map-append}
-use Rattle.gs_chars.proofs.TruthsAndLists.{and_first, and_second, nil_parts}
+use Rattle.std.proofs.lemmas.List.{append-nil, length-map, map-append, take_all, take_more}
+use Rattle.std.proofs.lemmas.List.Elements.{filter_map-append}
+use Rattle.std.proofs.lemmas.List.Folds.{list_all-append}
+use Rattle.std.proofs.lemmas.List.FromFn.{length-enumerate_from}
+use Rattle.std.proofs.lemmas.Option.{get_or_from_slice_get, slice_get_within}
+use Rattle.gs_chars.proofs.TruthsAndLists.{nil_parts}
 use Rattle.gs_json.specs.declared.error.JsonFault.{JsonFault}
 use Rattle.gs_json.specs.declared.error.JsonFault.TheVariants.{Kind, Memory}
 use Rattle.gs_json.specs.declared.plan.Sort.TheVariants.{Text}
@@ -50,19 +54,8 @@ all_read a x z none e = rw (none, e) (inr refl)
 
 -- ---- the first items
 
-pub take_all : {X : Type 0} (xs : List X) (i : ℕ) → length xs ≤ i → take i xs ≡ xs
-take_all [] zero h = refl
-take_all [] (suc i) h = refl
-take_all (x ∷ xs) zero h = absurd (omega arith)
-take_all (x ∷ xs) (suc i) h = ap (λ ys. x ∷ ys) (take_all xs i (omega arith))
-
-take_one : {X : Type 0} (xs : List X) (i : ℕ) (x : X) → slice_get xs i ≡ Some x → take (suc i) xs ≡ take i xs ++ x ∷ []
-take_one [] i x at = absurd (let g : None ≡ Some x = at in cc)
-take_one (y ∷ ys) zero x at = let same : y ≡ x = cc in rw same refl
-take_one (y ∷ ys) (suc i) x at = ap (λ zs. y ∷ zs) (take_one ys i x at)
-
 pub take_next : {X : Type 0} (xs : List X) (i : ℕ) (x : X) → slice_get xs i ≡ Some x → take (i + 1) xs ≡ take i xs ++ x ∷ []
-take_next xs i x at = let next : i + 1 ≡ suc i = omega arith in rw next (take_one xs i x at)
+take_next xs i x at = take_more xs i x (slice_get_within xs i x at) ∙ ap (λ y. take i xs ++ y ∷ []) (get_or_from_slice_get xs i x x at)
 
 -- ---- the reading of each item
 
@@ -70,8 +63,7 @@ pub mapped_more : {X Y : Type 0} (f : X → Y) (xs : List X) (i : ℕ) (x : X) (
 mapped_more f xs i x ys y zs at so_far own e = rw (e, so_far, own, take_next xs i x at, map-append) refl
 
 pub all_more : {X : Type 0} (t : X → Bool) (xs : List X) (x : X) → list_all t xs ≡ true → t x ≡ true → list_all t (xs ++ x ∷ []) ≡ true
-all_more t [] x h own = rw own refl
-all_more t (y ∷ xs) x h own = rw (and_first (t y) (list_all t xs) h) (all_more t xs x (and_second (t y) (list_all t xs) h) own)
+all_more t xs x h own = rw (list_all-append t xs (x ∷ []), h, own) refl
 
 pub all_by : {X : Type 0} (t : X → Bool) (xs : List X) (r : Option X) → list_all t xs ≡ true → IfSome r (λ x. t x ≡ true) → list_all t (xs ++ cons_option r []) ≡ true
 all_by t xs None all own = rw append-nil all
@@ -103,7 +95,7 @@ module _ {X Y : Type 0} (f : X → Option Y) where
       by (Some y) = refl
 
   pub every_all : (xs : List X) (i : ℕ) (ys : List Y) → length xs ≤ i → every f (take i xs) ≡ Some ys → every f xs ≡ Some ys
-  every_all xs i ys all h = rw (take_all xs i all) at h
+  every_all xs i ys all h = rw (take_all i xs all) at h
 
 -- ---- concatenated errors
 
@@ -133,7 +125,7 @@ module _ {A : Type 0} (errors : A → List JsonFault) where
   none_more list i a at none h = let next : i + 1 ≡ suc i = omega arith in rw next (next_none list i a at none h)
 
   pub none_all : (list : List A) (i : ℕ) → length list ≤ i → flat_map errors (take i list) ≡ [] → flat_map errors list ≡ []
-  none_all list i all h = rw (take_all list i all) at h
+  none_all list i all h = rw (take_all i list all) at h
 
 -- the rows of a list are its items with their numbers
 row_from : {X : Type 0} (n : ℕ) (xs : List X) (i : ℕ) (x : X) → slice_get xs i ≡ Some x → slice_get (enumerate_from n xs) i ≡ Some (n + i, x)
@@ -149,32 +141,16 @@ row_from n (y ∷ ys) (suc i) x at =
 pub row_at : {X : Type 0} (xs : List X) (i : ℕ) (x : X) → slice_get xs i ≡ Some x → slice_get (enumerate_from 0 xs) i ≡ Some (i, x)
 row_at xs i x at = let own : 0 + i ≡ i = omega arith in rw own at (row_from 0 xs i x at)
 
-rows_from : {X : Type 0} (n : ℕ) (xs : List X) → length (enumerate_from n xs) ≡ length xs
-rows_from n [] = refl
-rows_from n (x ∷ xs) = ap suc (rows_from (n + 1) xs)
-
 -- ---- the reading of each name
 
-map_length : {N A : Type 0} (f : N → A) (ns : List N) → length (map f ns) ≡ length ns
-map_length f [] = refl
-map_length f (n ∷ ns) = ap suc (map_length f ns)
-
-one_option : {X : Type 0} (r : Option X) (xs ys : List X) → cons_option r (xs ++ ys) ≡ cons_option r xs ++ ys
-one_option None xs ys = refl
-one_option (Some x) xs ys = refl
-
 module _ {A X : Type 0} (h : A → Option X) where
-  appended : (list : List A) (a : A) → filter_map h (list ++ a ∷ []) ≡ filter_map h list ++ cons_option (h a) []
-  appended [] a = refl
-  appended (b ∷ list) a = rw (appended list a) (one_option (h b) (filter_map h list) (cons_option (h a) []))
-
   pub kept_by : (list : List A) (i : ℕ) (a : A) (r : Option X) (done new : List X) → slice_get list i ≡ Some a → done ≡ filter_map h (take i list) → r ≡ h a → new ≡ done ++ cons_option r [] → new ≡ filter_map h (take (i + 1) list)
-  kept_by list i a r done new at so_far own e = rw (e, so_far, own, take_next list i a at, appended (take i list) a) refl
+  kept_by list i a r done new at so_far own e = rw (e, so_far, own, take_next list i a at, filter_map-append h (take i list) (a ∷ [])) refl
 
   pub kept_all : {N : Type 0} (f : N → A) (ns : List N) (i : ℕ) (done : List X) → length ns ≤ i → done ≡ filter_map h (take i (map f ns)) → done ≡ filter_map h (map f ns)
   kept_all f ns i done all so_far =
-      let few : length (map f ns) ≤ i = rw (map_length f ns) all in
-      rw (take_all (map f ns) i few) at so_far
+      let few : length (map f ns) ≤ i = rw (length-map ns f) all in
+      rw (take_all i (map f ns) few) at so_far
 
 -- ---- attributes and relations have their shape
 
@@ -207,8 +183,8 @@ module _ {Y : Type 0} (errors : List ℕ → Data → List JsonFault) (made : Da
 
   pub items_read : (read : List Y) (i : ℕ) → SoFar read i → length items ≤ i → OrMemory (Ok read) (first_or (item_errors errors place items) (map made items))
   items_read read i so_far all =
-      let few : length (enumerate_from 0 items) ≤ i = rw (rows_from 0 items) all in
-      all_read (item_errors errors place items) (map made items) read (none_all row_errors (enumerate_from 0 items) i few so_far.none) (rw (take_all items i all) at so_far.read_as)
+      let few : length (enumerate_from 0 items) ≤ i = rw (length-enumerate_from 0 items) all in
+      all_read (item_errors errors place items) (map made items) read (none_all row_errors (enumerate_from 0 items) i few so_far.none) (rw (take_all i items all) at so_far.read_as)
 
 -- the same for the items of an array
 module _ {Y : Type 0} (errors : List ℕ → Data → List JsonFault) (made : Data → Y) (place : List ℕ) (whole : Data) where
@@ -245,7 +221,7 @@ module _ {X : Type 0} (errors : List ℕ → List JsonFault) (made : List ℕ �
 
   pub members_read : (read : List X) (i : ℕ) (all : List (List ℕ)) → names ≡ all → Found read i → length names ≤ i → OrMemory (Ok read) (first_or (flat_map errors all) (filter_map made all))
   members_read read i all same so_far few =
-      rw (← same) (all_read (flat_map errors names) (filter_map made names) read (none_all errors names i few so_far.none) (rw (take_all names i few) at so_far.kept))
+      rw (← same) (all_read (flat_map errors names) (filter_map made names) read (none_all errors names i few so_far.none) (rw (take_all i names few) at so_far.kept))
 
 -- the names that an object answers
 pub listed_names : (place : List ℕ) (d : Data) (names : List (List ℕ)) → OrMemory (Ok names) (asked place (names_of d)) → names ≡ names_in d

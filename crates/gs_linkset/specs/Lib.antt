@@ -3,6 +3,7 @@ pub mod Documents
 pub mod Answers
 pub mod AnswersSupport
 pub mod LinkShapes
+pub mod LentLinks
 pub mod Names
 pub mod WrittenTrees
 pub mod WrittenTokens

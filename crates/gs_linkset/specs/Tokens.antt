@@ -1,13 +1,14 @@
 -- Values, items and members that tokens begin with, and the contexts that are read of items. No contract of a public call
 -- names them.
-use Rattle.std.specs.Prelude.{◌≡◌, ℕ, Bool, true, false, List, length, Option, Some, Result, IfOk, option_to_list}
+use Rattle.std.specs.Prelude.{◌≡◌, ℕ, Bool, true, false, List, length, Option, Some, Result, IfOk, option_to_list, OnOk}
 use Rattle.std.specs.List.{list_all}
 use Rattle.json.specs.Token.{Token}
 use Rattle.json.specs.Json.{items, members, value}
-use Rattle.serde_json.specs.Data.{Data, Items, Members, no_members, object}
+use Rattle.serde_json.specs.Data.{Data, Items, Members, no_members, object, put}
 use Rattle.serde_json.specs.Read.{converted, of_items, of_json, of_members}
 use Rattle.gs_chars.specs.Answers.{first_or}
 use Rattle.gs_json.specs.Answers.{OrMemory}
+use Rattle.gs_json.specs.Shapes.{items_list}
 use Rattle.gs_json.specs.declared.error.JsonFault.{JsonFault}
 use Rattle.gs_linkset.specs.Answers.{document_answer}
 use Rattle.gs_linkset.specs.AnswersSupport.{contexts_answer}
@@ -32,6 +33,10 @@ pub record Begins {A : Type 0} (found : Option (A × List Token)) (Has : A → T
   pub first : A
   pub is : found ≡ Some (first, rest)
   pub has : Has first
+
+-- holds if `result` is the answer to what is found, or `Memory`
+abbrev pub Answers : {A X : Type 0} → (A → Result X JsonFault) → Option (A × List Token) → List Token → Result X JsonFault → Type 0
+Answers answer found rest result = Begins found (λ first. OrMemory result (answer first)) rest
 
 -- whether the token opens an array
 abbrev pub opens_array : Token → Bool
@@ -68,3 +73,12 @@ AreRead contexts items =
 -- holds if this is the answer to the object with these members
 abbrev pub IsAnswer : Result (List Context) JsonFault → Members → Type 0
 IsAnswer answer ms = (OrMemory answer (document_answer (object ms))) × (IfOk answer (λ contexts. list_all is_context contexts ≡ true))
+
+-- the contexts of the items of an array, or their first error
+abbrev pub items_answer : Items → Result (List Context) JsonFault
+items_answer items = contexts_answer (items_list items)
+
+-- holds if `new` is the answer after the member `name` with the value that is found, whatever the members are that `old` answers
+abbrev pub AnswersWith : {X E : Type 0} → List ℕ → Result (List Context) JsonFault → Result (List Context) JsonFault → Option (Data × List Token) → List Token → Result X E → Type 0
+AnswersWith name old new found rest result =
+    (before : Members) → IsAnswer old before → OnOk result (Begins found (λ d. IsAnswer new (put name d before)) rest)

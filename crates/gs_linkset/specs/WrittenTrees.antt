@@ -57,9 +57,13 @@ relation_members relations =
 abbrev pub context_tree : Context → Data
 context_tree context = object (put (codes "anchor") (string context.anchor) (relation_members context.relations))
 
+-- trusted, own: the document of contexts whose trees are given
+abbrev pub document_by : {X : Type 0} → (X → Data) → List X → Data
+document_by tree contexts = object (member (codes "linkset") (array_by tree contexts) no_members)
+
 -- trusted, RFC 9264, sections 4.2.1 to 4.2.4: the document (section 4.2.1)
 abbrev pub tree_of : List Context → Data
-tree_of contexts = object (member (codes "linkset") (array_by context_tree contexts) no_members)
+tree_of contexts = document_by context_tree contexts
 
 -- trusted, RFC 9264, section 4.2; RFC 8259; the order of the members is own: the document of the contexts as compact text
 unfoldable pub written : List Context → List ℕ

@@ -1,7 +1,8 @@
 ghost use Rattle.std.specs.Prelude.{◌≡◌, IfOk, ◌∷◌, ◌++◌, []};
 ghost use Rattle.std.specs.List.{cons_option};
+ghost use Rattle.gs_linkset.specs.LentLinks.{relation_lent};
 
-use crate::link_types::{Attr, AttrValue, Target};
+use crate::link_types::{Attr, AttrValue, Relation, RelationRef, Target};
 use gs_chars::{List, Memory, Text};
 use std::alloc::Global;
 
@@ -63,6 +64,22 @@ impl Target {
         Ok(Target {
             href: self.href.copy(alloc)?,
             attrs: copy_list(alloc, self.attrs.items())?,
+        })
+    }
+}
+
+impl RelationRef<'_> {
+    /// Returns an equal relation, which owns its links. Fails only with `Memory`.
+    pub fn copy(&self, alloc: Global) -> Result<Relation, Memory>
+        ensures { IfOk result (λ relation. relation ≡ relation_lent self.now) }
+    {
+        let mut targets = Vec::with_capacity(alloc, self.targets.len())?;
+        for target in self.targets {
+            targets.push(target.copy(alloc)?)?;
+        }
+        Ok(Relation {
+            name: self.name.copy(alloc)?,
+            targets: List::from_vec(targets),
         })
     }
 }

@@ -4,16 +4,16 @@ ghost use Rattle.std.specs.List.{list_all};
 ghost use Rattle.std.specs.Option.{option_map_or};
 ghost use Rattle.std.specs.Str.{bytes_eq, is_utf8};
 ghost use Rattle.json.specs.Reads.{token_of};
-ghost use Rattle.serde_json.specs.Data.{Data, Members, put};
+ghost use Rattle.serde_json.specs.Data.{Data};
 ghost use Rattle.serde_json.specs.Read.{read as read_text};
 ghost use Rattle.serde_json.specs.View.{view};
 ghost use Rattle.gs_chars.specs.Answers.{first_or};
 ghost use Rattle.gs_json.specs.Answers.{OrMemory};
-ghost use Rattle.gs_json.specs.Shapes.{items_list};
 ghost use Rattle.gs_linkset.specs.Answers.{document_answer};
-ghost use Rattle.gs_linkset.specs.AnswersSupport.{contexts_answer, linkset_answer, linkset_place, text_answer};
+ghost use Rattle.gs_linkset.specs.AnswersSupport.{linkset_answer, linkset_place, text_answer};
 ghost use Rattle.gs_linkset.specs.LinkShapes.{is_context};
-ghost use Rattle.gs_linkset.specs.Tokens.{AreRead, Begins, IsAnswer, items_from, members_from, opens_array};
+ghost use Rattle.gs_linkset.specs.Tokens.{Answers, AnswersWith, AreRead, Begins, IsAnswer, items_answer};
+ghost use Rattle.gs_linkset.specs.Tokens.{items_from, members_from, opens_array};
 ghost use Rattle.gs_linkset.specs.Tokens.{opens_object, value_from as value_at};
 
 use crate::copies::push;
@@ -72,8 +72,7 @@ fn read_contexts(
     reader: &mut Reader<'_>,
     depth: usize,
 ) -> Result<Result<List<Context>, JsonFault>, JsonFault>
-    ensures ok { IfOk result (λ answer. Begins (items_from depth reader.old)
-        (λ items. OrMemory answer (contexts_answer (items_list items))) reader.new) }
+    ensures ok { IfOk result (λ a. Answers items_answer (items_from depth reader.old) reader.new a) }
     ensures shape { IfOk result (λ answer. IfOk answer (λ contexts. list_all is_context contexts ≡ true)) }
     ensures shorter { OnOk result (length reader.new ≤ length reader.old) }
     ensures syntax { result ≡ Err (JsonFault.Syntax) → items_from depth reader.old ≡ None }
@@ -125,8 +124,7 @@ fn read_linkset(
     depth: usize,
 ) -> Result<Result<List<Context>, JsonFault>, JsonFault>
     requires { 0 < depth }
-    ensures ok { IfOk result (λ answer. Begins (value_at depth reader.old)
-        (λ d. OrMemory answer (linkset_answer d)) reader.new) }
+    ensures ok { IfOk result (λ a. Answers linkset_answer (value_at depth reader.old) reader.new a) }
     ensures shape { IfOk result (λ answer. IfOk answer (λ contexts. list_all is_context contexts ≡ true)) }
     ensures shorter { OnOk result (length reader.new < length reader.old) }
     ensures syntax { result ≡ Err (JsonFault.Syntax) → value_at depth reader.old ≡ None }
@@ -158,8 +156,7 @@ fn read_member(
     depth: usize,
 ) -> Result<(), JsonFault>
     requires { 0 < depth }
-    ensures ok { (before : Members) → IsAnswer linkset.old before → OnOk result
-        (Begins (value_at depth reader.old) (λ d. IsAnswer linkset.new (put name.now d before)) reader.new) }
+    ensures ok { AnswersWith name.now linkset.old linkset.new (value_at depth reader.old) reader.new result }
     ensures shorter { OnOk result (length reader.new < length reader.old) }
     ensures syntax { result ≡ Err (JsonFault.Syntax) → value_at depth reader.old ≡ None }
     ensures only { IfErr result (λ e. (e ≡ JsonFault.Syntax) ⊎ (e ≡ JsonFault.Memory)) }
@@ -204,8 +201,7 @@ fn read_root(
     depth: usize,
 ) -> Result<Result<List<Context>, JsonFault>, JsonFault>
     requires { 1 < depth }
-    ensures ok { IfOk result (λ answer. Begins (value_at depth reader.old)
-        (λ d. OrMemory answer (document_answer d)) reader.new) }
+    ensures ok { IfOk result (λ a. Answers document_answer (value_at depth reader.old) reader.new a) }
     ensures shape { IfOk result (λ answer. IfOk answer (λ contexts. list_all is_context contexts ≡ true)) }
     ensures syntax { result ≡ Err (JsonFault.Syntax) → value_at depth reader.old ≡ None }
     ensures only { IfErr result (λ e. (e ≡ JsonFault.Syntax) ⊎ (e ≡ JsonFault.Memory)) }

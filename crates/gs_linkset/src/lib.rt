@@ -1,6 +1,7 @@
 //! Reads and writes linksets (RFC 9264) in JSON: contexts with an anchor, their relations and these relations' targets.
 //!
-//! - `read` reads a linkset from a document, or returns its first error. `write` writes one.
+//! - `read` reads a linkset from a document, or returns its first error. `write` writes one, and `write_context` one of links that
+//!   are lent.
 //! - `LinkDoc` gives the parts of a linkset that is built from links.
 //!
 //! # Example
@@ -24,6 +25,7 @@ mod copies;
 mod doc;
 mod document;
 mod laws;
+mod lent;
 mod link_shapes;
 mod link_types;
 mod read_attrs;
@@ -32,6 +34,8 @@ mod writer;
 
 pub use doc::{DocFault, LinkDoc};
 pub use laws::{one_text_each, written_is_read};
-pub use link_types::{Attr, AttrValue, Context, Relation, Target};
+pub use lent::write_context;
+pub use link_shapes::is_single;
+pub use link_types::{Attr, AttrValue, Context, ContextRef, Relation, RelationRef, Target};
 pub use reader::{is_anchor, read};
 pub use writer::write;

@@ -67,8 +67,8 @@ pub(crate) fn is_tagged(name: &[u8]) -> bool
     name.ends_with(b"*")
 }
 
-/// Returns whether the name is that of an attribute with one text.
-pub(crate) fn is_single(name: &[u8]) -> bool
+/// Returns whether the name is that of an attribute with one text (RFC 9264, section 4.2.4.1).
+pub fn is_single(name: &[u8]) -> bool
     ensures { result ≡ is_single name.now }
 {
     name == b"type".as_slice() || name == b"title".as_slice() || name == b"media".as_slice()

@@ -58,3 +58,21 @@ pub struct Context {
     /// The relations, in ascending order of their names.
     pub relations: List<Relation>,
 }
+
+/// The links of one relation type (RFC 9264, section 4.2.2), which their owner lends.
+#[derive(Clone, Copy)]
+pub struct RelationRef<'a> {
+    /// The relation type, as written.
+    pub name: &'a Text,
+    /// The targets, in the order of the document.
+    pub targets: &'a [&'a Target],
+}
+
+/// The links of one link context (RFC 9264, section 4.2.2), which their owner lends.
+#[derive(Clone, Copy)]
+pub struct ContextRef<'a> {
+    /// The reference to the link context (RFC 3986), as written.
+    pub anchor: &'a Text,
+    /// The relations, in ascending order of their names.
+    pub relations: &'a [RelationRef<'a>],
+}

@@ -4,13 +4,12 @@ ghost use Rattle.std.specs.Str.{is_utf8};
 ghost use Rattle.json.specs.Print.{IsPrintable};
 ghost use Rattle.json.specs.Reads.{token_of};
 ghost use Rattle.serde_json.specs.Data.{object, put as put_member, string};
-ghost use Rattle.gs_linkset.specs.LinkShapes.{is_below, is_context, is_target};
-ghost use Rattle.gs_linkset.specs.WrittenTrees.{array_by, members_by, target_text, tree_of, value_tree, written};
+ghost use Rattle.gs_linkset.specs.LinkShapes.{is_below, is_target};
+ghost use Rattle.gs_linkset.specs.WrittenTrees.{array_by, document_by, members_by, target_text, value_tree, written};
 ghost use Rattle.gs_linkset.specs.WrittenTokens.{Adds, count_below, is_other, item_tokens, language_tokens};
 ghost use Rattle.gs_linkset.specs.WrittenTokens.{member_tokens, members_tokens, text_tokens, tokens_of};
 
 use crate::doc::LinkDoc;
-use crate::link_shapes::Shaped;
 use crate::link_types::{Attr, AttrValue, Context, Relation, Target};
 use gs_chars::{Memory, Text};
 use json::{Token, Writer};
@@ -21,20 +20,24 @@ use std::str;
 const ROOM: usize = 128;
 
 /// An object that is written as a value.
-trait ToJson: Shaped {
+pub(crate) trait ToJson {
+    ghost use Rattle.std.specs.Prelude.{Bool};
     ghost use Rattle.serde_json.specs.Data.{Data};
+
+    /// Whether it has the shape of a linkset's part.
+    ghost shape: { Self → Bool };
 
     /// Its value.
     ghost tree: { Self → Data };
 
     /// Appends its value.
     fn append(&self, out: &mut Writer) -> Result<(), Memory>
-        requires { Self.shape self.now ≡ true }
+        requires { shape self.now ≡ true }
         ensures { OnOk result (Adds out.old out.new (tokens_of (tree self.now))) };
 }
 
 /// An object that is written as a member of a JSON object.
-trait Member: ToJson {
+pub(crate) trait Member: ToJson {
     ghost use Rattle.std.specs.Prelude.{List, ℕ};
 
     /// The name of the member.
@@ -76,7 +79,7 @@ fn put_items<T: ToJson>(out: &mut Writer, things: &[T]) -> Result<(), Memory>
 }
 
 /// Appends values as an array.
-fn put_array<T: ToJson>(out: &mut Writer, things: &[T]) -> Result<(), Memory>
+pub(crate) fn put_array<T: ToJson>(out: &mut Writer, things: &[T]) -> Result<(), Memory>
     requires { list_all T.shape things.now ≡ true }
     ensures { OnOk result (Adds out.old out.new (tokens_of (array_by T.tree things.now))) }
 {
@@ -129,7 +132,7 @@ fn count_below<T: Member>(things: &[T], name: &str) -> usize
 
 /// Appends an object of members, whose names ascend, and of one more text in its order among them. None of the members has its
 /// name.
-fn put_object<T: Member>(
+pub(crate) fn put_object<T: Member>(
     out: &mut Writer,
     things: &[T],
     name: &str,
@@ -151,7 +154,7 @@ fn put_object<T: Member>(
 }
 
 /// Returns the characters of a text.
-fn characters(text: &Text) -> &str
+pub(crate) fn characters(text: &Text) -> &str
     requires { is_utf8 text.now ≡ true }
     ensures { result.now ≡ text.now }
 {
@@ -159,6 +162,8 @@ fn characters(text: &Text) -> &str
 }
 
 impl ToJson for Text {
+    ghost shape = { is_utf8 };
+
     ghost tree = { string };
 
     fn append(&self, out: &mut Writer) -> Result<(), Memory> {
@@ -178,7 +183,10 @@ fn put_language(out: &mut Writer, language: &Text) -> Result<(), Memory>
 }
 
 impl ToJson for (Text, Text) {
+    ghost use Rattle.gs_linkset.specs.LinkShapes.{is_tagged_text};
     ghost use Rattle.gs_linkset.specs.WrittenTrees.{tagged_tree};
+
+    ghost shape = { is_tagged_text };
 
     ghost tree = { tagged_tree };
 
@@ -191,6 +199,10 @@ impl ToJson for (Text, Text) {
 }
 
 impl ToJson for Attr {
+    ghost use Rattle.gs_linkset.specs.LinkShapes.{is_attr};
+
+    ghost shape = { is_attr };
+
     ghost tree = { λ attr. value_tree attr.value };
 
     fn append(&self, out: &mut Writer) -> Result<(), Memory> {
@@ -212,6 +224,8 @@ impl Member for Attr {
 
 impl ToJson for Target {
     ghost use Rattle.gs_linkset.specs.WrittenTrees.{target_tree};
+
+    ghost shape = { is_target };
 
     ghost tree = { target_tree };
 
@@ -236,7 +250,10 @@ impl Target {
 }
 
 impl ToJson for Relation {
+    ghost use Rattle.gs_linkset.specs.LinkShapes.{is_relation};
     ghost use Rattle.gs_linkset.specs.WrittenTrees.{target_tree};
+
+    ghost shape = { is_relation };
 
     ghost tree = { λ relation. array_by target_tree relation.targets };
 
@@ -254,7 +271,10 @@ impl Member for Relation {
 }
 
 impl ToJson for Context {
+    ghost use Rattle.gs_linkset.specs.LinkShapes.{is_context};
     ghost use Rattle.gs_linkset.specs.WrittenTrees.{context_tree};
+
+    ghost shape = { is_context };
 
     ghost tree = { context_tree };
 
@@ -263,10 +283,10 @@ impl ToJson for Context {
     }
 }
 
-/// Appends a document.
-fn put_document(out: &mut Writer, contexts: &[Context]) -> Result<(), Memory>
-    requires { list_all is_context contexts.now ≡ true }
-    ensures { OnOk result (Adds out.old out.new (tokens_of (tree_of contexts.now))) }
+/// Appends the document of contexts.
+pub(crate) fn put_document<T: ToJson>(out: &mut Writer, contexts: &[T]) -> Result<(), Memory>
+    requires { list_all T.shape contexts.now ≡ true }
+    ensures { OnOk result (Adds out.old out.new (tokens_of (document_by T.tree contexts.now))) }
 {
     put(out, Token::BeginObject)?;
     put(out, Token::Key("linkset"))?;

@@ -3,10 +3,10 @@ use Rattle.gs_linkset.proofs.TokenLemmas.{adds_five, all_drop, all_take, object_
 use Rattle.gs_linkset.proofs.writer.put_object.Goals as goal
 
 pub put_members-requires : goal.put_members-requires
-put_members-requires g c = rw c.split_at.ensures.front (all_take g.T.Shaped.shape c.count_below.result c.args.things.now c.requires.shape)
+put_members-requires g c = rw c.split_at.ensures.front (all_take g.T.ToJson.shape c.count_below.result c.args.things.now c.requires.shape)
 
 pub put_members-requires-2 : goal.put_members-requires-2
-put_members-requires-2 g c = rw c.split_at.ensures.back (all_drop g.T.Shaped.shape c.count_below.result c.args.things.now c.requires.shape)
+put_members-requires-2 g c = rw c.split_at.ensures.back (all_drop g.T.ToJson.shape c.count_below.result c.args.things.now c.requires.shape)
 
 pub returns : goal.returns
 returns g c =
