@@ -1,5 +1,5 @@
 -- The document of chosen links, and its shape.
-use Rattle.std.proofs.Common.{◌≡◌, ◌<◌, ℕ, zero, suc, ◌+◌, ◌&&◌, not, Bool, true, false, All, if◌then◌else◌, List, [], ◌∷◌, ◌++◌, length, take, map, filter, get_or, codes, Option, Some, None, slice_get, Ordering, Less, Equal, Greater, refl, sym, ap, ◌∙◌, arith}
+use Rattle.std.proofs.Common.{◌≡◌, ◌<◌, ℕ, zero, suc, ◌+◌, ◌&&◌, not, Bool, true, false, All, if◌then◌else◌, List, [], ◌∷◌, ◌++◌, length, take, map, filter, get_or, codes, Option, Some, None, slice_get, Ordering, Less, Equal, Greater, refl, sym, subst, ap, ◌∙◌, arith}
 use Rattle.std.specs.Prelude.{fold}
 use Rattle.std.specs.Cmp.Lexicographic.{slice_cmp}
 use Rattle.std.specs.List.{cons_option, list_all}
@@ -207,6 +207,14 @@ pub document_is : (links : List Link) (numbers : List ℕ) (link : Link) (rest :
 document_is links numbers link rest anchor relations contexts e a r made =
     let own = rw e at r in
     rw (made, a, own, e) refl
+
+-- the one context of the document has its shape
+pub one_context : (links : List Link) (numbers : List ℕ) (link : Link) (rest : List Link) (context : Context) → list_all is_link links ≡ true → linked links numbers ≡ link ∷ rest → context.anchor ≡ canonical_link link.anchor → context.relations ≡ relations_of (linked links numbers)
+    → (is_context context ≡ true) × (context ∷ [] ≡ document_of (linked links numbers))
+one_context links numbers link rest context h e a r =
+    let same = document_is links numbers link rest context.anchor context.relations (context ∷ []) e a r refl in
+    let shaped = subst (λ (contexts : List Context). list_all is_context contexts ≡ true) (sym same) (document_shaped links numbers link rest h e) in
+    (and_first (is_context context) true shaped, same)
 
 -- the chosen links have one anchor: the identity's key with its first qualifiers
 pub one_anchor : (links : List Link) (identity : Elements) (want : Want) (i : ℕ) (link : Link) → IsAmong (chosen links identity want) i → slice_get links i ≡ Some link → link.anchor ≡ first_qualifiers (chosen_depth links identity want) identity
