@@ -1,5 +1,5 @@
 -- The fields of a class fit its key and its element, and are laid out as the identity of the class.
-use Rattle.std.proofs.Common.{◌≡◌, ℕ, ◌-◌, true, false, List, [], ◌∷◌, Option, Some, Ok, is_some, find, refl, sym, ◌∙◌}
+use Rattle.std.proofs.Common.{◌≡◌, ℕ, ◌-◌, true, false, List, [], ◌∷◌, Option, Some, Ok, is_some, find, refl, sym}
 use Rattle.std.specs.Option.{option_map_or}
 use Rattle.std.proofs.lemmas.List.{append-nil}
 use Rattle.gs_ai.specs.declared.pair.Pair.{Pair}

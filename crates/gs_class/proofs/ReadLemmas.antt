@@ -1,13 +1,13 @@
 -- The readings of the items of an array, one by one.
 use Rattle.std.proofs.Common.{◌≡◌, ℕ, ◌+◌, ◌≤◌, List, [], ◌∷◌, ◌++◌, length, take, map, Option, Some, None, unwrap_or, slice_get, refl, ap, arith}
 use Rattle.std.specs.Option.{option_and_then}
-use Rattle.std.proofs.lemmas.List.{map-append}
+use Rattle.std.proofs.lemmas.List.{map-append, take_all}
 use Rattle.serde_json.specs.Data.{Data}
 use Rattle.serde_json.specs.Find.{get}
 use Rattle.gs_json.specs.Answers.{items_count}
 use Rattle.gs_json.specs.Members.{array_in, items_in, items_of}
 use Rattle.gs_json.proofs.ArrayItems.{items_length}
-use Rattle.gs_prefix.proofs.FirstRejections.{take_all, take_next}
+use Rattle.gs_prefix.proofs.FirstRejections.{take_next}
 
 module _ {X : Type 0} (f : Data → X) (d : Data) where
   -- one item more that was read
@@ -19,7 +19,7 @@ module _ {X : Type 0} (f : Data → X) (d : Data) where
   pub all_read : (i count : ℕ) (done : List X) → count ≡ items_count d → count ≤ i → done ≡ map f (take i (items_of d)) → done ≡ map f (items_of d)
   all_read i count done size few so_far =
       let long : length (items_of d) ≤ i = let l = items_length d in omega arith in
-      rw (take_all (items_of d) i long) at so_far
+      rw (take_all i (items_of d) long) at so_far
 
 -- there are none if it is not
 pub no_member : (name : List ℕ) (d : Data) → None ≡ get name d → [] ≡ items_in name d

@@ -1,29 +1,24 @@
 -- The text that is written of an identity is a class URI of it.
-use Rattle.std.proofs.Common.{◌≡◌, ℕ, zero, suc, ◌-◌, ◌==◌, ◌&&◌, ◌||◌, ◌⊎◌, not, if◌then◌else◌, Bool, true, false, List, [], ◌∷◌, ◌++◌, length, take, drop, map, position, filter, Option, Some, None, bytes_eq, find, is_some, slice_get, refl, sym, ap, subst, ◌∙◌, arith, inl, inr, true≢false}
+use Rattle.std.proofs.Common.{◌≡◌, ℕ, ◌-◌, ◌==◌, ◌&&◌, ◌⊎◌, not, if◌then◌else◌, Bool, true, false, List, [], ◌∷◌, length, map, position, Option, Some, None, bytes_eq, find, is_some, slice_get, refl, sym, ap, subst, ◌∙◌, arith, inl, inr, true≢false}
 use Rattle.std.specs.Prelude.{Result, Ok, Err}
-use Rattle.std.specs.List.{filter_map, list_any}
+use Rattle.std.specs.List.{list_any}
 use Rattle.std.specs.Option.{option_map_or}
 use Rattle.std.proofs.lemmas.Bool.Decides.{nat_tests}
-use Rattle.std.proofs.lemmas.List.{append-nil, length-map}
-use Rattle.gs_chars.proofs.TruthsAndLists.{and_parts, equal_bytes, false_from, false_from_not, mapped_some, or_parts, place_left, place_right, same_bytes, true_from_not, true_or_false}
+use Rattle.std.proofs.lemmas.List.{length-map}
+use Rattle.gs_chars.proofs.TruthsAndLists.{and_parts, equal_bytes, false_from, false_from_not, mapped_some, or_parts, place_left, place_right, true_from_not, true_or_false}
 use Rattle.gs_ai.specs.declared.pair.Pair.{Pair}
 use Rattle.gs_ai.specs.declared.row.AiRow.{AiRow}
 use Rattle.gs_ai.specs.Tables.{KeepsRules, is_key_of}
 use Rattle.gs_ai.specs.Values.{has_code}
-use Rattle.gs_ident.specs.Elements.{Elements, pairs_of}
-use Rattle.gs_ident.specs.Identities.{IsMadeWith, counted, elements_of, is_other, listed, pair_with}
-use Rattle.gs_ident.proofs.CodeOrder.{own_ascending}
-use Rattle.gs_ident.proofs.IdentityLemmas.{made_facts}
-use Rattle.gs_ident.proofs.PairLemmas.{find_by_cases, found_passes}
+use Rattle.gs_ident.specs.Elements.{Elements}
+use Rattle.gs_ident.specs.Identities.{IsMadeWith, pair_with}
+use Rattle.gs_ident.proofs.PairLemmas.{found_passes}
 use Rattle.gs_tables_document.specs.declared.document.SerialAt.TheVariants.{Ai}
 use Rattle.gs_epc.specs.KeyParts.{IsOfKind, fields_at, serial_in, take_apart}
 use Rattle.gs_epc.proofs.LaidSets.{no_pairs}
 use Rattle.std.proofs.lemmas.Bool.{leb-true}
-use Rattle.gs_ai.specs.declared.part.Part.{Part}
-use Rattle.gs_ai.specs.declared.part.Part.TheVariants.{NumCheck}
 use Rattle.gs_ai.specs.Tables.{is_empty}
 use Rattle.gs_ai.proofs.Searches.{position_some}
-use Rattle.gs_ident.specs.Identities.{ascending}
 use Rattle.gs_ident.proofs.PairLemmas.{not_found}
 use Rattle.gs_grammar.specs.declared.item.Item.{Item}
 use Rattle.gs_grammar.specs.Derivations.{Derives}

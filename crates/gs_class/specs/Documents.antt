@@ -1,5 +1,5 @@
 -- Documents of classes in JSON, this project's own profile: the form of a document, and its rows.
-use Rattle.std.specs.Prelude.{ℕ, false, List, [], ◌∷◌, ◌++◌, map, codes}
+use Rattle.std.specs.Prelude.{false, List, [], ◌∷◌, ◌++◌, map, codes}
 use Rattle.serde_json.specs.Data.{Data}
 use Rattle.serde_json.specs.Find.{as_object}
 use Rattle.gs_json.specs.Members.{items_in, must, number_in, text_in}

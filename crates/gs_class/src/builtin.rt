@@ -1,4 +1,4 @@
-ghost use Rattle.std.specs.Prelude.{◌≡◌, ◌≤◌, ◌++◌, ◌∷◌, [], codes, IfOk, None, Some};
+ghost use Rattle.std.specs.Prelude.{◌≡◌, ◌≤◌, IfOk, None, Some};
 ghost use Rattle.gs_grammar.specs.declared.item.Item.TheVariants.{Lit};
 ghost use Rattle.gs_class.specs.BuiltIn.{built_in_rows, lgtin_items, lgtin_row};
 

@@ -208,7 +208,7 @@ fn push_classes(
 }
 
 /// Returns the options of rows that no rule rejects as a level, with the facts of each.
-pub(crate) fn make_parts(
+fn make_parts(
     alloc: Global,
     ais: &AiTable,
     rows: Vec<ClassRow>,
@@ -224,7 +224,7 @@ pub(crate) fn make_parts(
 }
 
 /// Rejects a level that is ambiguous.
-pub(crate) fn judge_level(alloc: Global, level: &Level) -> Result<(), ClassLoadFault>
+fn judge_level(alloc: Global, level: &Level) -> Result<(), ClassLoadFault>
     ensures { IsLevelJudged level.now result }
 {
     match level.first_share(alloc)? {

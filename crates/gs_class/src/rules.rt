@@ -42,7 +42,7 @@ fn is_bad_item(entry: &Option<FieldItem>) -> bool
 }
 
 /// Returns the index of the first bad item.
-pub(crate) fn first_bad(items: &[Option<FieldItem>]) -> Option<usize>
+fn first_bad(items: &[Option<FieldItem>]) -> Option<usize>
     ensures { result ≡ position is_bad_item items.now }
 {
     items.iter().position(is_bad_item)
@@ -137,7 +137,7 @@ fn is_same_row(row: &ClassRow, other: &ClassRow) -> bool
 }
 
 /// Returns the index of the first row that is the same.
-pub(crate) fn first_same(earlier: &[ClassRow], row: &ClassRow) -> Option<usize>
+fn first_same(earlier: &[ClassRow], row: &ClassRow) -> Option<usize>
     ensures { result ≡ position (is_same_row row.now) earlier.now }
 {
     earlier.iter().position(|other| is_same_row(row, other))
@@ -152,7 +152,7 @@ fn agrees_with(earlier: &[ClassRow], row: &ClassRow) -> bool
 
 /// Returns whether the row satisfies the rules of classes, given the earlier ones.
 #[tactic(auto, unfolding(crate::specs::Rules::is_class))]
-pub(crate) fn is_class(ais: &AiTable, earlier: &[ClassRow], row: &ClassRow) -> bool
+fn is_class(ais: &AiTable, earlier: &[ClassRow], row: &ClassRow) -> bool
     ensures { result ≡ is_class ais.now earlier.now row.now }
 {
     let name = row.name.as_bytes();
@@ -166,7 +166,7 @@ pub(crate) fn is_class(ais: &AiTable, earlier: &[ClassRow], row: &ClassRow) -> b
 }
 
 /// The most classes of a set.
-pub const MOST_CLASSES: usize = 256;
+const MOST_CLASSES: usize = 256;
 
 /// Rejects a document of another version.
 pub(crate) fn check_version(root: &Node<'_>) -> Result<(), ClassLoadFault>

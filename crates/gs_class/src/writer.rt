@@ -1,4 +1,4 @@
-ghost use Rattle.std.specs.Prelude.{◌≡◌, ◌++◌, false, IfErr, IfOk, Some, length, map, position};
+ghost use Rattle.std.specs.Prelude.{◌≡◌, false, IfErr, IfOk, Some, position};
 ghost use Rattle.std.specs.List.{find, list_any};
 ghost use Rattle.std.specs.Option.{option_copied};
 ghost use Rattle.gs_ident.specs.Identities.{IsMadeWith, pair_with};

@@ -29,7 +29,7 @@ pub struct Dump {
 
 /// The contents of a protocol control word (TDS 2.0, section 9).
 #[derive(Clone, Copy)]
-pub(crate) struct ControlWord {
+struct ControlWord {
     /// How many words of 16 bits the encoding after it has, at most 31.
     pub words: u8,
     /// Whether user memory has contents.
@@ -56,7 +56,7 @@ fn take_bits(cursor: &mut Cursor<'_, 64>, n: u32) -> Result<u64, Short>
 }
 
 /// Returns the control word that the next 16 bits are.
-pub(crate) fn take_word(cursor: &mut Cursor<'_, 64>) -> Result<ControlWord, Short>
+fn take_word(cursor: &mut Cursor<'_, 64>) -> Result<ControlWord, Short>
     ensures short { IsErr result ↔ (length cursor.old < 16) }
     ensures word { IfOk result (λ word. BeginsWith cursor.old word cursor.new) }
 {
@@ -71,7 +71,7 @@ pub(crate) fn take_word(cursor: &mut Cursor<'_, 64>) -> Result<ControlWord, Shor
 
 /// Checks that a control word is that of an EPC without an extended word. Its number of words must be that of the bits after
 /// it.
-pub(crate) fn check_word(word: &ControlWord, bits: usize) -> Result<(), DumpFault>
+fn check_word(word: &ControlWord, bits: usize) -> Result<(), DumpFault>
     requires { bits < 2 ^ 16 }
     ensures plain { OnOk result (IsPlain word.now) }
     ensures whole { OnOk result (bits ≡ 16 * word.now.words) }
@@ -112,7 +112,7 @@ fn push_flag(set: bool, bits: &mut BitBuf<2>)
 }
 
 /// Returns the four hexadecimal digits of a control word.
-pub(crate) fn word_digits(alloc: Global, word: ControlWord) -> Result<Text, Memory>
+fn word_digits(alloc: Global, word: ControlWord) -> Result<Text, Memory>
     requires { word.words < 32 }
     ensures { IfOk result (λ digits. digits ≡ hex_of_bits (control_bits word)) }
 {

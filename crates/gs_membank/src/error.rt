@@ -1,6 +1,6 @@
 use gs_bits::HexFault;
 use gs_chars::Memory;
-use gs_epc::{EpcFault, EpcWriteFault};
+use gs_epc::EpcWriteFault;
 use gs_grammar::Why;
 use gs_tables::Field;
 use thiserror::Error;

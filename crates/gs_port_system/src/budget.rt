@@ -39,7 +39,7 @@ fn reply_end(began: u64, taken: u64, time: u64) -> u64
 
 impl Budget {
     /// Notes that a read is made at this time, and returns the time until which it may wait.
-    pub(crate) fn begin_read(&mut self, time: u64) -> u64
+    fn begin_read(&mut self, time: u64) -> u64
         ensures until { result ≡ read_until self.old time }
         ensures noted { self.new ≡ read_at self.old time }
     {
@@ -54,7 +54,7 @@ impl Budget {
     }
 
     /// Notes the result of a read.
-    pub(crate) fn end_read(&mut self, said: &Result<usize>)
+    fn end_read(&mut self, said: &Result<usize>)
         ensures { self.new ≡ after_read said.now self.old }
     {
         if let (Ok(1..), Budget::Idle) = (said, *self) {
@@ -63,7 +63,7 @@ impl Budget {
     }
 
     /// Notes that a write is made at this time, and returns the time until which it may wait.
-    pub(crate) fn begin_write(&mut self, time: u64) -> u64
+    fn begin_write(&mut self, time: u64) -> u64
         ensures until { result ≡ write_until self.old time }
         ensures noted { self.new ≡ write_at self.old time }
     {
@@ -76,7 +76,7 @@ impl Budget {
     }
 
     /// Notes the result of a write.
-    pub(crate) fn end_write(&mut self, said: &Result<usize>)
+    fn end_write(&mut self, said: &Result<usize>)
         ensures { self.new ≡ after_write said.now self.old }
     {
         if let (Ok(moved), Budget::Reply { began, taken }) = (said, *self) {

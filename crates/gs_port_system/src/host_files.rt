@@ -1,6 +1,6 @@
 ghost use Rattle.std.specs.Prelude.{◌≡◌, ◌<◌, ◌≤◌, [], true, false, None, Some, is_some, length};
 ghost use Rattle.gs_port.specs.Answers.{AddsOpened};
-ghost use Rattle.gs_port.specs.Answers.{CountsOpen, IfGot, IsZeroAtEnd, MovesFront, OnNotOpened, OnOpened, OnReadFailed, OpenFails};
+ghost use Rattle.gs_port.specs.Answers.{CountsOpen, IfGot, OnNotOpened, OnOpened, OnReadFailed, OpenFails};
 ghost use Rattle.gs_port.specs.Answers.{count_after_read};
 ghost use Rattle.gs_port.specs.Counts.{Rises};
 ghost use Rattle.gs_port_system.specs.Calls.{OpensNamed, ReadsCurrent};

@@ -1,5 +1,5 @@
 ghost use Rattle.std.specs.Prelude.{◌≡◌, ◌<◌, ◌≤◌, None, length};
-ghost use Rattle.gs_port.specs.Answers.{AppendsFront, IfGot, IfTook, IsZeroAtEnd, MovesFront, OnNothingTaken, OnReadFailed};
+ghost use Rattle.gs_port.specs.Answers.{AppendsFront, IfGot, IfTook, IsZeroAtEnd, MovesFront, OnReadFailed};
 ghost use Rattle.gs_port.specs.Answers.{OnWriteFailed, count_after_read, count_after_write};
 ghost use Rattle.gs_port.specs.Counts.{Rises};
 ghost use Rattle.gs_port_system.specs.Calls.{ReadsOnce, WritesOnce};

@@ -1,6 +1,6 @@
 ghost use Rattle.std.specs.Prelude.{◌≡◌, ◌<◌, ◌≤◌, false, true, None, is_some, length};
-ghost use Rattle.gs_port.specs.Answers.{AddsMoved, AppendsFront, IfGot, IfTook, IsZeroAtEnd, MovesFront};
-ghost use Rattle.gs_port.specs.Answers.{OnAcceptFailed, OnAccepted, OnNotAccepted, OnNotOpened, OnNothingTaken};
+ghost use Rattle.gs_port.specs.Answers.{IfGot, IfTook};
+ghost use Rattle.gs_port.specs.Answers.{OnAcceptFailed, OnAccepted, OnNotAccepted, OnNotOpened};
 ghost use Rattle.gs_port.specs.Answers.{OnOpenFailed, OnOpened, OnReadFailed, OnWriteFailed, count_after_read};
 ghost use Rattle.gs_port.specs.Answers.{count_after_write};
 ghost use Rattle.gs_port.specs.Connections.{after_accept, after_open, no_aside};
@@ -241,7 +241,7 @@ fn drop_rest<R: StreamCalls>(stream: &mut R, until: u64)
 
 /// Ends the current connection in stages, so that no sent reply is lost: its write half is shut down, then arriving bytes are
 /// read and dropped, for a second at most.
-pub(crate) fn end_in_stages<S: DoorCalls>(system: &mut S, current: &mut Option<S::Stream>)
+fn end_in_stages<S: DoorCalls>(system: &mut S, current: &mut Option<S::Stream>)
     requires current { is_some current.old ≡ true }
     ensures called { EndsInStages S.times S.Stream.shuts S.Stream.reads system.old current.old system.new }
 {

@@ -1,7 +1,8 @@
 -- The first rejection of concatenated lists of rejections.
-use Rattle.std.proofs.Common.{◌≡◌, ℕ, zero, suc, ◌+◌, ◌<◌, ◌≤◌, List, [], ◌∷◌, ◌++◌, length, get_or, take, map, Some, None, slice_get, refl, ap, arith, inl, inr}
+use Rattle.std.proofs.Common.{◌≡◌, ℕ, zero, suc, ◌+◌, ◌<◌, ◌≤◌, List, [], ◌∷◌, ◌++◌, length, get_or, take, map, Some, None, slice_get, refl, ap, ◌∙◌, arith, inl, inr}
 use Rattle.std.specs.Prelude.{Result, Ok, Err}
-use Rattle.std.proofs.lemmas.List.{map-append, take_more}
+use Rattle.std.proofs.lemmas.List.{map-append, take_all, take_more}
+use Rattle.std.proofs.lemmas.Option.{get_or_from_slice_get, slice_get_within}
 use Rattle.std.specs.List.{flat_map, enumerate_from}
 use Rattle.gs_chars.proofs.TruthsAndLists.{nil_parts}
 use Rattle.gs_json.specs.Answers.{OrMemory as JsonOrMemory}
@@ -11,7 +12,6 @@ use Rattle.gs_json.specs.declared.error.JsonFault.TheVariants as json
 use Rattle.gs_chars.specs.Answers.{OrError, first_or}
 use Rattle.gs_prefix.specs.Answers.{OrMemory}
 use Rattle.gs_prefix.specs.AnswersSupport.{of_json}
-use Rattle.gs_prefix.specs.declared.error.PrefixFault.{PrefixFault}
 use Rattle.gs_prefix.specs.declared.error.PrefixFault.TheVariants.{Json, Memory}
 
 -- ---- one list after another
@@ -40,12 +40,6 @@ rejected_in_front [] b x y e h = absurd (let g : Err e ≡ Ok x = h in cc)
 rejected_in_front (f ∷ a) b x y e h = let same : e ≡ f = cc in ap Err same
 
 -- ---- rows
-
-pub take_all : {X : Type 0} (xs : List X) (i : ℕ) → length xs ≤ i → take i xs ≡ xs
-take_all [] zero h = refl
-take_all [] (suc i) h = refl
-take_all (x ∷ xs) zero h = absurd (omega arith)
-take_all (x ∷ xs) (suc i) h = ap (λ ys. x ∷ ys) (take_all xs i (omega arith))
 
 module _ {X E : Type 0} (f : ℕ × X → List E) where
   -- the rejections of rows that are counted from n; only the row at index i has any
@@ -85,7 +79,7 @@ module _ {X E : Type 0} (f : ℕ × X → List E) where
       rw next (more_from 0 xs i x at none (rw own at h))
 
   pub all_rows : (xs : List X) (i : ℕ) → length xs ≤ i → flat_map f (enumerate_from 0 (take i xs)) ≡ [] → flat_map f (enumerate_from 0 xs) ≡ []
-  all_rows xs i all none = rw (take_all xs i all) at none
+  all_rows xs i all none = rw (take_all i xs all) at none
 
 -- ---- errors of JSON
 
@@ -110,16 +104,11 @@ judged errors error (inr h) = judged_by errors error h
 
 -- ---- the readings of items, one by one
 
-take_one : {X : Type 0} (xs : List X) (i : ℕ) (x : X) → slice_get xs i ≡ Some x → take (suc i) xs ≡ take i xs ++ x ∷ []
-take_one [] i x at = absurd (let g : None ≡ Some x = at in cc)
-take_one (y ∷ ys) zero x at = let same : y ≡ x = cc in rw same refl
-take_one (y ∷ ys) (suc i) x at = ap (λ zs. y ∷ zs) (take_one ys i x at)
-
 pub take_next : {X : Type 0} (xs : List X) (i : ℕ) (x : X) → slice_get xs i ≡ Some x → take (i + 1) xs ≡ take i xs ++ x ∷ []
-take_next xs i x at = let next : i + 1 ≡ suc i = omega arith in rw next (take_one xs i x at)
+take_next xs i x at = take_more xs i x (slice_get_within xs i x at) ∙ ap (λ y. take i xs ++ y ∷ []) (get_or_from_slice_get xs i x x at)
 
 pub mapped_all : {X Y : Type 0} (f : X → Y) (xs : List X) (i : ℕ) (ys : List Y) → length xs ≤ i → ys ≡ map f (take i xs) → ys ≡ map f xs
-mapped_all f xs i ys all so_far = rw (take_all xs i all) at so_far
+mapped_all f xs i ys all so_far = rw (take_all i xs all) at so_far
 
 -- one item more that was read
 pub mapped_step : {X Y : Type 0} (f : X → Y) (xs : List X) (i : ℕ) (x : X) (done new : List Y) (y : Y) → i < length xs → x ≡ get_or xs i x → done ≡ map f (take i xs) → new ≡ done ++ y ∷ [] → y ≡ f x

@@ -1,11 +1,10 @@
 -- The rejections of entries and of documents.
-use Rattle.std.proofs.Common.{◌≡◌, ◌⊎◌, ℕ, ◌+◌, ◌<◌, ◌≤◌, nat_lt, nat_le, true, false, List, [], ◌∷◌, ◌++◌, length, take, map, Some, None, slice_get, IfSome, refl, sym, ap, ◌∙◌, arith, inl, inr}
+use Rattle.std.proofs.Common.{◌≡◌, ◌⊎◌, ℕ, ◌+◌, ◌<◌, ◌≤◌, nat_lt, nat_le, true, false, List, [], ◌∷◌, ◌++◌, length, take, map, Some, None, slice_get, refl, sym, ap, ◌∙◌, arith, inl, inr}
 use Rattle.std.specs.Prelude.{Result, Ok, Err}
 use Rattle.std.specs.List.{flat_map, enumerate_from, list_all, list_any}
 use Rattle.std.specs.Str.{IsUtf8, is_utf8}
 use Rattle.std.proofs.lemmas.Bool.Decides.{nat_tests}
-use Rattle.std.proofs.lemmas.List.{map-append}
-use Rattle.std.proofs.lemmas.Option.{slice_get_cases}
+use Rattle.std.proofs.lemmas.List.{map-append, take_all}
 use Rattle.std.proofs.lemmas.Str.{IsUtf8-from_is_utf8, is_utf8-from_IsUtf8}
 use Rattle.serde_json.specs.Data.{Data}
 use Rattle.serde_json.specs.Find.{as_object}
@@ -24,9 +23,9 @@ use Rattle.gs_prefix.specs.Answers.{OrMemory, document_answer, load_answer}
 use Rattle.gs_prefix.specs.AnswersSupport.{AddsEntry, of_json}
 use Rattle.gs_prefix.specs.Documents.{array_errors, entries_errors, entries_of, form_errors, list_plan, version_errors}
 use Rattle.gs_prefix.specs.Lengths.{has_prefix, is_prefix}
-use Rattle.gs_prefix.specs.LengthsSupport.{is_entry, with_entry}
+use Rattle.gs_prefix.specs.LengthsSupport.{is_entry}
 use Rattle.gs_prefix.specs.Rules.{entry_rejections, rejections, rejections_at}
-use Rattle.gs_prefix.proofs.FirstRejections.{all_rows, first_behind, first_in_front, nothing_in_front, one_more, split_at, take_all, take_next}
+use Rattle.gs_prefix.proofs.FirstRejections.{all_rows, first_behind, first_in_front, nothing_in_front, one_more, split_at, take_next}
 use Rattle.gs_chars.proofs.ErrorAnswers.{no_error}
 use Rattle.gs_chars.proofs.TruthsAndLists.{and_first, and_second, true_or_false}
 
@@ -94,14 +93,18 @@ within_limit : (es : List PrefixEntry) → length es ≤ 65536 → rejections es
 unfolding rejections
 within_limit es h = let l : nat_lt 65536 (length es) ≡ false = grind (arith, nat_tests) in rw l refl
 
-entry_rejected : (entries index : List PrefixEntry) (i : ℕ) (x : PrefixEntry) (e : PrefixFault) → length entries ≤ 65536 → SoFar entries index i → slice_get entries i ≡ Some x → OrMemory (Err e) (first_or (entry_rejections index i x) (tt {0})) → OrMemory {X = List PrefixEntry} (Err e) (first_or (rejections entries) entries)
+-- an entry was rejected after entries that none rejects
+pub entry_rejected : (entries index : List PrefixEntry) (i : ℕ) (x : PrefixEntry) (e : PrefixFault) → length entries ≤ 65536 → SoFar entries index i → slice_get entries i ≡ Some x → OrMemory (Err e) (first_or (entry_rejections index i x) (tt {0})) → OrMemory {X = List PrefixEntry} (Err e) (first_or (rejections entries) entries)
 entry_rejected entries index i x e few so_far at h =
     let own = rw so_far.held at h in
     let split = split_at (rejections_at entries) entries i x at so_far.none in
     rw (within_limit entries few, split.1) (first_in_front Memory (rejections_at entries (i, x)) split.0 (tt {0}) entries e own)
 
-one_entry_more : (entries index new : List PrefixEntry) (i : ℕ) (x : PrefixEntry) → SoFar entries index i → slice_get entries i ≡ Some x → Ok (tt {0}) ≡ first_or (entry_rejections index i x) (tt {0}) → new ≡ with_entry index x.prefix x.length → SoFar entries new (i + 1)
-one_entry_more entries index new i x so_far at h e =
+-- an entry was added that no rule rejects
+pub one_entry_more : (entries index new : List PrefixEntry) (i : ℕ) (x : PrefixEntry) → SoFar entries index i → slice_get entries i ≡ Some x → AddsEntry (Ok (tt {0})) i index new x → SoFar entries new (i + 1)
+one_entry_more entries index new i x so_far at adds =
+    let h = no_error Memory (tt {0}) (first_or (entry_rejections index i x) (tt {0})) adds.0 in
+    let e = adds.1 in
     let k = kept index i x h in
     record {
       held = e ∙ rw so_far.held (sym (take_next entries i x at));
@@ -109,22 +112,9 @@ one_entry_more entries index new i x so_far at h e =
       none = one_more (rejections_at entries) entries i x at so_far.none (nothing (take i entries) i x (rw so_far.held at h));
     }
 
--- the answer of the call for one entry, for the list so far
-pub add_rejected : (entries index after : List PrefixEntry) (i : ℕ) (e : PrefixFault) → length entries ≤ 65536 → SoFar entries index i → i < length entries → IfSome (slice_get entries i) (AddsEntry (Err e) i index after) → OrMemory {X = List PrefixEntry} (Err e) (first_or (rejections entries) entries)
-add_rejected entries index after i e few so_far within h = elim (slice_get_cases entries i).1 [
-  | inl there ↦ let own = rw there.2 at h in entry_rejected entries index i there.0 e few so_far there.2 own.0
-  | inr past ↦ absurd (let beyond : length entries ≤ i = past.0 in omega arith)
-]
-
-pub added : (entries index after : List PrefixEntry) (i : ℕ) → SoFar entries index i → i < length entries → IfSome (slice_get entries i) (AddsEntry (Ok (tt {0})) i index after) → SoFar entries after (i + 1)
-added entries index after i so_far within h = elim (slice_get_cases entries i).1 [
-  | inl there ↦ let own = rw there.2 at h in one_entry_more entries index after i there.0 so_far there.2 (no_error Memory (tt {0}) (first_or (entry_rejections index i there.0) (tt {0})) own.0) own.1
-  | inr past ↦ absurd (let beyond : length entries ≤ i = past.0 in omega arith)
-]
-
 pub all_entries : (entries index : List PrefixEntry) (i : ℕ) → length entries ≤ 65536 → length entries ≤ i → SoFar entries index i → OrMemory {X = List PrefixEntry} (Ok index) (first_or (rejections entries) entries)
 all_entries entries index i few all so_far =
-    let whole : index ≡ entries = so_far.held ∙ take_all entries i all in
+    let whole : index ≡ entries = so_far.held ∙ take_all i entries all in
     let none : rejections entries ≡ [] = within_limit entries few ∙ all_rows (rejections_at entries) entries i all so_far.none in
     rw none (inr (ap Ok whole))
 

@@ -1,4 +1,4 @@
-ghost use Rattle.std.specs.Prelude.{◌≡◌, ◌<◌, ◌≤◌, [], IfSome, length, slice_get, false, IfOk, find};
+ghost use Rattle.std.specs.Prelude.{◌≡◌, ◌≤◌, [], IfSome, length, false, IfOk, find};
 ghost use Rattle.serde_json.specs.View.{view};
 ghost use Rattle.gs_chars.specs.Answers.{first_or};
 ghost use Rattle.gs_prefix.specs.Answers.{OrMemory, document_answer, load_answer};
@@ -82,8 +82,8 @@ impl PrefixList {
             return Err(PrefixFault::Limit);
         }
         let mut index = Index::new(alloc);
-        for i in 0..entries.len() {
-            add_entry(alloc, &mut index, entries, i)?;
+        for (i, entry) in entries.iter().enumerate() {
+            add_entry(alloc, &mut index, i, entry)?;
         }
         Ok(PrefixList { entries: index })
     }
@@ -128,13 +128,11 @@ impl PrefixList {
 fn add_entry(
     alloc: Global,
     index: &mut Index,
-    entries: &[PrefixEntry],
     i: usize,
+    entry: &PrefixEntry,
 ) -> Result<(), PrefixFault>
-    requires { i < length entries.now }
-    ensures { IfSome (slice_get entries.now i) (AddsEntry result i index.old index.new) }
+    ensures { AddsEntry result i index.old index.new entry.now }
 {
-    let entry = &entries[i];
     check_entry(index, i, entry)?;
     index.push(alloc, entry.prefix.as_bytes(), entry.length as u8)?;
     Ok(())

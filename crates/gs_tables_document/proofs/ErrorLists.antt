@@ -1,7 +1,8 @@
 -- Concatenated lists of errors and of rejections, row by row, and the first of them.
-use Rattle.std.proofs.Common.{◌≡◌, ℕ, zero, suc, ◌+◌, ◌<◌, ◌≤◌, List, [], ◌∷◌, ◌++◌, length, take, Some, None, slice_get, get_or, refl, ap, arith, inl, inr}
+use Rattle.std.proofs.Common.{◌≡◌, ℕ, suc, ◌+◌, ◌<◌, ◌≤◌, List, [], ◌∷◌, ◌++◌, length, take, Some, None, slice_get, get_or, refl, ap, arith, inl, inr}
 use Rattle.std.specs.Prelude.{Result, Ok, Err}
 use Rattle.std.specs.List.{flat_map, enumerate_from}
+use Rattle.std.proofs.lemmas.List.{take_all}
 use Rattle.gs_chars.proofs.ErrorAnswers.{no_error}
 use Rattle.gs_json.specs.Answers.{OrMemory}
 use Rattle.gs_json.specs.Shapes.{first_error}
@@ -11,12 +12,6 @@ use Rattle.gs_ai.proofs.RuleLemmas.{first_at, none_more}
 use Rattle.gs_chars.proofs.TruthsAndLists.{first_of_front, read_at}
 
 -- ---- a loop over rows
-
-pub take_all : {X : Type 0} (xs : List X) (i : ℕ) → length xs ≤ i → take i xs ≡ xs
-take_all [] zero h = refl
-take_all [] (suc i) h = refl
-take_all (x ∷ xs) zero h = absurd (omega arith)
-take_all (x ∷ xs) (suc i) h = ap (λ ys. x ∷ ys) (take_all xs i (omega arith))
 
 -- the first rejection, found at a row after rows without one
 pub first_row : {X E : Type 0} (f : ℕ × X → List E) (rows : List X) (i : ℕ) (row : X) (e : E) → i < length rows → row ≡ get_or rows i row → flat_map f (enumerate_from 0 (take i rows)) ≡ [] → slice_get (f (i, row)) 0 ≡ Some e → slice_get (flat_map f (enumerate_from 0 rows)) 0 ≡ Some e
@@ -35,7 +30,7 @@ more_row f rows i row low read none h =
 
 -- all rows are without a rejection
 pub all_rows : {X E : Type 0} (f : ℕ × X → List E) (rows : List X) (i : ℕ) → length rows ≤ i → flat_map f (enumerate_from 0 (take i rows)) ≡ [] → flat_map f (enumerate_from 0 rows) ≡ []
-all_rows f rows i all none = let whole : take i rows ≡ rows = take_all rows i all in rw whole at none
+all_rows f rows i all none = rw (take_all i rows all) at none
 
 -- ---- the first error of a form
 

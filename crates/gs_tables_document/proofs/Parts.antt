@@ -1,13 +1,10 @@
 -- The value of each part of a document.
 use Rattle.std.proofs.Common.{◌≡◌, ℕ, ◌+◌, ◌<◌, ◌≤◌, List, [], ◌∷◌, ◌++◌, get_or, length, map, take, refl}
-use Rattle.std.proofs.lemmas.List.{map-append, take_more}
+use Rattle.std.proofs.lemmas.List.{map-append, take_all, take_more}
 use Rattle.serde_json.specs.Data.{Data}
 use Rattle.serde_json.specs.View.{view}
 use Rattle.serde_json.specs.declared.value.Value.{Value as Tree}
 use Rattle.gs_tables_document.specs.Documents.{Each}
-use Rattle.gs_tables_document.proofs.ErrorLists.{take_all}
-
--- ---- the items of an array as a list
 
 -- ---- the value of each item of a list
 
@@ -30,4 +27,4 @@ each_more Is values i value ys new y low here each e h =
 
 -- all rows of a list that is read one at a time
 pub each_all : {Y : Type 0} (Is : Data → Y → Type 0) (values : List Tree) (i : ℕ) (ys : List Y) → length values ≤ i → Each Is (map view (take i values)) ys → Each Is (map view values) ys
-each_all Is values i ys all each = rw (take_all values i all) at each
+each_all Is values i ys all each = rw (take_all i values all) at each

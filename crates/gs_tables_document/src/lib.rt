@@ -2,7 +2,7 @@
 //!
 //! - `read_document` reads a document of tables: application identifiers, kinds of EPC, and the options of the three levels; or
 //!   gives its first error.
-//! - `read_item` reads one item of an option.
+//! - `read_item` reads one item of an option; `copy_in` copies the text of a member.
 //!
 //! # Example
 //!
@@ -36,4 +36,5 @@ pub use document::{
 pub use error::{ItemFault, LimitName, LoadFault};
 pub use items::read_item;
 pub use laws::bytes_have_one_reading;
+pub use plans::copy_in;
 pub use reader::read_document;

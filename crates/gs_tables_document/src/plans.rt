@@ -102,8 +102,8 @@ pub(crate) fn str_of(value: &Value) -> &str
     value.as_str().unwrap_or("")
 }
 
-/// Returns a copy of the text of the named member, and of the empty text if there is none.
-pub(crate) fn copy_in(alloc: Global, object: &Value, name: &str) -> Result<Text, Memory>
+/// Returns a copy of the text of the named member, or of the empty text if there is none. Fails only with `Memory`.
+pub fn copy_in(alloc: Global, object: &Value, name: &str) -> Result<Text, Memory>
     ensures { IfOk result (λ text. text ≡ text_in name.now (view object.now)) }
 {
     Text::from_bytes(alloc, text_in(object, name).as_bytes())

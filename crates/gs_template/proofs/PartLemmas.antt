@@ -1,14 +1,14 @@
 -- The parts of a template are the one cut of it into places and single bytes.
-use Rattle.std.proofs.Common.{◌≡◌, ◌≤◌, ◌<◌, ℕ, zero, suc, ◌+◌, ◌==◌, ◌&&◌, Bool, true, false, if◌then◌else◌, List, [], ◌∷◌, ◌++◌, length, take, drop, refl, sym, ap, ◌∙◌, subst, arith}
+use Rattle.std.proofs.Common.{◌≡◌, ℕ, zero, suc, ◌+◌, ◌==◌, ◌&&◌, Bool, true, false, if◌then◌else◌, List, [], ◌∷◌, ◌++◌, length, take, drop, refl, sym, ap, ◌∙◌, subst, arith}
 use Rattle.std.specs.Prelude.{nat_le, slice_get}
 use Rattle.std.specs.Option.{option_map_or}
-use Rattle.std.proofs.lemmas.List.{append_assoc}
+use Rattle.std.proofs.lemmas.List.{append_assoc, length-take-le, take_at}
 use Rattle.std.proofs.lemmas.Bool.{eqb-true}
 use Rattle.std.proofs.lemmas.Bool.Decides.{nat_tests}
 use Rattle.gs_chars.proofs.TruthsAndLists.{and_first, and_second}
 use Rattle.gs_chars.specs.Characters.{are_digits, is_digit}
 use Rattle.gs_ai.specs.Tables.{is_code}
-use Rattle.gs_template.proofs.TemplateLemmas.{closed_at, closed_within, drop_zero, length_taken, size_is, take_front}
+use Rattle.gs_template.proofs.TemplateLemmas.{closed_at, closed_within, drop_over, drop_zero, size_is}
 use Rattle.gs_template.specs.Templates.{AreParts, IsPart, Part, bytes_behind, code_size, is_closed, itself, part_of, parts, parts_behind, place, place_size}
 
 -- ---- a code before a closing brace
@@ -52,7 +52,7 @@ code_at text k h low high =
     let closed = and_first (option_map_or (λ c. c == 125) (slice_get text k) false) (are_digits (take k text)) h in
     let digits = and_second (option_map_or (λ c. c == 125) (slice_get text k) false) (are_digits (take k text)) h in
     let within = closed_within text k closed in
-    let size = length_taken k text (omega (arith, within)) in
+    let size = length-take-le k text (omega (arith, within)) in
     rw (digits, size, low, high) refl
 
 -- the meaning of a size: that many digits, which are a code
@@ -114,17 +114,13 @@ no_size c rest (suc n) h none =
     let part = part_here c rest (suc n) h in
     absurd (none (take (suc n) rest) (drop (bytes_behind (suc n)) rest) part.0 part.1)
 
-drop_over : (xs : List ℕ) (x : ℕ) (ys : List ℕ) → drop (suc (length xs)) (xs ++ x ∷ ys) ≡ ys
-drop_over [] x ys = drop_zero ys
-drop_over (y ∷ xs) x ys = drop_over xs x ys
-
 first_itself : (c : ℕ) (rest : List ℕ) → place_size c rest ≡ 0 → itself c ∷ parts rest ≡ parts (c ∷ rest)
 first_itself c rest h = rw h refl
 
 first_by : (code rest : List ℕ) (n : ℕ) → n ≡ length code → is_code code ≡ true → place code ∷ parts rest ≡ part_of 123 (code ++ 125 ∷ rest) n ∷ parts_behind (bytes_behind n) (code ++ 125 ∷ rest)
 first_by code rest zero e is = absurd (has_digits code is (sym e))
 first_by code rest (suc n) e is =
-    rw (behind_drop (suc (suc n)) (code ++ 125 ∷ rest), e, take_front code (125 ∷ rest), drop_over code 125 rest) refl
+    rw (behind_drop (suc (suc n)) (code ++ 125 ∷ rest), e, take_at code (125 ∷ rest) (length code) refl, drop_over code 125 rest) refl
 
 first_place : (code rest : List ℕ) → is_code code ≡ true → place code ∷ parts rest ≡ parts (123 ∷ (code ++ 125 ∷ rest))
 first_place code rest is = rw (size_here code rest is) (first_by code rest (length code) refl is)

@@ -6,7 +6,7 @@ use Rattle.std.specs.Option.{option_map_or}
 use Rattle.std.specs.Str.{IsUtf8, IsAscii, is_utf8}
 use Rattle.std.proofs.lemmas.Bool.{agree_below, agree_below_at, eqb-true}
 use Rattle.std.proofs.lemmas.Bool.Decides.{nat_tests}
-use Rattle.std.proofs.lemmas.List.{append_assoc, length-append, length-drop, take_all}
+use Rattle.std.proofs.lemmas.List.{append_assoc, drop_more, length-append, length-drop, length-take-le, take_all, take_at}
 use Rattle.std.proofs.lemmas.List.Elements.{All-head, All-tail, filter-append}
 use Rattle.std.proofs.lemmas.List.Folds.{find-append, list_all-append}
 use Rattle.std.proofs.lemmas.Str.{IsCharBoundary-after_ascii, IsCharBoundary-before_ascii, IsUtf8-append, IsUtf8-drop, IsUtf8-from_ascii, IsUtf8-from_is_utf8, IsUtf8-take, is_utf8-from_IsUtf8}
@@ -23,52 +23,25 @@ use Rattle.gs_template.specs.declared.error.PlaceFault.{PlaceFault}
 
 -- ---- lists
 
-pub take_front : {X : Type 0} (xs ys : List X) → take (length xs) (xs ++ ys) ≡ xs
-take_front [] [] = refl
-take_front [] (y ∷ ys) = refl
-take_front (x ∷ xs) ys = ap (λ zs. x ∷ zs) (take_front xs ys)
-
-drop_front : {X : Type 0} (xs ys : List X) → drop (length xs) (xs ++ ys) ≡ ys
-drop_front [] [] = refl
-drop_front [] (y ∷ ys) = refl
-drop_front (x ∷ xs) ys = drop_front xs ys
-
 at_front : (xs ys : List ℕ) (c : ℕ) → get_or (xs ++ c ∷ ys) (length xs) 0 ≡ c
 at_front [] ys c = refl
 at_front (x ∷ xs) ys c = at_front xs ys c
 
-pub length_taken : {X : Type 0} (k : ℕ) (xs : List X) → k ≤ length xs → length (take k xs) ≡ k
-length_taken zero [] h = refl
-length_taken zero (x ∷ xs) h = refl
-length_taken (suc k) [] h = absurd (omega arith)
-length_taken (suc k) (x ∷ xs) h = ap suc (length_taken k xs (omega arith))
-
 -- the item at an index, and the items after it
-drop_at : (xs : List ℕ) (i x : ℕ) → i < length xs → x ≡ get_or xs i 0 → drop i xs ≡ x ∷ drop (i + 1) xs
-drop_at xs i x h e = let next : i + 1 ≡ suc i = omega arith in rw next (by xs i h e)
-  where
-    start : (ys : List ℕ) → drop 0 ys ≡ ys
-    start [] = refl
-    start (y ∷ ys) = refl
-
-    by : (xs : List ℕ) (i : ℕ) → i < length xs → x ≡ get_or xs i 0 → drop i xs ≡ x ∷ drop (suc i) xs
-    by [] i h e = absurd (omega arith)
-    by (y ∷ ys) zero h e = rw (e, start ys) refl
-    by (y ∷ ys) (suc i) h e = by ys i (omega arith) e
+drop_from : (xs : List ℕ) (i x : ℕ) → i < length xs → x ≡ get_or xs i 0 → drop i xs ≡ x ∷ drop (i + 1) xs
+drop_from xs i x h e = drop_more xs i 0 h ∙ ap (λ c. c ∷ drop (i + 1) xs) (sym e)
 
 -- the items after an index, in the form of a slice
 pub rest_whole : (xs : List ℕ) (n : ℕ) → take (length xs - n) (drop n xs) ≡ drop n xs
 rest_whole xs n = take_all (length xs - n) (drop n xs) (let size = length-drop n xs in omega (arith, size))
 
-drop_all : {X : Type 0} (xs : List X) (i : ℕ) → length xs ≤ i → drop i xs ≡ []
-drop_all [] zero h = refl
-drop_all [] (suc i) h = refl
-drop_all (x ∷ xs) zero h = absurd (omega arith)
-drop_all (x ∷ xs) (suc i) h = drop_all xs i (omega arith)
-
 pub drop_zero : {X : Type 0} (xs : List X) → drop 0 xs ≡ xs
 drop_zero [] = refl
 drop_zero (x ∷ xs) = refl
+
+pub drop_over : (xs : List ℕ) (x : ℕ) (ys : List ℕ) → drop (suc (length xs)) (xs ++ x ∷ ys) ≡ ys
+drop_over [] x ys = drop_zero ys
+drop_over (y ∷ xs) x ys = drop_over xs x ys
 
 -- ---- parts
 
@@ -127,16 +100,16 @@ module _ (beside : List (List ℕ)) (href : List ℕ) (i c : ℕ) (within : i < 
   errors_skip (suc further) less h e so_far =
       let place : i + suc further ≡ i + 1 + further = omega arith in
       let same : less ≡ further = omega (arith, e) in
-      rw same (so_far ∙ ap (λ xs. errors_from beside (i + suc further) (parts_behind (suc further) xs)) (drop_at href i c within at) ∙ ap (λ n. errors_from beside n (parts_behind further (drop (i + 1) href))) place)
+      rw same (so_far ∙ ap (λ xs. errors_from beside (i + suc further) (parts_behind (suc further) xs)) (drop_from href i c within at) ∙ ap (λ n. errors_from beside n (parts_behind further (drop (i + 1) href))) place)
 
   here : AreErrorsFrom beside href i 0 → (n : ℕ) → place_size c (drop (i + 1) href) ≡ n → errors_from beside 0 (parts href) ≡ part_errors beside i (part_of c (drop (i + 1) href) n) ++ errors_from beside (i + part_size (part_of c (drop (i + 1) href) n)) (parts_behind (bytes_behind n) (drop (i + 1) href))
   here so_far n is =
       let start : i + 0 ≡ i = omega arith in
-      rw (start, drop_at href i c within at, is) at so_far
+      rw (start, drop_from href i c within at, is) at so_far
 
   behind : (n : ℕ) → n ≤ length (drop (i + 1) href) → i + part_size (part_of c (drop (i + 1) href) n) ≡ i + 1 + bytes_behind n
   behind zero h = omega arith
-  behind (suc n) h = let size = length_taken (suc n) (drop (i + 1) href) h in omega (arith, size)
+  behind (suc n) h = let size = length-take-le (suc n) (drop (i + 1) href) h in omega (arith, size)
 
   pub errors_step : (n further : ℕ) → place_size c (drop (i + 1) href) ≡ n → part_errors beside i (part_of c (drop (i + 1) href) n) ≡ [] → further ≡ bytes_behind n → AreErrorsFrom beside href i 0 → AreErrorsFrom beside href (i + 1) further
   errors_step n further is fine e so_far =
@@ -226,11 +199,7 @@ seam xs ys c small whole =
     let front = IsUtf8-take all (length xs) whole (IsCharBoundary-before_ascii all (length xs) inside low) in
     let back = IsUtf8-drop all (length xs + 1) whole (IsCharBoundary-after_ascii all (length xs) whole inside low) in
     let next : length xs + 1 ≡ suc (length xs) = omega arith in
-    (rw (take_front xs (c ∷ ys)) at front, rw (next, behind xs) at back)
-  where
-    behind : (xs : List ℕ) → drop (suc (length xs)) (xs ++ c ∷ ys) ≡ ys
-    behind [] = drop_zero ys
-    behind (x ∷ xs) = behind xs
+    (rw (take_at xs (c ∷ ys) (length xs) refl) at front, rw (next, drop_over xs c ys) at back)
 
 part_utf8 : (identity : Elements) (out text : List ℕ) (c n : ℕ) → place_size c text ≡ n → is_inert identity (part_of c text n) ≡ true → IsUtf8 (out ++ (raw (part_of c text n) ++ drop (bytes_behind n) text)) → IsUtf8 ((out ++ stands_for identity (part_of c text n)) ++ drop (bytes_behind n) text)
 part_utf8 identity out text c zero is inert h = rw append_assoc h
@@ -250,22 +219,22 @@ module _ (identity : Elements) (href out new : List ℕ) (i c : ℕ) (within : i
   filled_skip zero less h e so_far = absurd (omega arith)
   filled_skip (suc further) less h e so_far =
       let same : less ≡ further = omega (arith, e) in
-      rw same (so_far ∙ ap (λ xs. out ++ flat_map (stands_for identity) (parts_behind (suc further) xs)) (drop_at href i c within at))
+      rw same (so_far ∙ ap (λ xs. out ++ flat_map (stands_for identity) (parts_behind (suc further) xs)) (drop_from href i c within at))
 
   pub keeps_skip : (further less : ℕ) → 0 < further → less ≡ further - 1 → KeepsTo href out i further → KeepsTo href out (i + 1) less
   keeps_skip zero less h e so_far = absurd (omega arith)
   keeps_skip (suc further) less h e so_far =
       let same : less ≡ further = omega (arith, e) in
-      rw same (rw (drop_at href i c within at) at so_far)
+      rw same (rw (drop_from href i c within at) at so_far)
 
   pub filled_step : (n further : ℕ) → place_size c (drop (i + 1) href) ≡ n → further ≡ bytes_behind n → new ≡ out ++ stands_for identity (part_of c (drop (i + 1) href) n) → IsFilledTo identity href out i 0 → IsFilledTo identity href new (i + 1) further
   filled_step n further is e added so_far =
       so_far
-      ∙ ap (λ xs. out ++ flat_map (stands_for identity) (parts_behind 0 xs)) (drop_at href i c within at)
+      ∙ ap (λ xs. out ++ flat_map (stands_for identity) (parts_behind 0 xs)) (drop_from href i c within at)
       ∙ rw (is, e, added) (sym (append_assoc out (stands_for identity (part_of c (drop (i + 1) href) n)) (flat_map (stands_for identity) (parts_behind (bytes_behind n) (drop (i + 1) href)))))
 
   whole : (n : ℕ) → place_size c (drop (i + 1) href) ≡ n → KeepsTo href out i 0 → (filter is_delimiter (out ++ (raw (part_of c (drop (i + 1) href) n) ++ drop (bytes_behind n) (drop (i + 1) href))) ≡ filter is_delimiter href) × (is_utf8 href ≡ true → is_utf8 (out ++ (raw (part_of c (drop (i + 1) href) n) ++ drop (bytes_behind n) (drop (i + 1) href))) ≡ true)
-  whole n is so_far = rw (cut_of c (drop (i + 1) href) n is, ← drop_at href i c within at, ← drop_zero (drop i href)) so_far
+  whole n is so_far = rw (cut_of c (drop (i + 1) href) n is, ← drop_from href i c within at, ← drop_zero (drop i href)) so_far
 
   pub keeps_step : (n further : ℕ) → place_size c (drop (i + 1) href) ≡ n → further ≡ bytes_behind n → new ≡ out ++ stands_for identity (part_of c (drop (i + 1) href) n) → is_inert identity (part_of c (drop (i + 1) href) n) ≡ true → KeepsTo href out i 0 → KeepsTo href new (i + 1) further
   keeps_step n further is e added inert so_far =

@@ -84,12 +84,12 @@ pub fn expand(alloc: Global, href: &[u8], identity: &Identity) -> Result<Text, M
 {
     let mut out = Vec::with_capacity(alloc, href.len())?;
     let mut further = 0;
-    for i in 0..href.len() {
+    for (i, byte) in href.iter().enumerate() {
         if 0 < further {
             further -= 1;
             continue;
         }
-        further = append_part(&mut out, href[i], &href[i + 1..], identity)?;
+        further = append_part(&mut out, *byte, &href[i + 1..], identity)?;
     }
     Ok(Text::from_vec(out))
 }

@@ -119,12 +119,12 @@ pub fn places_ok(table: &AiTable, key: &[u8], href: &[u8]) -> Result<(), PlaceFa
 {
     let qualifiers = qualifiers_of(table, key);
     let mut further = 0;
-    for i in 0..href.len() {
+    for (i, byte) in href.iter().enumerate() {
         if 0 < further {
             further -= 1;
             continue;
         }
-        further = judge(key, qualifiers, i, href[i], &href[i + 1..])?;
+        further = judge(key, qualifiers, i, *byte, &href[i + 1..])?;
     }
     Ok(())
 }
