@@ -1,15 +1,16 @@
 -- A value that fits each of its parts has no error other than its length, and any other value has one.
-use Rattle.std.proofs.Common.{◌≡◌, ℕ, ◌+◌, ◌-◌, ◌%◌, ◌&&◌, not, Bool, true, false, if◌then◌else◌, List, [], ◌∷◌, take, drop, Some, None, bytes_eq, refl, sym, ap, ◌∙◌, inl, inr, arith}
+use Rattle.std.proofs.Common.{◌≡◌, ℕ, ◌+◌, ◌-◌, ◌%◌, ◌≤◌, ◌&&◌, not, nat_le, Bool, true, false, if◌then◌else◌, List, [], ◌∷◌, length, take, drop, Some, None, bytes_eq, refl, sym, ap, ◌∙◌, inl, inr, arith}
 use Rattle.std.specs.List.{list_all}
 use Rattle.std.proofs.lemmas.Bool.Decides.{nat_tests}
-use Rattle.std.proofs.lemmas.List.{take-append-drop}
+use Rattle.std.proofs.lemmas.List.{take-append-drop, take_all}
 use Rattle.std.proofs.lemmas.List.Folds.{list_all-append}
+use Rattle.std.proofs.lemmas.List.Sums.{sum_by-cons}
 use Rattle.gs_chars.proofs.TruthsAndLists.{and_first, and_second, and_true, equal_bytes, true_or_false}
 use Rattle.gs_chars.specs.Characters.{are_digits, is_digit}
 use Rattle.gs_chars.specs.CheckDigits.{check_digit_of, weighted_sum}
 use Rattle.gs_ai.specs.declared.part.Part.{Part}
-use Rattle.gs_ai.specs.Parts.{greatest_length, is_of_part}
-use Rattle.gs_ai.specs.Values.{is_checked, keeps_check, keeps_date, pieces, wrong_character}
+use Rattle.gs_ai.specs.Parts.{greatest_length, is_of_part, least_length}
+use Rattle.gs_ai.specs.Values.{greatest_of, is_checked, keeps_check, keeps_date, least_of, parts_error, pieces, wrong_character}
 use Rattle.gs_ai.specs.ValuesSupport.{each_fits, fits}
 use Rattle.gs_ai.proofs.PartLemmas.{neither, not_mapped, wrong-cons, wrong_in}
 use Rattle.gs_ai.proofs.Searches.{cons_none, position-cons}
@@ -103,3 +104,24 @@ date_wrong parts value h e f = elim (true_or_false (list_all keeps_date (pieces 
   | inl t ↦ absurd (let g = fitting parts value e f t in let bad : true ≡ false = sym g ∙ h in cc)
   | inr t ↦ t
 ]
+
+-- ---- one part
+
+-- a value of a length that the only part allows, which fits it, has no error
+pub only_fits : (parts : List Part) (p : Part) (others : List Part) (value : List ℕ) → parts ≡ p ∷ others → length others ≡ 0 → least_length p ≤ length value → length value ≤ greatest_length p → fits p value ≡ true → parts_error parts value ≡ None
+only_fits parts p (q ∷ others) value e none low high fit = absurd (omega arith)
+only_fits parts p [] value e none low high fit =
+    let whole : take (greatest_length p) value ≡ value = take_all (greatest_length p) value high in
+    let each : each_fits (p ∷ []) value ≡ true = rw (whole, fit) refl in
+    let all = kept (p ∷ []) value each in
+    let least : least_of (p ∷ []) ≡ least_length p = sum_by-cons least_length p [] ∙ plus_none (least_length p) in
+    let greatest : greatest_of (p ∷ []) ≡ greatest_length p = sum_by-cons greatest_length p [] ∙ plus_none (greatest_length p) in
+    let above : nat_le (least_of (p ∷ [])) (length value) ≡ true = rw least (is_at_most (least_length p) (length value) low) in
+    let below : nat_le (length value) (greatest_of (p ∷ [])) ≡ true = rw greatest (is_at_most (length value) (greatest_length p) high) in
+    rw e (rw (above, below, all.characters, all.checks, all.dates) refl)
+  where
+    plus_none : (n : ℕ) → n + 0 ≡ n
+    plus_none n = omega arith
+
+    is_at_most : (m n : ℕ) → m ≤ n → nat_le m n ≡ true
+    is_at_most m n h = grind (arith, nat_tests)

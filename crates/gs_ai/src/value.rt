@@ -144,6 +144,20 @@ fn keep_checks(parts: &[Part], value: &[u8]) -> bool
     kept && keep_checks(others, rest)
 }
 
+/// Returns whether there is one part, and the value has no error by it.
+fn fits_only_part(parts: &[Part], value: &[u8]) -> bool
+    requires { list_all is_part parts.now ≡ true }
+    ensures { IsTrue result → parts_error parts.now value.now ≡ None }
+{
+    let Some((part, others)) = parts.split_first() else {
+        return false;
+    };
+    if !others.is_empty() || value.len() < part.least() || part.greatest() < value.len() {
+        return false;
+    }
+    fits(*part, value)
+}
+
 /// Checks the value against at most three parts, each one of the list. Returns the first error: `Length`, `Char`, `Check`,
 /// `Date`, in this order.
 pub fn parts_ok(parts: &[Part], value: &[u8]) -> Result<(), ValueFault>
@@ -152,6 +166,10 @@ pub fn parts_ok(parts: &[Part], value: &[u8]) -> Result<(), ValueFault>
     ensures ok { OnOk result (parts_error parts.now value.now ≡ None) }
     ensures err { IfErr result (λ e. parts_error parts.now value.now ≡ Some e) }
 {
+    // most values have one part
+    if fits_only_part(parts, value) {
+        return Ok(());
+    }
     if value.len() < least_length_of(parts) || greatest_length_of(parts) < value.len() {
         return Err(ValueFault::Length);
     }

@@ -4,7 +4,7 @@ use Rattle.std.specs.List.{after_first, before_first, list_any, position_or_len}
 use Rattle.std.specs.Prelude.{option_and_then}
 use Rattle.std.specs.Option.{MatchOption}
 use Rattle.std.proofs.lemmas.Bool.Decides.{nat_tests}
-use Rattle.std.proofs.lemmas.List.{get_or-drop}
+use Rattle.std.proofs.lemmas.List.{get_or-drop, take_all}
 use Rattle.memchr.specs.Find.{IsLastByte, NoneAfter, Nowhere, Passes}
 use Rattle.gs_chars.proofs.TruthsAndLists.{false_from, or_second, true_or_false}
 use Rattle.gs_dlink.specs.Uris.{authority_end, authority_from, ends_authority, is_slash, scheme_end, part_pairs, pieces_behind, query_pairs, query_parts, segments, separates_parts, Written}
@@ -132,11 +132,6 @@ no_segments at path h = no_pieces is_slash at path h
 
 -- ---- lengths
 
-pub length_take : {X : Type 0} (n : ℕ) (xs : List X) → n ≤ length xs → length (take n xs) ≡ n
-length_take zero xs h = refl
-length_take (suc n) [] h = absurd (omega arith)
-length_take (suc n) (x ∷ xs) h = ap suc (length_take n xs (omega arith))
-
 pub few_taken : {X : Type 0} (n : ℕ) (xs : List X) → length (take n xs) ≤ length xs
 few_taken zero xs = omega arith
 few_taken (suc n) [] = omega arith
@@ -175,14 +170,8 @@ parts_end at query h = rw (pieces_end at query h) (append-nil _)
 
 -- ---- the rest of a text
 
-pub take_all : {X : Type 0} (xs : List X) (n : ℕ) → length xs ≤ n → take n xs ≡ xs
-take_all [] zero h = refl
-take_all [] (suc n) h = refl
-take_all (x ∷ xs) zero h = absurd (omega arith)
-take_all (x ∷ xs) (suc n) h = ap (λ ys. x ∷ ys) (take_all xs n (omega arith))
-
 pub rest_taken : {X : Type 0} (n : ℕ) (xs : List X) → take (length xs - n) (drop n xs) ≡ drop n xs
-rest_taken n xs = take_all (drop n xs) (length xs - n) (omega (arith, length-drop n xs))
+rest_taken n xs = take_all (length xs - n) (drop n xs) (omega (arith, length-drop n xs))
 
 -- ---- the loop over a query
 

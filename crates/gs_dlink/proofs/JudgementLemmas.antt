@@ -1,7 +1,7 @@
 -- The result for a pair, and for pairs, by the rows that were found.
 use Rattle.std.proofs.Common.{◌≡◌, ◌≢◌, ℕ, zero, suc, ◌+◌, ◌<◌, ◌≤◌, true, false, List, [], ◌∷◌, ◌++◌, length, map, take, find, position, slice_get, get_or, Option, Some, None, option_map, All, refl, sym, ap, ◌∙◌, inl, inr, arith}
 use Rattle.std.specs.Prelude.{Result, Ok, Err}
-use Rattle.std.proofs.lemmas.List.{map-append}
+use Rattle.std.proofs.lemmas.List.{map-append, take_all}
 use Rattle.std.proofs.lemmas.List.Elements.{All-cons, All-nil}
 use Rattle.percent_encoding.specs.Percent.{percent_decode}
 use Rattle.gs_chars.proofs.TruthsAndLists.{equal_bytes, read_at, true_or_false}
@@ -19,7 +19,6 @@ use Rattle.gs_dlink.specs.declared.error.LinkFault.TheVariants.{Element, Memory}
 use Rattle.gs_dlink.specs.Answers.{error_in, then_pairs, written_answer}
 use Rattle.gs_dlink.specs.AnswersSupport.{OrMemory}
 use Rattle.gs_dlink.specs.Uris.{Written}
-use Rattle.gs_dlink.proofs.CutLemmas.{take_all}
 use Rattle.gs_dlink.specs.Values.{are_escapes, by_row, by_value, padded, pair_answer, value_of}
 use Rattle.gs_dlink.specs.ValuesSupport.{unescaped}
 use Rattle.gs_dlink.proofs.PlainValues.{spelled}
@@ -103,7 +102,7 @@ module _ (table : List AiRow) where
         ap (λ zs. written_answer table (map f zs)) split.2 ∙ ap (written_answer table) (map-append f (take i xs) (get_or xs i d ∷ [])) ∙ answer_append (map f (take i xs)) (f (get_or xs i d) ∷ []) ps so_far (p ∷ []) one ∙ ap Ok (sym e)
 
 pub all_pairs : {X : Type 0} (table : List AiRow) (f : X → Written) (xs : List X) (i : ℕ) (ps : List Pair) → length xs ≤ i → written_answer table (map f (take i xs)) ≡ Ok ps → OrMemory (Ok ps) (written_answer table (map f xs))
-all_pairs table f xs i ps all h = inr (sym (rw (take_all xs i all) at h))
+all_pairs table f xs i ps all h = inr (sym (rw (take_all i xs all) at h))
 
 -- ---- the answer of a public call
 

@@ -1,7 +1,7 @@
 -- The key path in which segments end: there is at most one.
 use Rattle.std.proofs.Common.{◌≡◌, ℕ, zero, suc, ◌+◌, ◌-◌, ◌≤◌, ◌||◌, Bool, true, false, List, [], ◌∷◌, ◌++◌, length, map, take, drop, find, slice_get, Option, Some, None, option_map, bytes_eq, refl, sym, ap, ◌∙◌, arith, ◌⊎◌, inl, inr, true≢false, append_assoc, reverse, take-append-drop}
 use Rattle.std.specs.List.{list_any}
-use Rattle.std.proofs.lemmas.List.{reverse-append}
+use Rattle.std.proofs.lemmas.List.{length-take-le, reverse-append}
 use Rattle.gs_chars.proofs.TruthsAndLists.{and_first, and_second, equal_bytes, or_first, or_second, true_or_false}
 use Rattle.gs_ai.specs.declared.row.AiRow.{AiRow}
 use Rattle.gs_ai.specs.Tables.{KeepsRules, is_key_of}
@@ -9,7 +9,7 @@ use Rattle.gs_ai.specs.Values.{has_code}
 use Rattle.gs_dlink.specs.Paths.{IsKeyPath, codes_of, is_in_order, is_key_path, key_path, listed_of, paired, path_or}
 use Rattle.gs_dlink.specs.Uris.{Piece, Written, segments}
 use Rattle.gs_dlink.specs.UrisSupport.{LastSlash, NoSlash}
-use Rattle.gs_dlink.proofs.CutLemmas.{few_taken, length_take, no_segments, rest_taken, segments_last}
+use Rattle.gs_dlink.proofs.CutLemmas.{few_taken, no_segments, rest_taken, segments_last}
 
 -- ---- segments in pairs
 
@@ -194,7 +194,7 @@ module _ (table : List AiRow) (rules : KeepsRules table) (at : ℕ) (path front 
 
   two_behind : (value code : ℕ) → LastSlash front value → LastSlash (take value front) code → (u : List Piece) × (segments at path ≡ segments at (take code (take value front)) ++ u) × (paired u ≡ Some (last_pair value code ∷ pairs))
   two_behind value code last before =
-      let low : length (take code (take value front)) ≡ code = length_take code (take value front) (let w = before.within in omega arith) in
+      let low : length (take code (take value front)) ≡ code = length-take-le code (take value front) (let w = before.within in omega arith) in
       let c : Piece = record { at = at + length (take code (take value front)) + 1; text = drop (code + 1) (take value front) } in
       let v : Piece = record { at = at + length (take value front) + 1; text = drop (value + 1) front } in (
         c ∷ (v ∷ walked.behind),

@@ -2,6 +2,7 @@
 use Rattle.std.proofs.Common.{◌≡◌, ℕ, ◌+◌, ◌≤◌, true, false, List, ◌++◌, length, take, drop, Option, Some, None, All, refl, sym, ap, ◌∙◌, inl, inr}
 use Rattle.std.specs.Prelude.{Result, Ok, Err}
 use Rattle.std.specs.List.{position_or_len}
+use Rattle.std.proofs.lemmas.List.{length-take-le}
 use Rattle.gs_chars.proofs.TruthsAndLists.{true_or_false}
 use Rattle.gs_ai.specs.declared.pair.Pair.{Pair}
 use Rattle.gs_ai.specs.declared.row.AiRow.{AiRow}
@@ -13,7 +14,6 @@ use Rattle.gs_dlink.specs.AnswersSupport.{OrMemory}
 use Rattle.gs_dlink.specs.Paths.{key_path}
 use Rattle.gs_chars.specs.Characters.{is_byte}
 use Rattle.gs_dlink.specs.Uris.{authority_end, path_of, query_of, query_pairs, segments, Written}
-use Rattle.gs_dlink.proofs.CutLemmas.{length_take}
 use Rattle.gs_dlink.proofs.JudgementLemmas.{written_in_order}
 
 module _ (table : List AiRow) (at : ℕ) (text : List ℕ) (hash end : ℕ) (h : hash ≡ position_or_len (is_byte 35) text) (e : end ≡ position_or_len (is_byte 63) (take hash text)) where
@@ -39,7 +39,7 @@ module _ (table : List AiRow) (at : ℕ) (text : List ℕ) (hash end : ℕ) (h :
   pairs_found found all rest result within rooted some behind both answer =
       let g = rw path_is at rooted in
       let k = rw path_is at some in
-      let size : length (path_of text) ≡ end = ap length (sym path_is) ∙ length_take end (take hash text) within in
+      let size : length (path_of text) ≡ end = ap length (sym path_is) ∙ length-take-le end (take hash text) within in
       let query : rest ≡ query_of text = behind ∙ query_is in
       let own = rw (both, query) at answer in
       rw (g, ← k, size) own

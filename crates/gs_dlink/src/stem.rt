@@ -1,4 +1,4 @@
-ghost use Rattle.std.specs.Prelude.{◌≡◌, ◌++◌, true, IfOk, OnErr, option_map, IsTrue};
+ghost use Rattle.std.specs.Prelude.{◌≡◌, ◌++◌, true, IfOk, OnErr};
 ghost use Rattle.gs_chars.specs.Answers.{BeginsWith};
 ghost use Rattle.gs_ident.specs.Links.{spelled};
 ghost use Rattle.gs_dlink.specs.Stems.{are_stem_bytes, begins_authority, ends_in_slash, stem_ok};

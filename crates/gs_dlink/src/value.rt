@@ -112,11 +112,11 @@ fn begins_hex(text: &[u8]) -> bool
 }
 
 /// Returns whether each percent sign of the text begins an escape.
-pub(crate) fn are_escapes(text: &[u8]) -> bool
+fn are_escapes(text: &[u8]) -> bool
     ensures { result ≡ are_escapes text.now }
 {
-    for i in 0..text.len() {
-        if text[i] == b'%' && !begins_hex(&text[i + 1..]) {
+    for (i, c) in text.iter().enumerate() {
+        if *c == b'%' && !begins_hex(&text[i + 1..]) {
             return false;
         }
     }

@@ -7,7 +7,7 @@ ghost use Rattle.gs_ident.specs.Room.{room_of_pair, room_of_pairs};
 
 use crate::pairs::stands_for_none;
 use gs_ai::{AiTable, Pair};
-use gs_chars::{List, Memory, Text};
+use gs_chars::{List, Memory};
 use std::alloc::Global;
 use std::marker::Model;
 

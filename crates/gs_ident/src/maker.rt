@@ -15,7 +15,7 @@ use crate::pairs::{
     find_contradiction, is_none_text, keep_others, move_listed, sort_pairs, stands_for_none,
 };
 use gs_ai::{AiRow, AiTable, Pair};
-use gs_chars::{Memory, Text};
+use gs_chars::Text;
 use std::alloc::Global;
 
 /// Returns the codes that the row lists as qualifiers. The row is one of the table.
@@ -28,17 +28,18 @@ fn listed_codes(table: &AiTable, row: usize) -> &[Text]
     table.rows()[row].qualifiers.items()
 }
 
-/// Makes the identity of the first key and of the pairs around it, which agree. The pairs are moved.
+/// Makes the identity of the first key and of the pairs around it, which agree. The pairs are moved. Fails only with `Memory`.
 #[tactic(auto, unfolding(crate::specs::Identities::elements_of))]
 fn elements_of(
     alloc: Global,
     table: &AiTable,
     pairs: Vec<Pair>,
     first: KeyPlace,
-) -> Result<Identity, Memory>
+) -> Result<Identity, IdentFault>
     requires agree { Agree pairs.items }
     requires first { HasFirstKey table.now pairs.items first }
-    ensures { IfOk result (HasElements table.now pairs.items first.pair) }
+    ensures elements { IfOk result (HasElements table.now pairs.items first.pair) }
+    ensures memory { IfErr result (λ error. error ≡ IdentFault.Memory) }
 {
     let mut others = pairs;
     let key = others.swap_remove(first.pair);
@@ -107,24 +108,24 @@ pub fn make(alloc: Global, table: &AiTable, pairs: Vec<Pair>) -> Result<Identity
     let mut counted = pairs;
     let keys = keys_of_counted(table, &mut counted);
     let first = only_key(alloc, table, counted.as_slice(), keys)?;
-    Ok(elements_of(alloc, table, counted, first)?)
+    elements_of(alloc, table, counted, first)
 }
 
 /// The place of a pair with the code of a key, and the index of the key's row.
 #[derive(Clone, Copy)]
-pub struct KeyPlace {
-    pub pair: usize,
-    pub row: usize,
+struct KeyPlace {
+    pair: usize,
+    row: usize,
 }
 
 /// The keys among pairs, and whether a value means none, by one look at the row of each pair.
 #[derive(Clone, Copy)]
-pub struct Keys {
-    pub with_none: bool,
+struct Keys {
+    with_none: bool,
     /// The first pair with the code of a key.
-    pub first: Option<KeyPlace>,
+    first: Option<KeyPlace>,
     /// The place of the first pair with the code of another key.
-    pub other: Option<usize>,
+    other: Option<usize>,
 }
 
 /// Returns whether an earlier value meant none, or this one does.

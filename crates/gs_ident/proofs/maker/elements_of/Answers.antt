@@ -7,8 +7,8 @@ use Rattle.gs_ident.proofs.MovedPairs.{elements_moved, swapped_out}
 use Rattle.gs_ident.proofs.PairLemmas.{found_passes}
 use Rattle.gs_ident.proofs.maker.elements_of.Goals as goal
 
-pub returns : goal.returns
-returns c = λ key there.
+pub returns-clause-elements : goal.returns-clause-elements
+returns-clause-elements c = λ key there.
     let pairs = c.args.pairs.items in
     let table = c.args.table.now in
     let place = c.args.first.pair in
