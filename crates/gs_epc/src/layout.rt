@@ -9,7 +9,7 @@ ghost use Rattle.gs_epc.specs.LayoutSupport.{serial_pairs};
 ghost use Rattle.gs_epc.specs.declared.epc.Epc.{Epc};
 
 use crate::epc::{Epc, KeyTexts, texts_in};
-use crate::key_parts::joined;
+use crate::key_parts::{joined, parts_at};
 use gs_ai::{AiTable, Pair, Part};
 use gs_chars::{Memory, Text, check_digit};
 use gs_ident::Identity;
@@ -116,10 +116,9 @@ fn key_value(alloc: Global, ais: &AiTable, kind: &Kind, texts: &KeyTexts) -> Res
     ensures { IfOk result (λ value. value
         ≡ key_value (parts_at ais.now kind.now.key) kind.now texts.now) }
 {
-    let Some(row) = ais.row_with(kind.key.as_bytes()) else {
-        unreachable!()
-    };
-    let parts = row.parts.items();
+    // only for the proof: the rows satisfy the rules of application identifiers
+    let _ = ais.rows();
+    let parts = parts_at(ais, kind.key.as_bytes());
     if are_characters(parts) {
         return joined(alloc, texts.prefix, texts.rest);
     }

@@ -110,7 +110,7 @@ same_hex set text one other t u a b = elim (hex_case set text one t a) as (λ _.
 
 -- ---- at most one meaning of a text
 
-same_laid : (set : TableRows) (epc epc' : Epc) (one other : Elements) → epc ≡ epc' → IsLaidOut set epc one → IsLaidOut set epc' other → one ≡ other
+pub same_laid : (set : TableRows) (epc epc' : Epc) (one other : Elements) → epc ≡ epc' → IsLaidOut set epc one → IsLaidOut set epc' other → one ≡ other
 same_laid set epc epc' one other e a b =
     let kind = same_at set.kinds epc.kind epc'.kind a.kind b.kind a.named b.named (ap (λ (x : Epc). x.kind) e) in
     a.laid ∙ ap (λ (x : Epc). lay set.ais a.kind (fields_in x)) e ∙ ap (λ k. lay set.ais k (fields_in epc')) kind ∙ sym b.laid

@@ -1,5 +1,6 @@
--- An EPC that is written in another level: the identity that it names, taken apart, gives its fields back.
-use Rattle.std.proofs.Common.{◌≡◌, ℕ, ◌==◌, ◌+◌, ◌<◌, ◌≤◌, ◌&&◌, ◌||◌, Bool, true, false, not, length, List, [], ◌∷◌, ◌++◌, Some, None, find, map, position, slice_get, take, refl, sym, ap, subst, ◌∙◌, arith}
+-- An EPC that is written in another form: the identity that it names, taken apart, gives its fields back, and has nothing but its
+-- key and its serial.
+use Rattle.std.proofs.Common.{◌≡◌, ℕ, ◌==◌, ◌+◌, ◌<◌, ◌≤◌, ◌&&◌, ◌||◌, Bool, true, false, not, length, List, [], ◌∷◌, ◌++◌, Some, None, filter, find, map, position, slice_get, take, refl, sym, ap, subst, ◌∙◌, arith}
 use Rattle.std.specs.Prelude.{Result, Ok, Err, if◌then◌else◌}
 use Rattle.std.specs.List.{list_any}
 use Rattle.std.specs.Option.{option_map_or}
@@ -11,8 +12,9 @@ use Rattle.gs_ai.specs.declared.pair.Pair.{Pair}
 use Rattle.gs_ai.specs.declared.row.AiRow.{AiRow}
 use Rattle.gs_ai.specs.Values.{has_code}
 use Rattle.gs_ai.proofs.RuleLemmas.{none_at}
-use Rattle.gs_ai.proofs.Searches.{position-map, position_is}
-use Rattle.gs_ident.specs.Elements.{Elements}
+use Rattle.gs_ai.proofs.Searches.{find_at_place, position-map, position_is}
+use Rattle.gs_ident.specs.Elements.{Elements, is_coded}
+use Rattle.gs_ident.specs.ElementsSupport.{elements_with}
 use Rattle.gs_ident.specs.Identities.{stands_for_none}
 use Rattle.gs_ident.proofs.MovedPairs.{any_at}
 use Rattle.gs_prefix.specs.declared.entry.PrefixEntry.{PrefixEntry}
@@ -32,25 +34,27 @@ use Rattle.gs_epc.specs.declared.epc.Epc.{Epc}
 use Rattle.gs_epc.specs.declared.error.EpcFault.{EpcFault}
 use Rattle.gs_epc.specs.declared.error.EpcWriteFault.TheVariants as write
 use Rattle.gs_epc.specs.Epcs.{IsOfSet}
-use Rattle.gs_epc.specs.Layout.{IsLaidOut, fields_in, lay, serial_elements}
+use Rattle.gs_epc.specs.Layout.{IsLaidOut, fields_in, key_pair, lay, serial_elements}
 use Rattle.gs_epc.specs.Writes.{ReadsText, WritesAs}
 use Rattle.gs_epc.proofs.KeptLaws.{fit_kind}
 use Rattle.gs_epc.proofs.LaidLaws.{no_kinds}
 use Rattle.gs_epc.proofs.TakenSets.{apart}
 use Rattle.gs_translate.specs.declared.reader.Meaning.{Meaning}
 use Rattle.gs_translate.specs.declared.form.Options.{Options}
+use Rattle.gs_translate.specs.declared.form.PairsForm.{PairsForm}
+use Rattle.gs_translate.specs.declared.form.PairsForm.TheVariants as pairs
+use Rattle.gs_translate.specs.declared.form.Target.{Target}
 use Rattle.gs_translate.specs.declared.reason.Reason.{Reason}
 use Rattle.gs_translate.specs.declared.reason.Reason.TheVariants.{Long}
-use Rattle.gs_translate.specs.Meanings.{epc_meaning, short, too_long}
+use Rattle.gs_translate.specs.Meanings.{IsRead, epc_meaning, short, too_long}
 use Rattle.gs_translate.specs.MeaningsSupport.{epc_reason}
-use Rattle.gs_translate.specs.Recodings.{form_at, target_at}
-use Rattle.gs_translate.specs.Steps.{Reworded, Then, UnlessMemory, goes_on, rejects}
-use Rattle.gs_translate.specs.Targets.{epc_for, has_option, is_option_of, is_serial, kind_for, length_for, with_tag}
+use Rattle.gs_translate.specs.Recodings.{IsRecoded, form_at, pairs_target, pairs_text, target_at}
+use Rattle.gs_translate.specs.Steps.{AppendsText, Reworded, Then, UnlessMemory, goes_on, rejects}
+use Rattle.gs_translate.specs.Targets.{epc_for, has_option, is_option_of, is_serial, kept, key_and_serial, kind_for, length_for, narrowed, with_tag}
 use Rattle.gs_translate.specs.Targets as targets
 use Rattle.gs_translate.specs.Translations.{IsOfLevel, IsSpelling, IsTranslation, write_reason}
 use Rattle.gs_translate.proofs.EpcTexts.{means_at, none_read}
-use Rattle.gs_translate.proofs.FilterLaws.{kept_whole}
-use Rattle.gs_translate.proofs.StepLaws.{unless_rejected}
+use Rattle.gs_translate.proofs.StepLaws.{appends_map, then_appended, unless_map, unless_rejected}
 
 -- ---- a kind is the first that has its key
 
@@ -156,7 +160,7 @@ module _ (set : TableRows) (prefixes : List PrefixEntry) (options : Options) (ep
       let back = apart set epc identity shaped of laid in
       rw (own_kind, own_length, back) refl
 
--- ---- translations
+-- ---- the spelling of an EPC
 
 of_first : {A B : Type 0} (First Other : Result A Reason → Type 0) (Next : A → Result B Reason → Type 0) (answer : Result B Reason) → ((a : Result A Reason) → First a → Other a) → Then First Next answer → Then Other Next answer
 of_first First Other Next answer f (rejects error first is) = rejects error (f (Err error) first) is
@@ -167,26 +171,74 @@ spelled_at set prefixes options level.Binary meaning answer h = h
 spelled_at set prefixes options level.Tag meaning answer h = h
 spelled_at set prefixes options level.Pure meaning answer h = h
 
--- what is written of the EPC of a text is the translation of the text, by the identity that the EPC names
-pub recoded : (set : TableRows) (prefixes : List PrefixEntry) (options : Options) (from to : LevelName) (text : List ℕ) (epc : Epc) (answer : Result (List ℕ) Reason) → IsShaped set → options.keys_only ≡ false → length text ≤ longest_text → ReadsText set from text (Ok epc) → IsOfSet set epc
-    → (identity : Elements) × (Then (λ tagged. tagged ≡ with_tag options to (epc_meaning epc identity) epc) (λ tagged. Reworded write.Memory write_reason (WritesAs set to tagged)) answer → IsTranslation set prefixes options (form_at from) (target_at to) text answer)
-recoded set prefixes options from to text epc answer shaped whole few read of =
+pub appended_at : {Done : Type 0} (set : TableRows) (prefixes : List PrefixEntry) (options : Options) (to : LevelName) (meaning : Meaning) (before now : List ℕ) (result : Result Done Reason)
+    → UnlessMemory result (AppendsText (IsOfLevel set prefixes options to meaning) before now result) → UnlessMemory result (AppendsText (IsSpelling set prefixes options (target_at to) meaning) before now result)
+appended_at set prefixes options to meaning before now result appended =
+    unless_map result (appends_map (IsOfLevel set prefixes options to meaning) (IsSpelling set prefixes options (target_at to) meaning) before now result (spelled_at set prefixes options to meaning)) appended
+
+-- the text of a level for an EPC is the spelling of its meaning
+recoded_spelled : (set : TableRows) (prefixes : List PrefixEntry) (options : Options) (to : LevelName) (epc : Epc) (identity : Elements) (answer : Result (List ℕ) Reason) → IsShaped set → IsOfSet set epc → IsLaidOut set epc identity → IsRecoded set options to epc identity answer → IsSpelling set prefixes options (target_at to) (epc_meaning epc identity) answer
+recoded_spelled set prefixes options to epc identity answer shaped of laid written =
+    let meaning = epc_meaning epc identity in
+    let back = own_epc set prefixes options epc identity shaped of laid to in
+    spelled_at set prefixes options to meaning answer (of_first (λ tagged. tagged ≡ with_tag options to meaning epc) (λ tagged. tagged ≡ epc_for set prefixes options to meaning) (λ tagged. Reworded write.Memory write_reason (WritesAs set to tagged)) answer (λ tagged is. is ∙ sym back) written)
+
+pub appended_recoded : {Done : Type 0} (set : TableRows) (prefixes : List PrefixEntry) (options : Options) (to : LevelName) (epc : Epc) (identity : Elements) (before now : List ℕ) (result : Result Done Reason) → IsShaped set → IsOfSet set epc → IsLaidOut set epc identity
+    → UnlessMemory result (AppendsText (IsRecoded set options to epc identity) before now result) → UnlessMemory result (AppendsText (IsSpelling set prefixes options (target_at to) (epc_meaning epc identity)) before now result)
+appended_recoded set prefixes options to epc identity before now result shaped of laid appended =
+    unless_map result (appends_map (IsRecoded set options to epc identity) (IsSpelling set prefixes options (target_at to) (epc_meaning epc identity)) before now result (λ answer written. recoded_spelled set prefixes options to epc identity answer shaped of laid written)) appended
+
+-- the text of an identity is the spelling of a meaning with it
+pub pairs_spelled : (set : TableRows) (prefixes : List PrefixEntry) (options : Options) (to : PairsForm) (meaning : Meaning) → IsSpelling set prefixes options (pairs_target to) meaning (Ok (pairs_text options to meaning.identity))
+pairs_spelled set prefixes options pairs.Raw meaning = refl
+pairs_spelled set prefixes options pairs.Bracketed meaning = refl
+pairs_spelled set prefixes options pairs.Link meaning = refl
+pairs_spelled set prefixes options pairs.Canon meaning = refl
+
+-- ---- the identity of an EPC has no more than its key and its serial
+
+own_kept : (code : List ℕ) (pair : Pair) (none : Bool) → pair.code ≡ code → filter (is_coded code) (if none then [] else pair ∷ []) ≡ (if none then [] else pair ∷ [])
+own_kept code pair true same = refl
+own_kept code pair false same = rw (same, same_bytes code) refl
+
+serial_kept : (ais : List AiRow) (at : SerialAt) (key : Pair) (serial : List ℕ) → key_and_serial at (elements_with key (serial_elements ais at serial) []) ≡ elements_with key (serial_elements ais at serial) []
+serial_kept ais Nowhere key serial = refl
+serial_kept ais Tail key serial = refl
+serial_kept ais (Ai code) key serial =
+    ap (λ (q : List Pair). elements_with key q []) (own_kept code (record { code = code; value = serial }) (stands_for_none ais (record { code = code; value = serial })) refl)
+
+narrowed_laid : (set : TableRows) (epc : Epc) (identity : Elements) → IsShaped set → IsLaidOut set epc identity → narrowed set identity ≡ identity
+narrowed_laid set epc identity shaped laid =
+    let first = first_kind set epc.kind laid.kind shaped laid.named in
+    let found : find (targets.has_key laid.kind.key) set.kinds ≡ Some laid.kind = find_at_place (targets.has_key laid.kind.key) set.kinds epc.kind laid.kind first laid.named in
+    rw (laid.laid, found) (serial_kept set.ais laid.kind.serial (key_pair set.ais laid.kind (fields_in epc)) (fields_in epc).serial)
+
+kept_laid : (set : TableRows) (keys_only : Bool) (epc : Epc) (identity : Elements) → IsShaped set → IsLaidOut set epc identity → epc_meaning epc identity ≡ kept set keys_only (epc_meaning epc identity)
+kept_laid set true epc identity shaped laid = ap (epc_meaning epc) (sym (narrowed_laid set epc identity shaped laid))
+kept_laid set false epc identity shaped laid = refl
+
+-- ---- translations
+
+-- what is appended as the spelling of the EPC of a text is the translation of the text, also if only keys are kept
+pub translated : {Done : Type 0} (set : TableRows) (prefixes : List PrefixEntry) (options : Options) (from : LevelName) (to : Target) (text : List ℕ) (epc : Epc) (before now : List ℕ) (result : Result Done Reason) → IsShaped set → length text ≤ longest_text → ReadsText set from text (Ok epc) → IsOfSet set epc
+    → ((identity : Elements) → IsLaidOut set epc identity → UnlessMemory result (AppendsText (IsSpelling set prefixes options to (epc_meaning epc identity)) before now result))
+    → UnlessMemory result (AppendsText (IsTranslation set prefixes options (form_at from) to text) before now result)
+translated set prefixes options from to text epc before now result shaped few read of spelled =
     let kind = fit_kind set epc shaped of in
     let elements = lay set.ais kind.0 (fields_in epc) in
     let laid : IsLaidOut set epc elements = record { kind = kind.0; named = kind.1; laid = refl } in
     let meaning = epc_meaning epc elements in
-    let back = own_epc set prefixes options epc elements shaped of laid to in (
-      elements,
-      λ written.
-          let spelled : IsOfLevel set prefixes options to meaning answer = of_first (λ tagged. tagged ≡ with_tag options to meaning epc) (λ tagged. tagged ≡ epc_for set prefixes options to meaning) (λ tagged. Reworded write.Memory write_reason (WritesAs set to tagged)) answer (λ tagged is. is ∙ sym back) written in
-          goes_on meaning (short few (means_at set from text epc elements read laid))
-          (subst (λ (m : Meaning). IsSpelling set prefixes options (target_at to) m answer) (kept_whole set options.keys_only meaning whole) (spelled_at set prefixes options to meaning answer spelled)),
-    )
+    let whole : UnlessMemory result (AppendsText (IsSpelling set prefixes options to (kept set options.keys_only meaning)) before now result) = subst (λ (m : Meaning). UnlessMemory result (AppendsText (IsSpelling set prefixes options to m) before now result)) (kept_laid set options.keys_only epc elements shaped laid) (spelled elements laid) in
+    then_appended (IsRead set (form_at from) text) (λ m. IsSpelling set prefixes options to (kept set options.keys_only m)) meaning before now result (short few (means_at set from text epc elements read laid)) whole
 
 -- why a text is not read is why it has no translation
-pub long_rejected : (set : TableRows) (prefixes : List PrefixEntry) (options : Options) (from to : LevelName) (text : List ℕ) → longest_text < length text → IsTranslation set prefixes options (form_at from) (target_at to) text (Err Long)
+pub long_rejected : (set : TableRows) (prefixes : List PrefixEntry) (options : Options) (from : LevelName) (to : Target) (text : List ℕ) → longest_text < length text → IsTranslation set prefixes options (form_at from) to text (Err Long)
 long_rejected set prefixes options from to text more = rejects Long (too_long more refl) refl
 
-pub not_read : (set : TableRows) (prefixes : List PrefixEntry) (options : Options) (from to : LevelName) (text : List ℕ) (error : EpcFault) → length text ≤ longest_text → ReadsText set from text (Err error) → UnlessMemory {X = List ℕ} (Err (epc_reason error)) (IsTranslation set prefixes options (form_at from) (target_at to) text (Err (epc_reason error)))
+not_read : (set : TableRows) (prefixes : List PrefixEntry) (options : Options) (from : LevelName) (to : Target) (text : List ℕ) (error : EpcFault) → length text ≤ longest_text → ReadsText set from text (Err error) → UnlessMemory {X = List ℕ} (Err (epc_reason error)) (IsTranslation set prefixes options (form_at from) to text (Err (epc_reason error)))
 not_read set prefixes options from to text error few read =
     unless_rejected Meaning (List ℕ) (epc_reason error) (λ said. rejects (epc_reason error) (short few said) refl) (none_read set from text error read)
+
+pub not_appended : (set : TableRows) (prefixes : List PrefixEntry) (options : Options) (from : LevelName) (to : Target) (text before : List ℕ) (error : EpcFault) → length text ≤ longest_text → ReadsText set from text (Err error) → UnlessMemory {X = Unit {0}} (Err (epc_reason error)) (AppendsText {Done = Unit {0}} (IsTranslation set prefixes options (form_at from) to text) before before (Err (epc_reason error)))
+not_appended set prefixes options from to text before error few read =
+    unless_rejected (List ℕ) (Unit {0}) {B = AppendsText {Done = Unit {0}} (IsTranslation set prefixes options (form_at from) to text) before before (Err (epc_reason error))} (epc_reason error) (λ said. (refl, said)) (not_read set prefixes options from to text error few read)

@@ -98,7 +98,7 @@ unless_rejected X Y Memory f a = tt
 
 -- ---- texts that are appended
 
-appends_map : {Done : Type 0} (Answer Other : Result (List ℕ) Reason → Type 0) (before now : List ℕ) (result : Result Done Reason) → ((answer : Result (List ℕ) Reason) → Answer answer → Other answer) → AppendsText Answer before now result → AppendsText Other before now result
+pub appends_map : {Done : Type 0} (Answer Other : Result (List ℕ) Reason → Type 0) (before now : List ℕ) (result : Result Done Reason) → ((answer : Result (List ℕ) Reason) → Answer answer → Other answer) → AppendsText Answer before now result → AppendsText Other before now result
 appends_map Answer Other before now (Ok done) f a = (a.0, a.1, f (Ok a.0) a.2)
 appends_map Answer Other before now (Err reason) f a = (a.0, f (Err reason) a.1)
 

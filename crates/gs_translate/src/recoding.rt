@@ -1,27 +1,26 @@
-ghost use Rattle.std.specs.Prelude.{◌≡◌, IfOk, IfSome, List, false};
-ghost use Rattle.gs_epc.specs.declared.error.EpcWriteFault.TheVariants as write;
-ghost use Rattle.gs_epc.specs.Candidates.{HasFilterOn};
-ghost use Rattle.gs_epc.specs.Writes.{WritesAs};
+ghost use Rattle.std.specs.Prelude.{◌≡◌, ◌++◌, IfOk, IfSome, List};
+ghost use Rattle.gs_epc.specs.Epcs.{IsOfSet};
+ghost use Rattle.gs_epc.specs.Layout.{IsLaidOut};
 ghost use Rattle.gs_ident.specs.Elements.{Elements};
 ghost use Rattle.gs_prefix.specs.declared.entry.PrefixEntry.{PrefixEntry};
 ghost use Rattle.gs_translate.specs.Meanings.{epc_meaning};
-ghost use Rattle.gs_translate.specs.Recodings.{form_at, target_at};
-ghost use Rattle.gs_translate.specs.Steps.{AppendsText, Reworded, Then, UnlessMemory};
-ghost use Rattle.gs_translate.specs.Targets.{FitsFilter, with_tag};
-ghost use Rattle.gs_translate.specs.Translations.{IsTranslation, write_reason};
+ghost use Rattle.gs_translate.specs.Recodings.{IsRecoded, form_at, pairs_text};
+ghost use Rattle.gs_translate.specs.Steps.{AppendsText, UnlessMemory};
+ghost use Rattle.gs_translate.specs.Targets.{FitsFilter};
+ghost use Rattle.gs_translate.specs.Translations.{AreInOrder, IsSpelling, IsTranslation};
 
-use crate::form::{Form, Options, Target};
+use crate::form::{Form, Options, PairsForm, Target, Written};
 use crate::reason::Reason;
-use crate::spelling::write_epc;
+use crate::spelling::{append_pairs, write_epc, written_as};
 use crate::tag_fields::retagged;
 use crate::words::append_word;
-use gs_chars::{LONGEST_TEXT, Text};
+use gs_chars::{LONGEST_TEXT, Memory, Text};
 use gs_epc::{EpcReading, reading_of};
 use gs_tables::{LevelName, TableSet};
 use std::alloc::Global;
 
 /// Returns the level of the texts of a form, if they are of EPCs.
-fn form_level(form: Form) -> Option<LevelName>
+pub(crate) fn form_level(form: Form) -> Option<LevelName>
     ensures { IfSome result (λ level. form ≡ form_at level) }
 {
     match form {
@@ -29,33 +28,6 @@ fn form_level(form: Form) -> Option<LevelName>
         Form::Tag => Some(LevelName::Tag),
         Form::Pure => Some(LevelName::Pure),
         Form::Raw | Form::Bracketed | Form::Link => None,
-    }
-}
-
-/// Returns the level of the texts of a target, if they are of EPCs.
-fn target_level(to: Target) -> Option<LevelName>
-    ensures { IfSome result (λ level. to ≡ target_at level) }
-{
-    match to {
-        Target::Hex => Some(LevelName::Binary),
-        Target::Tag => Some(LevelName::Tag),
-        Target::Pure => Some(LevelName::Pure),
-        Target::Raw | Target::Bracketed | Target::Link | Target::Canon => None,
-    }
-}
-
-/// Returns the levels of the texts of a form and of a target, if both are of EPCs and more than keys is kept.
-pub(crate) fn levels_of(options: &Options, from: Form, to: Target) -> Option<(LevelName, LevelName)>
-    ensures whole { IfSome result (λ _. options.now.keys_only ≡ false) }
-    ensures from { IfSome result (λ levels. from ≡ form_at levels.0) }
-    ensures to { IfSome result (λ levels. to ≡ target_at levels.1) }
-{
-    if options.keys_only {
-        return None;
-    }
-    match (form_level(from), target_level(to)) {
-        (Some(from), Some(to)) => Some((from, to)),
-        _ => None,
     }
 }
 
@@ -70,27 +42,89 @@ fn write_reading(
     requires options { FitsFilter options.now.filter }
     requires given { FitsFilter reading.now.filter }
     ensures { (identity : Elements) → UnlessMemory result
-        (Then (λ epc. epc ≡ with_tag options.now to (epc_meaning reading.now identity) reading.now)
-        (λ epc. Reworded write.Memory write_reason (WritesAs set.now to epc)) result) }
+        (IsRecoded set.now options.now to reading.now identity result) }
 {
     let epc = retagged(options, to, reading.epc())?;
     write_epc(alloc, set, to, &epc)
 }
 
-/// Returns the text of a level for the EPC of a text of another, or the first reason why there is none. The identity that the
-/// EPC names is not laid out: taken apart, it would give the fields back.
-fn recoded(
+/// Appends the text of a level for an EPC, or gives the first reason why there is none.
+fn append_recoded(
+    alloc: Global,
+    set: &TableSet,
+    options: &Options,
+    to: LevelName,
+    reading: &EpcReading<'_>,
+    out: &mut Vec<u8>,
+) -> Result<(), Reason>
+    requires options { FitsFilter options.now.filter }
+    requires given { FitsFilter reading.now.filter }
+    ensures { (identity : Elements) → UnlessMemory result (AppendsText
+        (IsRecoded set.now options.now to reading.now identity) out.old.items out.new.items result) }
+{
+    let text = write_reading(alloc, set, options, to, reading)?;
+    Ok(append_word(out, text.as_bytes())?)
+}
+
+/// Appends the element string or the link of the identity that an EPC names.
+fn append_laid_out(
+    alloc: Global,
+    set: &TableSet,
+    options: &Options,
+    to: PairsForm,
+    reading: &EpcReading<'_>,
+    out: &mut Vec<u8>,
+) -> Result<(), Memory>
+    requires options { AreInOrder options.now }
+    requires of_set { IsOfSet set.now reading.now }
+    ensures { (identity : Elements) → IsLaidOut set.now reading.now identity → IfOk result (λ _.
+        out.new.items ≡ out.old.items ++ pairs_text options.now to identity) }
+{
+    let identity = reading.identity(alloc, set)?;
+    append_pairs(set, options, to, &identity, out)
+}
+
+/// Appends the spelling of an EPC in the requested form, or gives the first reason why there is none. For another EPC its identity
+/// is not laid out: taken apart, it would give the fields back.
+fn append_reading(
+    alloc: Global,
+    set: &TableSet,
+    options: &Options,
+    to: Target,
+    reading: &EpcReading<'_>,
+    out: &mut Vec<u8>,
+) -> Result<(), Reason>
+    requires options { AreInOrder options.now }
+    requires of_set { IsOfSet set.now reading.now }
+    requires given { FitsFilter reading.now.filter }
+    ensures { (prefixes : List PrefixEntry) (identity : Elements)
+        → IsLaidOut set.now reading.now identity → UnlessMemory result (AppendsText
+        (IsSpelling set.now prefixes options.now to (epc_meaning reading.now identity))
+        out.old.items out.new.items result) }
+{
+    // only for the proof: the rows satisfy the rules of tables
+    let _ = set.ais();
+    match written_as(to) {
+        Written::Epc(level) => append_recoded(alloc, set, options, level, reading, out),
+        Written::Pairs(form) => Ok(append_laid_out(alloc, set, options, form, reading, out)?),
+    }
+}
+
+/// Appends the translation of a text of a level, or gives the first reason why it is rejected. The key of an EPC and its serial,
+/// if that is a separate element, are its whole identity, so it is the same if only keys are kept.
+pub(crate) fn append_of_level(
     alloc: Global,
     set: &TableSet,
     options: &Options,
     from: LevelName,
-    to: LevelName,
+    to: Target,
     text: &[u8],
-) -> Result<Text, Reason>
-    requires options { FitsFilter options.now.filter }
-    requires whole { options.now.keys_only ≡ false }
-    ensures { (prefixes : List PrefixEntry) → UnlessMemory result
-        (IsTranslation set.now prefixes options.now (form_at from) (target_at to) text.now result) }
+    out: &mut Vec<u8>,
+) -> Result<(), Reason>
+    requires { AreInOrder options.now }
+    ensures { (prefixes : List PrefixEntry) → UnlessMemory result (AppendsText
+        (IsTranslation set.now prefixes options.now (form_at from) to text.now)
+        out.old.items out.new.items result) }
 {
     // only for the proof: the rows satisfy the rules of tables
     let _ = set.ais();
@@ -98,25 +132,5 @@ fn recoded(
         return Err(Reason::Long);
     }
     let reading = reading_of(alloc, set, from, text)?;
-    write_reading(alloc, set, options, to, &reading)
-}
-
-/// Appends the text of a level for the EPC of a text of another, or gives the first reason why there is none.
-pub(crate) fn append_recoded(
-    alloc: Global,
-    set: &TableSet,
-    options: &Options,
-    from: LevelName,
-    to: LevelName,
-    text: &[u8],
-    out: &mut Vec<u8>,
-) -> Result<(), Reason>
-    requires options { FitsFilter options.now.filter }
-    requires whole { options.now.keys_only ≡ false }
-    ensures { (prefixes : List PrefixEntry) → UnlessMemory result (AppendsText
-        (IsTranslation set.now prefixes options.now (form_at from) (target_at to) text.now)
-        out.old.items out.new.items result) }
-{
-    let text = recoded(alloc, set, options, from, to, text)?;
-    Ok(append_word(out, text.as_bytes())?)
+    append_reading(alloc, set, options, to, &reading, out)
 }

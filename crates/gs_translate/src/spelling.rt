@@ -1,22 +1,23 @@
-ghost use Rattle.std.specs.Prelude.{◌≡◌};
+ghost use Rattle.std.specs.Prelude.{◌≡◌, ◌++◌, IfOk};
 ghost use Rattle.gs_epc.specs.declared.error.EpcWriteFault.TheVariants as write;
 ghost use Rattle.gs_epc.specs.Candidates.{HasFilterOn};
 ghost use Rattle.gs_epc.specs.Writes.{WritesAs};
 ghost use Rattle.gs_ident.specs.Identities.{IsMadeWith};
+ghost use Rattle.gs_translate.specs.Recodings.{pairs_text, written_target};
 ghost use Rattle.gs_translate.specs.Steps.{AppendsText, Reworded, UnlessMemory};
 ghost use Rattle.gs_translate.specs.Targets.{FitsFilter};
 ghost use Rattle.gs_translate.specs.Translations.{AreInOrder, IsOfLevel, IsSpelling, write_reason};
 
-use crate::form::{Options, Target};
+use crate::form::{Options, PairsForm, Target, Written};
 use crate::reader::Meaning;
 use crate::reason::Reason;
 use crate::tag_fields::epc_for;
 use crate::words::append_word;
-use gs_chars::Text;
+use gs_chars::{Memory, Text};
 use gs_dlink::append_link;
 use gs_element::{append_bracketed, append_raw};
 use gs_epc::{EpcRef, write_lent};
-use gs_ident::append_canonical;
+use gs_ident::{Identity, append_canonical};
 use gs_prefix::PrefixList;
 use gs_tables::{LevelName, TableSet};
 use std::alloc::Global;
@@ -71,6 +72,42 @@ fn append_meaning(
     Ok(append_word(out, text.as_bytes())?)
 }
 
+/// Returns what is written in a requested form.
+pub(crate) fn written_as(to: Target) -> Written
+    ensures { to ≡ written_target result }
+{
+    match to {
+        Target::Hex => Written::Epc(LevelName::Binary),
+        Target::Tag => Written::Epc(LevelName::Tag),
+        Target::Pure => Written::Epc(LevelName::Pure),
+        Target::Raw => Written::Pairs(PairsForm::Raw),
+        Target::Bracketed => Written::Pairs(PairsForm::Bracketed),
+        Target::Link => Written::Pairs(PairsForm::Link),
+        Target::Canon => Written::Pairs(PairsForm::Canon),
+    }
+}
+
+/// Appends the element string or the link of an identity.
+pub(crate) fn append_pairs(
+    set: &TableSet,
+    options: &Options,
+    to: PairsForm,
+    identity: &Identity,
+    out: &mut Vec<u8>,
+) -> Result<(), Memory>
+    requires options { AreInOrder options.now }
+    requires with_table { IsMadeWith set.now.ais identity.now }
+    ensures { IfOk result (λ _. out.new.items
+        ≡ out.old.items ++ pairs_text options.now to identity.now) }
+{
+    match to {
+        PairsForm::Raw => append_raw(out, set.ais(), identity),
+        PairsForm::Bracketed => append_bracketed(out, identity),
+        PairsForm::Link => append_link(out, options.stem.as_bytes(), identity),
+        PairsForm::Canon => append_canonical(out, identity),
+    }
+}
+
 /// Appends the one spelling of a meaning in the requested form, or returns the first reason why there is none. For a link or an
 /// element string it takes no fields apart.
 pub(crate) fn append_spelling(
@@ -88,15 +125,8 @@ pub(crate) fn append_spelling(
     ensures { UnlessMemory result (AppendsText
         (IsSpelling set.now prefixes.now options.now to meaning.now) out.old.items out.new.items result) }
 {
-    let identity = &meaning.identity;
-    let level = match to {
-        Target::Hex => LevelName::Binary,
-        Target::Tag => LevelName::Tag,
-        Target::Pure => LevelName::Pure,
-        Target::Raw => return Ok(append_raw(out, set.ais(), identity)?),
-        Target::Bracketed => return Ok(append_bracketed(out, identity)?),
-        Target::Link => return Ok(append_link(out, options.stem.as_bytes(), identity)?),
-        Target::Canon => return Ok(append_canonical(out, identity)?),
-    };
-    append_meaning(alloc, set, prefixes, options, level, meaning, out)
+    match written_as(to) {
+        Written::Epc(level) => append_meaning(alloc, set, prefixes, options, level, meaning, out),
+        Written::Pairs(form) => Ok(append_pairs(set, options, form, &meaning.identity, out)?),
+    }
 }

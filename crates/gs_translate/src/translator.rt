@@ -8,7 +8,7 @@ ghost use Rattle.gs_translate.specs.Targets.{has_key, key_and_serial, narrowed};
 use crate::form::{Form, Options, Target};
 use crate::reader::read;
 use crate::reason::Reason;
-use crate::recoding::{append_recoded, levels_of};
+use crate::recoding::{append_of_level, form_level};
 use crate::spelling::append_spelling;
 use gs_chars::{Memory, Text};
 use gs_ident::{Identity, Pair};
@@ -63,10 +63,12 @@ impl Translator<'_> {
         ensures { UnlessMemory result (AppendsText
             (IsTranslated self.now text.now) out.old.items out.new.items result) }
     {
-        let Some((from, to)) = levels_of(self.options, self.from, self.to) else {
-            return self.append_named(alloc, text, out);
-        };
-        append_recoded(alloc, self.set, self.options, from, to, text, out)
+        match form_level(self.from) {
+            Some(from) => {
+                append_of_level(alloc, self.set, self.options, from, self.to, text, out)
+            }
+            None => self.append_named(alloc, text, out),
+        }
     }
 
     /// Appends the translation of a text by the identity that it names, or gives why it is rejected.

@@ -1,11 +1,18 @@
-use Rattle.std.proofs.Common.{◌≡◌, ◌∙◌, Some, false, find, is_some, sym}
+use Rattle.std.proofs.Common.{◌≡◌, ◌∙◌, false, is_some, refl, sym, true}
+use Rattle.gs_ai.specs.Tables.{is_row}
 use Rattle.gs_ai.specs.Values.{has_code}
+use Rattle.gs_ident.proofs.KeyPairs.{found_place}
 use Rattle.gs_tables.specs.Forms.{characters_of}
+use Rattle.gs_epc.specs.Layout.{parts_at}
 use Rattle.gs_epc.proofs.LayoutValues.{are_key_digits}
 use Rattle.gs_epc.proofs.layout.key_value.Goals as goal
 
 pub digits_value-requires : goal.digits_value-requires
 digits_value-requires c =
-    let found : Some c.in-Some.row.now ≡ find (has_code c.args.kind.now.key) c.args.ais.now = rw c.as_bytes.ensures at c.in-Some.ensures.row in
-    let are : is_some (characters_of c.in-Some.row.now.parts) ≡ false = sym (rw c.items-parts.ensures at c.are_characters.ensures) ∙ c.if-are_characters.false in
-    are_key_digits c.args.ais.now c.args.kind.now c.args.texts.now c.requires c.in-Some.row.now found c.in-Some.ensures.kept are
+    let fit = c.requires in
+    let row = fit.of_kind.row in
+    let place = found_place (has_code c.args.kind.now.key) c.args.ais.now row fit.of_kind.found in
+    let in_order : is_row row ≡ true = (c.rows.ensures.kept.rows_in_order place.0 row place.1).0 in
+    let parts : parts_at c.args.ais.now c.args.kind.now.key ≡ row.parts = rw fit.of_kind.found refl in
+    let are : is_some (characters_of row.parts) ≡ false = sym (rw (c.parts_at-parts.ensures, c.as_bytes.ensures, parts) at c.are_characters.ensures) ∙ c.if-are_characters.false in
+    are_key_digits c.args.ais.now c.args.kind.now c.args.texts.now fit row (sym fit.of_kind.found) in_order are
