@@ -16,7 +16,7 @@ use Rattle.gs_epc.specs.declared.error.EpcWriteFault.{EpcWriteFault}
 use Rattle.gs_epc.specs.declared.error.EpcWriteFault.TheVariants.{NoOption, CannotHold, Memory}
 use Rattle.gs_epc.specs.Candidates.{Candidate, is_candidate}
 use Rattle.gs_epc.specs.Epcs.{options_of}
-use Rattle.gs_epc.specs.Writes.{HoldsAll, IsTried, NoneHoldsBefore, Rejects, Writes, WritesAs}
+use Rattle.gs_epc.specs.Writes.{AppendsAs, HoldsAll, NoneHoldsBefore, Rejects, Writes, WritesAs, text_by}
 
 -- the element at a place
 at_place : {X : Type 0} (xs : List X) (i : ℕ) → i < length xs → (x : X) × (slice_get xs i ≡ Some x)
@@ -162,8 +162,25 @@ module _ (set : TableRows) (level : LevelName) (epc : Epc) where
   rejected_all infos n Memory rows past h = tt
 
   -- a candidate that holds every field is the first
-  pub writes : (n : ℕ) (rejection : EpcWriteFault) (candidate : Candidate set level epc n) (text : List ℕ) → RejectedBefore n rejection → IsTried set level epc candidate (Ok text) → Writes set level epc text
-  writes n rejection candidate text before tried = record { option = n; candidate = candidate; holds = tried.0; first = none_holds n rejection before; text_is = tried.1 }
+  pub writes : (n : ℕ) (rejection : EpcWriteFault) (candidate : Candidate set level epc n) → RejectedBefore n rejection → HoldsAll set level epc candidate → Writes set level epc (text_by set level epc candidate)
+  writes n rejection candidate before holds = record { option = n; candidate = candidate; holds = holds; first = none_holds n rejection before; text_is = refl }
+
+  -- the rejection of all options leaves the bytes unchanged
+  pub appends_none : (before now : List ℕ) (rejection : EpcWriteFault) → now ≡ before → WritesAs set level epc (Err rejection) → AppendsAs set level epc before now (Err rejection)
+  appends_none before now NoOption same none = (same, none)
+  appends_none before now (CannotHold field why) same none = (same, none)
+  appends_none before now Memory same none = tt
+
+  -- what is appended to no bytes is written, or rejected
+  pub appended_to_none : (before now text : List ℕ) → before ≡ [] → text ≡ now → AppendsAs set level epc before now (Ok tt) → WritesAs set level epc (Ok text)
+  appended_to_none before now text none is h =
+      let same : now ≡ h.0 = rw none at h.1 in
+      rw (is, same) h.2
+
+  pub rejected_to_none : (before now : List ℕ) (rejection : EpcWriteFault) → AppendsAs set level epc before now (Err rejection) → WritesAs set level epc (Err rejection)
+  rejected_to_none before now NoOption h = h.1
+  rejected_to_none before now (CannotHold field why) h = h.1
+  rejected_to_none before now Memory h = tt
 
   -- ---- the facts of an option
 

@@ -1,8 +1,8 @@
 -- The text that one candidate writes, or the field that it does not hold.
-use Rattle.std.proofs.Common.{◌≡◌, ℕ, ◌%◌, ◌<◌, ◌==◌, ◌&&◌, not, true, List, length, map, Option, Some, None, slice_get, get_or, refl, sym, ap, ◌∙◌, arith, inl, inr}
+use Rattle.std.proofs.Common.{◌≡◌, ℕ, ◌++◌, ◌%◌, ◌<◌, ◌==◌, ◌&&◌, not, true, List, length, map, take, Option, Some, None, slice_get, get_or, refl, sym, ap, ◌∙◌, arith, inl, inr}
 use Rattle.std.specs.Option.{option_map}
 use Rattle.std.proofs.lemmas.Bool.Decides.{nat_tests}
-use Rattle.std.proofs.lemmas.List.{length-map}
+use Rattle.std.proofs.lemmas.List.{length-map, take_at}
 use Rattle.std.proofs.lemmas.Option.{slice_get-map, slice_get_within}
 use Rattle.gs_ai.specs.Tables.{is_empty}
 use Rattle.gs_chars.proofs.TruthsAndLists.{and_parts, read_at}
@@ -25,7 +25,7 @@ use Rattle.gs_tables.specs.Tables.{IsShaped, TableRows, level_rows}
 use Rattle.gs_tables.proofs.KeptSets.{options_kept}
 use Rattle.gs_epc.specs.declared.epc.Epc.{Epc}
 use Rattle.gs_epc.specs.Candidates.{Candidate, left_out, value_for, values_for}
-use Rattle.gs_epc.specs.Writes.{field_at, HoldsAll, Rejects, text_on}
+use Rattle.gs_epc.specs.Writes.{field_at, HoldsAll, Rejects, text_by, text_on}
 
 -- ---- the consequences of the rules for a candidate
 
@@ -62,6 +62,12 @@ of_level set level form options option i shaped same kinds rows low read =
     let all : AreOfKind form.bit_level options = rw rows kinds in
     let kind : (get_or options i option).bit_level ≡ form.bit_level = all i option low in
     ap (λ (o : OptionForm). o.bit_level) read ∙ kind ∙ ap (λ (f : LevelForm). f.bit_level) same ∙ level_bits set level shaped
+
+-- ---- what a rejection leaves
+
+-- bytes that are cut where a text was appended are those before it
+pub cut_back : (before now cut text : List ℕ) (start : ℕ) → length before ≡ start → now ≡ before ++ text → cut ≡ take start now → cut ≡ before
+cut_back before now cut text start size appended is = is ∙ rw appended (take_at before text start size)
 
 -- ---- the facts of a candidate
 
@@ -131,9 +137,9 @@ module _ (set : TableRows) (level : LevelName) (epc : Epc) (i : ℕ) (candidate 
   pub leaves_out : (field : Field) → AreHeld option.items values → Some field ≡ left_out fields epc → Rejects set level epc candidate field Length
   leaves_out field held left = inr (record { held = held_here held; left = sym (rw is.fields_are at left); size = refl })
 
-  pub holds_all : (text : List ℕ) → AreHeld option.items values → None ≡ left_out fields epc → text ≡ text_on level (written option.items values)
-      → HoldsAll set level epc candidate × (text ≡ text_on level (written candidate.items (values_for level epc candidate.info)))
-  holds_all text held none wrote =
+  pub holds_all : (before now : List ℕ) → AreHeld option.items values → None ≡ left_out fields epc → now ≡ before ++ text_on level (written option.items values)
+      → HoldsAll set level epc candidate × (now ≡ before ++ text_by set level epc candidate)
+  holds_all before now held none wrote =
       (record { held = held_here held; whole = sym (rw is.fields_are at none) }, rw (is.items_are, is.values_are) at wrote)
 
   pub rejects_at : (field : Field) (k : ℕ) (why : Why) → IsFirstRejection option.items values k why → field ≡ field_at fields k → Rejects set level epc candidate field why

@@ -9,3 +9,4 @@ pub mod Readings
 pub mod ReadingsSupport
 pub mod KeyParts
 pub mod Writes
+pub mod Tries

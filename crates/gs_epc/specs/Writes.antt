@@ -1,6 +1,6 @@
 -- The texts of an EPC: TDS 2.0, sections 6 (pure identity URIs), 12 (tag URIs) and 14 (bits), by the options of TDT 2.0, section
 -- 3. That the first option that holds every field writes, and the choice of the named rejection, is this project's own.
-use Rattle.std.specs.Prelude.{◌≡◌, ◌<◌, ◌⊎◌, ℕ, List, Option, Some, None, option_and_then, slice_get, unwrap_or, Result, Ok, Err}
+use Rattle.std.specs.Prelude.{◌≡◌, ◌<◌, ◌⊎◌, ◌++◌, ℕ, List, Option, Some, None, option_and_then, slice_get, unwrap_or, Result, Ok, Err}
 use Rattle.gs_bits.specs.HexText.{hex_of_bits}
 use Rattle.gs_grammar.specs.declared.error.Why.{Why}
 use Rattle.gs_grammar.specs.declared.error.Why.TheVariants.{Length}
@@ -58,13 +58,6 @@ module _ (set : TableRows) (level : LevelName) (epc : Epc) where
   abbrev pub text_by : {i : ℕ} → Candidate set level epc i → List ℕ
   text_by candidate = text_on level (written candidate.items (values_for level epc candidate.info))
 
-  -- the result of one candidate: its text if it holds every field, otherwise the field that it does not hold
-  abbrev pub IsTried : {i : ℕ} → Candidate set level epc i → Result (List ℕ) EpcWriteFault → Type 0
-  IsTried candidate (Ok text) = HoldsAll candidate × (text ≡ text_by candidate)
-  IsTried candidate (Err NoOption) = ⊥
-  IsTried candidate (Err (CannotHold field why)) = Rejects candidate field why
-  IsTried candidate (Err Memory) = Unit {0}
-
   -- trusted, own: no candidate among the first n options holds every field
   abbrev pub NoneHoldsBefore : ℕ → Type 0
   NoneHoldsBefore n = (i : ℕ) (candidate : Candidate set level epc i) → i < n → HoldsAll candidate → ⊥
@@ -93,6 +86,12 @@ module _ (set : TableRows) (level : LevelName) (epc : Epc) where
   WritesAs (Err NoOption) = (i : ℕ) → Candidate set level epc i → ⊥
   WritesAs (Err (CannotHold field why)) = LastRejects field why
   WritesAs (Err Memory) = Unit {0}
+
+  -- trusted, own: the text that is the answer was appended; after a rejection the bytes are unchanged, unless memory ran out
+  abbrev pub AppendsAs : List ℕ → List ℕ → Result (Unit {0}) EpcWriteFault → Type 0
+  AppendsAs before now (Ok done) = (text : List ℕ) × (now ≡ before ++ text) × Writes text
+  AppendsAs before now (Err Memory) = Unit {0}
+  AppendsAs before now (Err fault) = (now ≡ before) × WritesAs (Err fault)
 
 -- trusted, own: the reading of a written text: of bits, that of their hexadecimal text
 abbrev pub ReadsText : TableRows → LevelName → List ℕ → Result Epc EpcFault → Type 0

@@ -1,28 +1,30 @@
-ghost use Rattle.std.specs.Prelude.{◌≡◌, ◌%◌, IfErr, IfOk, IsOk, length, true};
-ghost use Rattle.gs_bits.specs.HexText.{hex_of_bits};
+ghost use Rattle.std.specs.Prelude.{◌≡◌, ◌%◌, length, false, true};
 ghost use Rattle.gs_tables_document.specs.Documents.{is_bits};
 ghost use Rattle.gs_grammar.specs.Items.{size_of_all};
-ghost use Rattle.gs_grammar.specs.WrittenWords.{AreHeld, IsWriteFault, written};
 ghost use Rattle.gs_epc.specs.Candidates.{Candidate, HasFilter, HasFilterOn};
-ghost use Rattle.gs_epc.specs.Writes.{IsTried, WritesAs, field_at, text_on};
+ghost use Rattle.gs_epc.specs.Tries.{AppendsOption, IsTried};
+ghost use Rattle.gs_epc.specs.Writes.{AppendsAs, WritesAs, field_at};
 
 use crate::candidates::{is_asked, left_out, values_for};
 use crate::epc::{Epc, EpcRef, lent};
 use crate::error::EpcWriteFault;
 use gs_bits::BitBuf;
-use gs_chars::Text;
+use gs_chars::{Memory, Text};
 use gs_grammar::{Opt, Why, WriteFault, write_bits, write_text};
 use gs_tables::{Field, LevelName, TableSet};
 use std::alloc::Global;
 
-/// Returns the hexadecimal digits of the bits of an option.
-fn write_digits(alloc: Global, option: &Opt, values: &[Text]) -> Result<Text, WriteFault>
+/// Appends the hexadecimal digits of the bits of an option.
+fn append_digits(
+    alloc: Global,
+    option: &Opt,
+    values: &[Text],
+    out: &mut Vec<u8>,
+) -> Result<(), WriteFault>
     requires bit_level { option.now.bit_level ≡ true }
     requires one_each { length values.now ≡ length option.now.items }
     requires whole_bytes { size_of_all option.now.items % 8 ≡ 0 }
-    ensures written { IfOk result (λ text. text ≡ hex_of_bits (written option.now.items values.now)) }
-    ensures held { IsOk result → AreHeld option.now.items values.now }
-    ensures rejected { IfErr result (IsWriteFault option.now.items values.now) }
+    ensures { AppendsOption LevelName.Binary option.now.items values.now out.old.items out.new.items result }
 {
     // only for the proof: the items are within their bounds
     let _ = option.items();
@@ -30,29 +32,53 @@ fn write_digits(alloc: Global, option: &Opt, values: &[Text]) -> Result<Text, Wr
     if let Err(error) = write_bits(option, values, &mut bits) {
         return Err(error);
     }
-    match bits.to_hex(alloc) {
-        Ok(text) => Ok(text),
+    let Ok(text) = bits.to_hex(alloc) else {
+        return Err(WriteFault::Memory);
+    };
+    match out.extend_from_slice(text.as_bytes()) {
+        Ok(()) => Ok(()),
         Err(_) => Err(WriteFault::Memory),
     }
 }
 
-/// Returns the text of an option of a level: of bits their hexadecimal digits.
-fn write_option(
+/// Appends the text of an option of a level of texts.
+fn append_uri(
     alloc: Global,
     level: LevelName,
     option: &Opt,
     values: &[Text],
-) -> Result<Text, WriteFault>
+    out: &mut Vec<u8>,
+) -> Result<(), WriteFault>
+    requires text_level { option.now.bit_level ≡ false }
+    requires one_each { length values.now ≡ length option.now.items }
+    ensures { is_bits level ≡ false → AppendsOption level option.now.items values.now out.old.items out.new.items result }
+{
+    let text = match write_text(alloc, option, values) {
+        Ok(text) => text,
+        Err(error) => return Err(error),
+    };
+    match out.extend_from_slice(text.as_bytes()) {
+        Ok(()) => Ok(()),
+        Err(_) => Err(WriteFault::Memory),
+    }
+}
+
+/// Appends the text of an option of a level: of bits their hexadecimal digits.
+fn append_option(
+    alloc: Global,
+    level: LevelName,
+    option: &Opt,
+    values: &[Text],
+    out: &mut Vec<u8>,
+) -> Result<(), WriteFault>
     requires of_level { option.now.bit_level ≡ is_bits level }
     requires one_each { length values.now ≡ length option.now.items }
     requires whole_bytes { level ≡ LevelName.Binary → size_of_all option.now.items % 8 ≡ 0 }
-    ensures written { IfOk result (λ text. text ≡ text_on level (written option.now.items values.now)) }
-    ensures held { IsOk result → AreHeld option.now.items values.now }
-    ensures rejected { IfErr result (IsWriteFault option.now.items values.now) }
+    ensures { AppendsOption level option.now.items values.now out.old.items out.new.items result }
 {
     match level {
-        LevelName::Binary => write_digits(alloc, option, values),
-        LevelName::Tag | LevelName::Pure => write_text(alloc, option, values),
+        LevelName::Binary => append_digits(alloc, option, values, out),
+        LevelName::Tag | LevelName::Pure => append_uri(alloc, level, option, values, out),
     }
 }
 
@@ -67,44 +93,69 @@ fn field_at(fields: &[Option<Field>], item: usize) -> Field
     }
 }
 
-/// Writes an EPC by a candidate, or returns the field that it does not hold.
+/// Why a candidate does not write an EPC.
+enum Rejection {
+    /// It does not hold this field, for this reason.
+    CannotHold(Field, Why),
+    /// Out of memory.
+    Memory,
+}
+
+impl From<Memory> for Rejection {
+    ghost use Rattle.std.specs.Prelude.{◌≡◌};
+    ghost use Rattle.gs_epc.specs.declared.writer.Rejection.TheVariants.{Memory as WantOfMemory};
+
+    ghost from_gives = { λ _ e. e ≡ WantOfMemory };
+
+    fn from(_rejected: Memory) -> Rejection {
+        Rejection::Memory
+    }
+}
+
+/// Appends the text of an EPC by a candidate, or returns the field that it does not hold.
 fn try_candidate(
     alloc: Global,
     set: &TableSet,
     level: LevelName,
     epc: &EpcRef<'_>,
     i: usize,
-) -> Result<Text, EpcWriteFault>
+    out: &mut Vec<u8>,
+) -> Result<(), Rejection>
     requires filter { HasFilterOn level epc.now.filter }
     requires candidate { Candidate set.now level epc.now i }
     ensures { (candidate : Candidate set.now level epc.now i)
-        → IsTried set.now level epc.now candidate result }
+        → IsTried set.now level epc.now candidate out.old.items out.new.items result }
 {
     let fields = set.info(level)[i].fields.items();
     let values = values_for(alloc, level, epc, fields)?;
-    match write_option(alloc, level, &set.level(level).options()[i], &values) {
-        Ok(text) => match left_out(fields, epc) {
-            Some(field) => Err(EpcWriteFault::CannotHold(field, Why::Length)),
-            None => Ok(text),
+    let start = out.len();
+    match append_option(alloc, level, &set.level(level).options()[i], &values, out) {
+        Ok(()) => match left_out(fields, epc) {
+            Some(field) => {
+                out.truncate(start);
+                Err(Rejection::CannotHold(field, Why::Length))
+            }
+            None => Ok(()),
         },
         Err(WriteFault::CannotHold { item, why }) => {
-            Err(EpcWriteFault::CannotHold(field_at(fields, item), why))
+            Err(Rejection::CannotHold(field_at(fields, item), why))
         }
-        Err(WriteFault::Memory) => Err(EpcWriteFault::Memory),
+        Err(WriteFault::Memory) => Err(Rejection::Memory),
     }
 }
 
-/// Writes an EPC by the options of a level: for bits the hexadecimal digits that `write_hex` writes, otherwise the URI that
-/// `write_tag` or `write_pure` writes, with the same errors. The EPC has a filter value of at most 7, except for the level of
-/// pure identities.
-pub fn write_lent(
+/// Appends the text of an EPC by the options of a level: for bits the hexadecimal digits that `write_hex` writes, otherwise the
+/// URI that `write_tag` or `write_pure` writes, with the same errors. After a rejection nothing is appended, unless memory ran
+/// out. The EPC has a filter value of at most 7, except for the level of pure identities.
+pub fn append_lent(
     alloc: Global,
     set: &TableSet,
     level: LevelName,
     epc: &EpcRef<'_>,
-) -> Result<Text, EpcWriteFault>
+    out: &mut Vec<u8>,
+) -> Result<(), EpcWriteFault>
     requires { HasFilterOn level epc.now.filter }
-    ensures { WritesAs set.now level epc.now result }
+    ensures { AppendsAs set.now level epc.now out.old.items out.new.items result }
 {
     let info = set.info(level);
     let numbers = set.candidates(level, epc.kind, epc.gcp);
@@ -114,19 +165,35 @@ pub fn write_lent(
         if !is_asked(level, epc.encoding, info[i].encoding.as_bytes()) {
             continue;
         }
-        match try_candidate(alloc, set, level, epc, i) {
-            Ok(text) => return Ok(text),
-            Err(EpcWriteFault::CannotHold(field, why)) => {
+        match try_candidate(alloc, set, level, epc, i, out) {
+            Ok(()) => return Ok(()),
+            Err(Rejection::CannotHold(field, why)) => {
                 rejection = EpcWriteFault::CannotHold(field, why);
             }
-            Err(EpcWriteFault::Memory) => return Err(EpcWriteFault::Memory),
-            Err(EpcWriteFault::NoOption) => unreachable!(),
+            Err(Rejection::Memory) => return Err(EpcWriteFault::Memory),
         }
     }
     Err(rejection)
 }
 
-/// Writes an EPC by the options of a level, as `write_lent` does.
+/// Writes an EPC by the options of a level, as `append_lent` does.
+pub fn write_lent(
+    alloc: Global,
+    set: &TableSet,
+    level: LevelName,
+    epc: &EpcRef<'_>,
+) -> Result<Text, EpcWriteFault>
+    requires { HasFilterOn level epc.now.filter }
+    ensures { WritesAs set.now level epc.now result }
+{
+    let mut text = Vec::new(alloc);
+    match append_lent(alloc, set, level, epc, &mut text) {
+        Ok(()) => Ok(Text::from_vec(text)),
+        Err(error) => Err(error),
+    }
+}
+
+/// Writes an EPC by the options of a level, as `append_lent` does.
 pub fn write_level(
     alloc: Global,
     set: &TableSet,

@@ -1,6 +1,6 @@
-use Rattle.std.proofs.Common.{arith, refl}
+use Rattle.std.proofs.Common.{arith}
 use Rattle.std.proofs.lemmas.Result.{err_from_is_err_and}
-use Rattle.gs_epc.proofs.Tries.{holds_all, info_low, is_read, leaves_out, of_bytes, of_level, one_each, option_low, rejects_at}
+use Rattle.gs_epc.proofs.Tries.{cut_back, holds_all, info_low, is_read, leaves_out, of_bytes, of_level, one_each, option_low, rejects_at}
 use Rattle.gs_epc.proofs.writer.try_candidate.Goals as goal
 
 pub offset_bounds-info-i : goal.offset_bounds-info-i
@@ -24,35 +24,36 @@ offset_bounds-options-i c =
 pub bounds-options-i : goal.bounds-options-i
 bounds-options-i c = option_low _ _ _ _ c.requires.candidate _ c.options.result.now c.level.ensures.rows c.options.ensures.options
 
-pub write_option-requires-clause-of_level : goal.write_option-requires-clause-of_level
-write_option-requires-clause-of_level c =
+pub append_option-requires-clause-of_level : goal.append_option-requires-clause-of_level
+append_option-requires-clause-of_level c =
     let low = option_low _ _ _ _ c.requires.candidate _ c.options.result.now c.level.ensures.rows c.options.ensures.options in
     of_level _ _ _ _ _ _ c.level.ensures.shaped c.level.ensures.rows c.options.ensures.of_kind c.options.ensures.options low c.index-options-i.is
 
-pub write_option-requires-clause-one_each : goal.write_option-requires-clause-one_each
-write_option-requires-clause-one_each c =
+pub append_option-requires-clause-one_each : goal.append_option-requires-clause-one_each
+append_option-requires-clause-one_each c =
     let is = is_read _ _ _ _ c.requires.candidate _ _ _ _ _ _ _ _ c.level.ensures.rows c.options.ensures.options c.index-options-i.is c.info.ensures.rows c.index-info-i.is c.items-fields.ensures c.in_ok-values.ensures c.deref.ensures.value in
     one_each _ _ _ _ _ _ _ _ is c.info.ensures.shaped
 
-pub write_option-requires-clause-whole_bytes : goal.write_option-requires-clause-whole_bytes
-write_option-requires-clause-whole_bytes c =
+pub append_option-requires-clause-whole_bytes : goal.append_option-requires-clause-whole_bytes
+append_option-requires-clause-whole_bytes c =
     let is = is_read _ _ _ _ c.requires.candidate _ _ _ _ _ _ _ _ c.level.ensures.rows c.options.ensures.options c.index-options-i.is c.info.ensures.rows c.index-info-i.is c.items-fields.ensures c.in_ok-values.ensures c.deref.ensures.value in
     of_bytes _ _ _ _ _ _ _ _ is c.info.ensures.shaped
 
 pub returns-in-Some : goal.returns-in-Some
 returns-in-Some c = λ candidate.
     let is = is_read _ _ _ _ candidate _ _ _ _ _ _ _ _ c.level.ensures.rows c.options.ensures.options c.index-options-i.is c.info.ensures.rows c.index-info-i.is c.items-fields.ensures c.in_ok-values.ensures c.deref.ensures.value in
-    leaves_out _ _ _ _ _ _ _ _ is _ (c.in-Ok.ensures.held refl) c.in-Some.ensures
+    (leaves_out _ _ _ _ _ _ _ _ is _ c.in-Ok.ensures.0 c.in-Some.ensures, cut_back c.args.out.now.items _ _ _ c.len-start.result (let n = c.len-start.ensures in omega arith) c.in-Ok.ensures.1 c.truncate.ensures.items)
 
 pub returns-in-Ok : goal.returns-in-Ok
 returns-in-Ok c = λ candidate.
     let is = is_read _ _ _ _ candidate _ _ _ _ _ _ _ _ c.level.ensures.rows c.options.ensures.options c.index-options-i.is c.info.ensures.rows c.index-info-i.is c.items-fields.ensures c.in_ok-values.ensures c.deref.ensures.value in
-    holds_all _ _ _ _ _ _ _ _ is _ (c.in-Ok.ensures.held refl) c.in-None.ensures c.in-Ok.ensures.written
+    holds_all _ _ _ _ _ _ _ _ is _ _ c.in-Ok.ensures.0 c.in-None.ensures c.in-Ok.ensures.1
 
 pub returns-in-Err-CannotHold : goal.returns-in-Err-CannotHold
 returns-in-Err-CannotHold c = λ candidate.
     let is = is_read _ _ _ _ candidate _ _ _ _ _ _ _ _ c.level.ensures.rows c.options.ensures.options c.index-options-i.is c.info.ensures.rows c.index-info-i.is c.items-fields.ensures c.in_ok-values.ensures c.deref.ensures.value in
-    rejects_at _ _ _ _ _ _ _ _ is _ _ _ (rw c.in-Err-CannotHold.field-0-is at c.in-Err-CannotHold.ensures.rejected) c.field_at.ensures
+    let rejected = rw c.in-Err-CannotHold.field-0-is at c.in-Err-CannotHold.ensures in
+    (rejects_at _ _ _ _ _ _ _ _ is _ _ _ rejected.0 c.field_at.ensures, rejected.1)
 
 pub values_for-requires : goal.values_for-requires
 values_for-requires c = c.requires.filter

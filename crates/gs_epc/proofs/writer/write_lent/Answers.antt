@@ -1,51 +1,8 @@
-use Rattle.std.proofs.Common.{◌∙◌, ap, arith, refl, sym}
-use Rattle.gs_tables.specs.Numbers.{numbers_of}
-use Rattle.gs_tables.specs.Tables.{level_rows}
-use Rattle.gs_epc.proofs.Rejections.{rejected_next, writes}
-use Rattle.gs_epc.proofs.NumberWalks.{all_tried, none_tried, turn, turn_candidate, turn_rejected, turn_skipped}
-use Rattle.gs_epc.specs.Candidates.{is_asked}
-use Rattle.gs_epc.specs.declared.epc.Epc.{Epc}
+use Rattle.gs_epc.proofs.Rejections.{appended_to_none, rejected_to_none}
 use Rattle.gs_epc.proofs.writer.write_lent.Goals as goal
 
-pub loop-number-init : goal.loop-number-init
-loop-number-init c = none_tried _ _ _ _ _ (c.candidates-numbers.ensures ∙ ap (λ (e : Epc). numbers_of e.kind e.gcp (level_rows c.args.level c.args.set.now).info) c.epc.view_is ∙ ap (numbers_of c.args.epc.now.kind c.args.epc.now.gcp) (sym c.info-info.ensures.rows))
-
-pub offset_bounds-info-i : goal.offset_bounds-info-i
-offset_bounds-info-i c =
-    let at = turn _ _ _ _ _ _ _ _ c.info-info.ensures.rows c.loop-number.invariant c.loop-number-test.true refl in
-    let low = at.low in
-    omega arith
-
-pub bounds-info-i : goal.bounds-info-i
-bounds-info-i c = (turn _ _ _ _ _ _ _ _ c.info-info.ensures.rows c.loop-number.invariant c.loop-number-test.true refl).low
-
-pub loop-number-preserved-then-not-is_asked : goal.loop-number-preserved-then-not-is_asked
-loop-number-preserved-then-not-is_asked c =
-    let at = turn _ _ _ _ _ _ _ _ c.info-info.ensures.rows c.loop-number.invariant c.loop-number-test.true refl in
-    turn_skipped _ _ _ _ _ _ _ _ at _ c.info-info.ensures.rows c.index-info-i.is (sym c.if-not-is_asked.true ∙ (c.is_asked.ensures ∙ ap (λ (e : Epc). is_asked c.args.level e.encoding c.as_bytes.result.now) c.epc.view_is ∙ ap (is_asked c.args.level c.args.epc.now.encoding) c.as_bytes.ensures))
-
-pub try_candidate-requires-clause-candidate : goal.try_candidate-requires-clause-candidate
-try_candidate-requires-clause-candidate c =
-    let at = turn _ _ _ _ _ _ _ _ c.info-info.ensures.rows c.loop-number.invariant c.loop-number-test.true refl in
-    turn_candidate _ _ _ _ _ _ _ _ at _ c.info-info.ensures.rows c.index-info-i.is c.info-info.ensures.shaped (sym c.if-not-is_asked.false ∙ (c.is_asked.ensures ∙ ap (λ (e : Epc). is_asked c.args.level e.encoding c.as_bytes.result.now) c.epc.view_is ∙ ap (is_asked c.args.level c.args.epc.now.encoding) c.as_bytes.ensures))
-
 pub returns-in-Ok : goal.returns-in-Ok
-returns-in-Ok c =
-    let at = turn _ _ _ _ _ _ _ _ c.info-info.ensures.rows c.loop-number.invariant c.loop-number-test.true refl in
-    let candidate = turn_candidate _ _ _ _ _ _ _ _ at _ c.info-info.ensures.rows c.index-info-i.is c.info-info.ensures.shaped (sym c.if-not-is_asked.false ∙ (c.is_asked.ensures ∙ ap (λ (e : Epc). is_asked c.args.level e.encoding c.as_bytes.result.now) c.epc.view_is ∙ ap (is_asked c.args.level c.args.epc.now.encoding) c.as_bytes.ensures)) in
-    writes _ _ _ _ _ candidate _ at.rejected (c.in-Ok.ensures candidate)
+returns-in-Ok c = appended_to_none _ _ _ _ _ _ c.new-text.ensures.items c.from_vec.ensures c.in-Ok.ensures
 
-pub unreachable-requires : goal.unreachable-requires
-unreachable-requires c =
-    let at = turn _ _ _ _ _ _ _ _ c.info-info.ensures.rows c.loop-number.invariant c.loop-number-test.true refl in
-    let candidate = turn_candidate _ _ _ _ _ _ _ _ at _ c.info-info.ensures.rows c.index-info-i.is c.info-info.ensures.shaped (sym c.if-not-is_asked.false ∙ (c.is_asked.ensures ∙ ap (λ (e : Epc). is_asked c.args.level e.encoding c.as_bytes.result.now) c.epc.view_is ∙ ap (is_asked c.args.level c.args.epc.now.encoding) c.as_bytes.ensures)) in
-    rw c.in-Err-NoOption.field-0-is at (c.in-Err-NoOption.ensures candidate)
-
-pub loop-number-preserved : goal.loop-number-preserved
-loop-number-preserved c =
-    let at = turn _ _ _ _ _ _ _ _ c.info-info.ensures.rows c.loop-number.invariant c.loop-number-test.true refl in
-    let candidate = turn_candidate _ _ _ _ _ _ _ _ at _ c.info-info.ensures.rows c.index-info-i.is c.info-info.ensures.shaped (sym c.if-not-is_asked.false ∙ (c.is_asked.ensures ∙ ap (λ (e : Epc). is_asked c.args.level e.encoding c.as_bytes.result.now) c.epc.view_is ∙ ap (is_asked c.args.level c.args.epc.now.encoding) c.as_bytes.ensures)) in
-    turn_rejected _ _ _ _ _ _ _ _ _ at (rejected_next _ _ _ _ _ candidate _ _ at.rejected (rw c.in-Err-CannotHold.field-0-is at (c.in-Err-CannotHold.ensures candidate)))
-
-pub returns : goal.returns
-returns c = all_tried _ _ _ _ _ _ _ c.info-info.ensures.rows c.loop-number-test.false c.loop-number.invariant
+pub returns-in-Err : goal.returns-in-Err
+returns-in-Err c = rejected_to_none _ _ _ _ _ c.in-Err.error c.in-Err.ensures

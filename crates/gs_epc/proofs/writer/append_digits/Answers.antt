@@ -1,6 +1,6 @@
 use Rattle.std.proofs.Common.{arith, refl}
 use Rattle.gs_epc.proofs.WrittenSizes.{whole_bytes}
-use Rattle.gs_epc.proofs.writer.write_digits.Goals as goal
+use Rattle.gs_epc.proofs.writer.append_digits.Goals as goal
 
 pub to_hex-requires : goal.to_hex-requires
 to_hex-requires c =
