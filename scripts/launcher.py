@@ -1,16 +1,16 @@
 """launcher [ARGUMENT..]: what bin/tdl does if it cannot just start the proved program.
 
-It starts a program that fits its sources. Before one is built, or if it is older, it answers --help, --version and words that are not a
-command by the texts in the program's sources. For all else `rt try` builds and runs the sources without proofs, with each check at run
+It starts a program that fits its sources. If none is built, or it is older, the texts in the program's sources answer --help, --version
+and words that are not a command. For everything else `rt try` builds and runs the sources without proofs, with each check at run
 time on, which takes a minute or two. One line on standard error says so; standard output, status and the line of standard error are the
 program's. `rt try` keeps no program from one call to the next, prints the output once the program has ended, and has limits: 1 MiB of
 output, 60 seconds, 64 MiB of input, and no server. What it cannot do ends with a line on standard error and the status 70, and never
 with a part of an answer.
 
-bin/tdl hands standard input on as INPUT, since Python does not start where that is a folder.
+bin/tdl passes standard input on as INPUT, since Python does not start if that is a folder.
 
-Nothing is written but in a folder of its own below the system's folder for temporary files, and an empty file there that says that a
-user was told of bin/build. So any number of runs may go on at a time, also of users who may not write in the checkout.
+It writes only below the system's folder for temporary files: in a new folder, and an empty file that notes that a user has read of
+bin/build. So any number of runs may go on at a time, even of users who may not write in the checkout.
 """
 import json
 import os
@@ -66,7 +66,7 @@ def system_words(error):
 
 
 def asked_text(arguments):
-    """The text that --help or --version alone, or a command and --help, ask for; or nothing."""
+    """Returns the text that --help, --version, or a command and --help ask for, or nothing if there are other arguments."""
     pieces = dict(TEXT.findall(TEXTS.read_text("utf-8")))
     version = pieces.pop("VERSION")
     if arguments == ["--version"]:
@@ -89,7 +89,7 @@ def commands():
 
 
 def fault_of_command(arguments):
-    """What is wrong with the first argument, or nothing where it is a command."""
+    """Returns the fault of the first argument, or nothing if it is a command."""
     if not arguments:
         return "a command is missing; tdl --help lists them"
     if arguments[0] not in commands():
@@ -98,7 +98,7 @@ def fault_of_command(arguments):
 
 
 def is_told():
-    """Notes that this user was told of bin/build, and answers whether that was so before."""
+    """Notes that this user has read of bin/build, and returns whether that was noted before."""
     try:
         Path(tempfile.gettempdir(), f"tdl-told-{os.getuid()}").touch(0o600, exist_ok=False)
         return False
@@ -119,7 +119,7 @@ def say_unproved():
 
 
 def copy_input(path):
-    """Copies standard input to a file, and answers whether all of it could be read. After an error the lines stand there that had ended."""
+    """Copies standard input to a file, and returns whether all of it could be read. After an error the file has the lines that had ended."""
     size, tail = 0, b""
     with open(path, "wb") as copy:
         while True:
@@ -140,7 +140,7 @@ def copy_input(path):
 
 
 def hand_in(arguments, folder):
-    """The arguments with names of the folder of `rt try` in place of names of files, and the files that stand there by these names."""
+    """Returns the arguments, with a name in the folder of `rt try` for each name of a file, and the files by these names."""
     named, files = list(arguments), {}
     for place, argument in enumerate(arguments):
         if place and arguments[place - 1] in FILE_NAMES:
@@ -162,7 +162,7 @@ def reject_what_cannot_be_done(arguments):
         try:
             argument.encode("utf-8")
         except UnicodeEncodeError:
-            raise Cannot(f"an argument is no UTF-8, which a run without proofs cannot hand on; {BUILD}") from None
+            raise Cannot(f"an argument is not valid UTF-8, which a run without proofs cannot pass on; {BUILD}") from None
     lack = repository.lack_of_kit()
     if lack:
         if lack[1]:
@@ -202,7 +202,7 @@ def status_of(report, rt_status):
 
 
 def say_what_failed(report, named, arguments):
-    """Writes the line of the program's on standard error, with the names of files as they were given."""
+    """Writes the program's line to standard error, with the names of files that the user gave."""
     for line in re.findall("^tdl: .*$", report, re.MULTILINE):
         for name, argument in zip(named, arguments):
             if name != argument:
@@ -211,7 +211,7 @@ def say_what_failed(report, named, arguments):
 
 
 def try_unproved(arguments, folder):
-    """Runs the sources without proofs, and answers the status."""
+    """Runs the sources without proofs, and returns the status."""
     is_read = arguments[0] not in READ_INPUT or copy_input(f"{folder}/input")
     Path(folder, "input").touch()
     named, files = hand_in(arguments, folder)
@@ -235,7 +235,7 @@ def try_unproved(arguments, folder):
 
 
 def main(arguments):
-    """Answers the status; where the proved program is to run, it runs in the place of this process."""
+    """Returns the status, or replaces this process by the proved program if that is to run."""
     if repository.is_current():
         repository.renew_record()
         os.dup2(INPUT, 0)

@@ -1,4 +1,4 @@
-//! The objects over scripted calls of the system, each of whose answers the test gives.
+//! The objects over scripted calls of the system. The test gives the answer to each call.
 
 use crate::exchanges::{echo_once, moves_of, outcome};
 use gs_port::{AcceptAnswer, Door, Files, OpenAnswer, ReadAnswer, Sink, Source, WriteAnswer};
@@ -96,7 +96,7 @@ pub fn a_connection_has_a_budget_of_time() -> bool {
         && first_moves(giving.with_step(11_000), 1, 1) == (1, 1)
 }
 
-/// Tests that an accept waits while the system lacks a file descriptor, and not for ever.
+/// Tests that an accept waits while the system has no file descriptor left, and not for ever.
 pub fn an_accept_waits_for_what_the_system_lacks() -> bool {
     let lack = ScriptedAnswer::FailsBy(24);
     let again = script(GIVES, lack, GIVES);

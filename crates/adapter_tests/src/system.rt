@@ -9,7 +9,7 @@ use std::io::{ErrorKind, Read, Write};
 use std::net::{Ipv4Addr, Shutdown, TcpStream};
 use std::{fs, io};
 
-/// Tests that the standard streams answer: what is written is in this program's output.
+/// Tests that the standard streams answer: the written bytes are in this program's output.
 pub fn the_standard_streams_answer(rt: HostRuntime) -> io::Result<bool> {
     let mut sink = StdoutSink::new(rt.stdout());
     let is_whole = matches!(write_whole(&mut sink, b"written\n"), Whole::Done);

@@ -13,7 +13,7 @@ use gs_translate::{Form, Target};
 
 /// A command with its operands, and the arguments after them.
 #[derive(Clone, Copy)]
-pub struct Split<'a> {
+struct Split<'a> {
     /// The command with its operands.
     pub command: Command,
     /// The arguments after them.

@@ -1,7 +1,7 @@
 ghost use Rattle.std.specs.Prelude.{◌≡◌, true, false, drop};
 ghost use Rattle.tdl_arguments.specs.declared.name.NameRow.{NameRow};
-ghost use Rattle.tdl_arguments.specs.Names.{HasNoPairs, HasPairs, OfPairs, has_required, is_given, is_named, look_up};
-ghost use Rattle.tdl_arguments.specs.Names.{takes};
+ghost use Rattle.tdl_arguments.specs.Names.{HasNoPairs, HasPairs, OfPairs};
+ghost use Rattle.tdl_arguments.specs.Names.{has_required, is_given, is_named, look_up, takes};
 ghost use Rattle.tdl_arguments.specs.Requests.{known_name, known_words};
 
 use crate::name::{Name, NameRow};
@@ -39,7 +39,8 @@ fn is_given(words: &[String], row: NameRow) -> bool
 /// Returns whether a row takes this name with this value, and none of its names has a value among the others. The arguments are
 /// pairs.
 fn takes(rows: &[NameRow], name: &str, value: &str, others: &[String]) -> bool
-    ensures { OfPairs (known_words others.now) (λ pairs. result ≡ takes rows.now name.now value.now pairs) }
+    ensures { OfPairs (known_words others.now)
+        (λ pairs. result ≡ takes rows.now name.now value.now pairs) }
 {
     for row in rows {
         let given = is_given(others, *row);

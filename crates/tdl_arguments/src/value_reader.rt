@@ -126,7 +126,7 @@ fn number_of(digits: &str) -> Option<u32>
 
 /// Returns the number from the least to the greatest that the argument writes. `None` is returned if and only if the argument is
 /// not a numeral, or its number is not between them.
-pub fn number_within(word: &str, least: u32, greatest: u32) -> Option<u32>
+fn number_within(word: &str, least: u32, greatest: u32) -> Option<u32>
     ensures exact { result ≡ number_within least greatest word.now }
     ensures most { IfSome result (λ number. number ≤ greatest) }
 {

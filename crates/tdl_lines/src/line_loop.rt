@@ -209,7 +209,7 @@ pub trait Answerer {
 }
 
 /// Returns the first line, and the bytes after it and its line feed. There is at least one byte.
-pub fn first_line(bytes: &[u8]) -> (&[u8], &[u8])
+fn first_line(bytes: &[u8]) -> (&[u8], &[u8])
     requires { 0 < length bytes.now }
     ensures lines { lines_of bytes.now ≡ result.0.now ∷ lines_of result.1.now }
     ensures shorter { length result.1.now < length bytes.now }
@@ -221,7 +221,7 @@ pub fn first_line(bytes: &[u8]) -> (&[u8], &[u8])
 }
 
 /// Returns the bytes of the lines that have ended: those up to the last line feed, included.
-pub fn ended(bytes: &[u8]) -> &[u8]
+fn ended(bytes: &[u8]) -> &[u8]
     ensures { result.now ≡ ended_lines bytes.now }
 {
     match memrchr(b'\n', bytes) {
@@ -231,7 +231,7 @@ pub fn ended(bytes: &[u8]) -> &[u8]
 }
 
 /// Returns the line without one carriage return at its end.
-pub fn without_return(line: &[u8]) -> &[u8]
+fn without_return(line: &[u8]) -> &[u8]
     ensures { result.now ≡ text_of line.now }
 {
     if line.is_empty() || line[line.len() - 1] != b'\r' {

@@ -1,5 +1,5 @@
 -- Each command, over the loaded contents.
-use Rattle.std.specs.Prelude.{◌≡◌, ◌≢◌, ℕ, ◌≤◌, ◌-◌, Bool, false, List, [], ◌∷◌, ◌++◌, length, take, codes, decimal, IfSome, Option, Ok, is_some, option_map}
+use Rattle.std.specs.Prelude.{◌≡◌, ◌≢◌, ℕ, ◌≤◌, ◌-◌, Bool, false, List, [], ◌∷◌, ◌++◌, length, take, codes, decimal, IfOk, IfSome, Option, Result, Ok, is_some, option_map}
 use Rattle.tdl_lines.specs.declared.status.Status.{Status}
 use Rattle.tdl_gen.specs.Counts.{Generated}
 use Rattle.tdl_lines.specs.declared.status.Status.TheVariants.{Done, Memory, ReadFault}
@@ -80,9 +80,9 @@ migrated_line loaded = migrated loaded.source ++ 10 ∷ []
 abbrev pub PrintsLine : List ℕ → Status → Option (List ℕ) → Option (List ℕ) → Type 0
 PrintsLine line ending held held' = Appends held held' (λ output. PrintedAs Done line output ending)
 
--- holds if the sink gained the line of counts, or a prefix of it after an error
-abbrev pub PrintsCounts : Loaded → Status → Option (List ℕ) → Option (List ℕ) → Type 0
-PrintsCounts loaded ending held held' = PrintsLine (counts_line loaded) ending held held'
+-- holds if the sink gained the line that was made, or a prefix of it after an error; and nothing if none was made
+abbrev pub PrintsMade : {E : Type 0} → Result (List ℕ) E → Status → Option (List ℕ) → Option (List ℕ) → Type 0
+PrintsMade made ending held held' = (line : List ℕ) → IfOk made (λ text. text ≡ line) → PrintsLine line ending held held'
 
 -- trusted, own: holds if more than 4,294,967,296 bytes were taken from the input
 abbrev pub PassesLimit : Option (List ℕ) → Option (List ℕ) → Type 0

@@ -10,12 +10,10 @@ ghost use Rattle.tdl_loads.specs.LoadsSupport.{AreKept, HasSource};
 ghost use Rattle.tdl_run.specs.RanSupport.{CommandRan, UsesDoor};
 ghost use Rattle.tdl_run.specs.Works.{Leaves, doorway_of, site_of};
 
-use crate::check_command::check;
-use crate::class_command::{link_classes, write_classes};
-use crate::dump_command::{show_dumps, write_dumps};
-use crate::merge_command::print_merged;
-use crate::migrate_command::print_migrated;
-use crate::translate_command::{canonize, translate_loaded};
+use crate::line_commands::{
+    canonize, link_classes, show_dumps, translate_loaded, write_classes, write_dumps,
+};
+use crate::printed_lines::{counts_line, merged_line, migrated_line, print_made};
 use gs_http::Site;
 use gs_port::{Door, Sink, Source};
 use std::alloc::Global;
@@ -72,7 +70,7 @@ pub fn run_command<S: Source, K: Sink, D: Door>(
         Command::Translate(from, to) => {
             translate_loaded(alloc, from, to, values, loaded, input, output)
         }
-        Command::Check => check(alloc, loaded, output),
+        Command::Check => print_made(counts_line(alloc, loaded), output),
         Command::Resolve => resolve(alloc, &site_of(loaded), input, output),
         Command::Serve => serve(
             alloc,
@@ -83,11 +81,11 @@ pub fn run_command<S: Source, K: Sink, D: Door>(
             output,
         ),
         Command::Gen(lines) => generate(alloc, &loaded.tables, lines, output),
-        Command::Migrate => print_migrated(alloc, loaded, output),
+        Command::Migrate => print_made(migrated_line(alloc, loaded), output),
         Command::ClassCanon => link_classes(alloc, loaded, input, output),
         Command::ClassUri => write_classes(alloc, values, loaded, input, output),
         Command::DumpRead => show_dumps(alloc, loaded, input, output),
         Command::DumpWrite => write_dumps(alloc, loaded, input, output),
-        Command::Merge => print_merged(alloc, loaded, output),
+        Command::Merge => print_made(merged_line(alloc, loaded), output),
     }
 }

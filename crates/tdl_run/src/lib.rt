@@ -21,17 +21,12 @@
 //!   project's own (docs/CLI.md, 'Commands' and 'Statuses').
 #![tactic(auto)]
 
-mod answered_input;
-mod check_command;
-mod class_command;
 mod commands;
-mod dump_command;
 mod laws;
-mod merge_command;
-mod migrate_command;
+mod line_commands;
+mod printed_lines;
 mod requests;
 mod runner;
-mod translate_command;
 
 pub use laws::{
     canon_answers_by_canonical_links, canonical_answers_by_kept_elements, words_ask_for_one_thing,

@@ -72,8 +72,9 @@ pub fn run_request<F: Files, S: Source, K: Sink, D: Door>(
         (counts_of (F.errors files.old) (S.errors input.old) (K.errors output.old) (D.aside door.old))
         (counts_of (F.errors files.new) (S.errors input.new) (K.errors output.new) (D.aside door.new))
         (S.left input.new)) }
-    ensures read_error { OnTrue (is_status result Status.ReadFault) (WritesAfterError (input.new ≡ input.old)
-        (Rises (S.errors input.old) (S.errors input.new)) (K.held output.old) (K.held output.new)
+    ensures read_error { OnTrue (is_status result Status.ReadFault)
+        (WritesAfterError (input.new ≡ input.old) (Rises (S.errors input.old) (S.errors input.new))
+        (K.held output.old) (K.held output.new)
         (AskedEnded (known_request request.entry) (F.files files.old)
         (S.left input.old) (S.left input.new))) }
     ensures served { answers_heads (known_request request.entry).command ≡ true

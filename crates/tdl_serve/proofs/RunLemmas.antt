@@ -9,14 +9,14 @@ use Rattle.tdl_lines.specs.declared.status.Status.TheVariants.{Done, SomeRefused
 use Rattle.tdl_lines.specs.Printers.{PrintedAs}
 use Rattle.tdl_lines.specs.Statuses.{is_status}
 use Rattle.tdl_serve.specs.declared.sessions.Session.TheVariants as session
-use Rattle.tdl_serve.specs.declared.tally.Tally.{Tally}
+use Rattle.tdl_serve.specs.declared.sessions.Tally.{Tally}
 use Rattle.tdl_serve.specs.Doors.{IsOver, ServePrints, ServeRan, line_of, served_line}
 use Rattle.gs_http.specs.Sites.{SiteData}
 use Rattle.tdl_serve.specs.Turns.{SessionDid}
 use Rattle.tdl_serve.specs.Visits.{DoorState, Visit, Visited, is_want, wants_memory}
 use Rattle.tdl_serve.proofs.VisitLemmas.{visited_twice}
 
--- addresses that an open added where no memory was lost, and that stayed
+-- addresses that an open added without a loss of memory, and that stayed
 pub stays_added : (lost : Bool) (before opened now : Option (List (List ℕ))) (more : List (List ℕ)) → AddsNames false before more opened → now ≡ opened → AddsNames lost before more now
 stays_added lost before opened now more adds same = inl (same ∙ surely_added before opened more adds)
 

@@ -8,7 +8,7 @@ use Rattle.tdl_lines.specs.Inputs.{IsKnown}
 use Rattle.gs_port.specs.Connections.{Aside, after_accept, behind_first, finished_now, first_begun, first_input}
 use Rattle.gs_port.specs.Contents.{append_known}
 use Rattle.gs_port.specs.declared.door.AcceptAnswer.TheVariants as accepting
-use Rattle.tdl_serve.specs.declared.visits.Turn.{Turn}
+use Rattle.tdl_serve.specs.declared.sessions.Turn.{Turn}
 use Rattle.gs_http.specs.Sites.{SiteData}
 use Rattle.tdl_serve.specs.Resolutions.{count_if}
 use Rattle.tdl_serve.specs.Turns.{OpenServed, TurnDid, is_failure, turn_of}

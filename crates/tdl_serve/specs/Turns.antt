@@ -7,8 +7,8 @@ use Rattle.gs_port.specs.Connections.{Aside, after_finish, finished_now}
 use Rattle.tdl_serve.specs.Resolutions.{count_if}
 use Rattle.tdl_serve.specs.declared.sessions.Session.{Session}
 use Rattle.tdl_serve.specs.declared.sessions.Session.TheVariants as session
-use Rattle.tdl_serve.specs.declared.visits.Turn.{Turn}
-use Rattle.tdl_serve.specs.declared.visits.Turn.TheVariants.{Finished, Closed, Failed, Memory}
+use Rattle.tdl_serve.specs.declared.sessions.Turn.{Turn}
+use Rattle.tdl_serve.specs.declared.sessions.Turn.TheVariants.{Finished, Closed, Failed, Memory}
 use Rattle.tdl_serve.specs.Doors.{IsOver, NoneWaits}
 use Rattle.gs_http.specs.Sites.{SiteData}
 use Rattle.tdl_serve.specs.Visits.{DoorState, Visit, Visited, errors_of, is_error, is_want, wants_memory}

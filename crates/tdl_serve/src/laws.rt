@@ -7,6 +7,7 @@ ghost use Rattle.tdl_serve.specs.Visits.{AreVisits, RisesTellErrors, Visit};
 /// value. They are those whose counts rose.
 pub fn rises_tell_errors()
     ensures { (site : SiteData) (known : Bool) (reads writes reads' writes' : ℕ) (visits : List Visit)
-        → AreVisits site known reads writes visits reads' writes' → reads' < last_count → writes' < last_count
+        → AreVisits site known reads writes visits reads' writes'
+        → reads' < last_count → writes' < last_count
         → RisesTellErrors visits }
 {}

@@ -24,8 +24,6 @@
 mod laws;
 mod sessions;
 mod stream;
-mod tally;
-mod visits;
 
 pub use laws::rises_tell_errors;
 pub use sessions::serve;

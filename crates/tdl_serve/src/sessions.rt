@@ -1,19 +1,113 @@
-ghost use Rattle.std.specs.Prelude.{◌≡◌, ◌+◌, ◌-◌, ◌<◌, ◌≤◌, ◌^◌, false, length, true};
+ghost use Rattle.std.specs.Prelude.{◌≡◌, ◌+◌, ◌-◌, ◌<◌, ◌≤◌, ◌^◌, IfOk, false, length, string_bytes, true};
 ghost use Rattle.std.specs.Bool.{OnTrue};
-ghost use Rattle.tdl_lines.specs.Outputs.{Appends};
-ghost use Rattle.tdl_lines.specs.Statuses.{is_status};
-ghost use Rattle.gs_port.specs.Counts.{Rises};
-ghost use Rattle.tdl_serve.specs.Doors.{CountsErrors, OpensAt, ServeRan};
-ghost use Rattle.tdl_serve.specs.Turns.{LeavesDoor, SessionDid, error_number, is_failed};
-ghost use Rattle.tdl_serve.specs.Visits.{state_of};
 ghost use Rattle.gs_http.specs.Sites.{room_for};
+ghost use Rattle.gs_port.specs.Counts.{Rises};
+ghost use Rattle.tdl_lines.specs.Outputs.{Appends};
+ghost use Rattle.tdl_lines.specs.Printers.{AppendsLine};
+ghost use Rattle.tdl_lines.specs.Statuses.{is_status};
+ghost use Rattle.tdl_serve.specs.Doors.{CountsErrors, OpensAt, ServeRan, served_line};
+ghost use Rattle.tdl_serve.specs.Turns.{LeavesDoor, OpenServed, SessionDid, TurnDid};
+ghost use Rattle.tdl_serve.specs.Turns.{error_number, is_failed, is_failure, turn_of};
+ghost use Rattle.tdl_serve.specs.Visits.{state_of};
 
-use crate::tally::{Tally, print_tally};
-use crate::visits::{Turn, visit};
-use gs_http::{Resolver, Site};
-use gs_port::{Door, OpenAnswer, Sink};
+use gs_chars::Memory;
+use gs_http::{Resolver, Served, Site, serve_with};
+use gs_port::{AcceptAnswer, Door, OpenAnswer, Sink};
 use std::alloc::Global;
-use tdl_lines::Status;
+use tdl_lines::{Status, print_line};
+
+/// The outcome of a turn at a listener.
+#[derive(Clone, Copy)]
+enum Turn {
+    /// A connection was served and finished, and whether serving it ended by an error.
+    Finished { errored: bool },
+    /// No more connections will arrive.
+    Closed,
+    /// No connection could be accepted, for an error that was counted.
+    Failed,
+    /// A connection was finished at which memory ran out.
+    Memory,
+}
+
+/// Returns the turn of a connection with this outcome of serving.
+fn turn_of(served: Served) -> Turn
+    ensures { result ≡ turn_of served }
+{
+    match served {
+        Served::Done => Turn::Finished { errored: false },
+        Served::ReadFault | Served::WriteFault => Turn::Finished { errored: true },
+        Served::Memory => Turn::Memory,
+    }
+}
+
+/// Serves the open connection, and finishes it.
+fn serve_open<D: Door>(
+    alloc: Global,
+    resolver: &Resolver<'_>,
+    room: &mut [u32],
+    door: &mut D,
+) -> Turn
+    requires current { D.is_open door.old ≡ true }
+    requires room { room_for resolver.now.links ≤ length room.old }
+    ensures served { OpenServed resolver.now result (D.left door.old) (D.taken door.old) (D.held door.old)
+        (state_of (D.aside door.old) (D.reads door.old) (D.writes door.old))
+        (state_of (D.aside door.new) (D.reads door.new) (D.writes door.new)) }
+    ensures closed { D.is_open door.new ≡ false }
+    ensures same_ends { D.ends door.new ≡ D.ends door.old }
+{
+    let served = serve_with(alloc, door, resolver, room);
+    door.finish();
+    turn_of(served)
+}
+
+/// Accepts the next connection, serves it, and finishes it.
+fn visit<D: Door>(alloc: Global, resolver: &Resolver<'_>, room: &mut [u32], door: &mut D) -> Turn
+    requires none_open { D.is_open door.old ≡ false }
+    requires room { room_for resolver.now.links ≤ length room.old }
+    requires listening { (D.aside door.old).opened ≡ true }
+    ensures did { TurnDid result resolver.now
+        (state_of (D.aside door.old) (D.reads door.old) (D.writes door.old))
+        (state_of (D.aside door.new) (D.reads door.new) (D.writes door.new)) }
+    ensures closed { D.is_open door.new ≡ false }
+    ensures listens { (D.aside door.new).opened ≡ true }
+    ensures left { LeavesDoor (is_failure result) (D.aside door.old) (D.aside door.new) }
+    ensures same_ends { D.ends door.new ≡ D.ends door.old }
+{
+    match door.accept() {
+        AcceptAnswer::Accepted => serve_open(alloc, resolver, room, door),
+        AcceptAnswer::Closed => Turn::Closed,
+        AcceptAnswer::Failed => Turn::Failed,
+    }
+}
+
+/// The numbers of finished connections, and of those that ended by an error.
+#[derive(Clone, Copy)]
+struct Tally {
+    finished: u32,
+    errors: u32,
+}
+
+/// Returns the line of a tally.
+fn line_of(alloc: Global, tally: Tally) -> Result<String, Memory>
+    ensures { IfOk result (λ line. string_bytes line ≡ served_line tally.finished tally.errors) }
+{
+    let Tally { finished, errors } = tally;
+    Ok(format!(in alloc; "served {finished} faults {errors}\n")?)
+}
+
+/// Writes the line of a tally.
+fn print_tally<K: Sink>(alloc: Global, tally: Tally, output: &mut K) -> Status
+    ensures written { AppendsLine Status.Done (served_line tally.finished tally.errors) result
+        (K.held output.old) (K.held output.new) }
+    ensures error { OnTrue (is_status result Status.WriteFault)
+        (Rises (K.errors output.old) (K.errors output.new)) }
+    ensures counts { K.errors output.old ≤ K.errors output.new }
+{
+    match line_of(alloc, tally) {
+        Ok(line) => print_line(output, line.as_bytes(), Status::Done),
+        Err(Memory) => Status::Memory,
+    }
+}
 
 /// The outcome of the turns at a listener.
 #[derive(Clone, Copy)]

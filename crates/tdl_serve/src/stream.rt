@@ -29,7 +29,8 @@ fn answer_stream<C: Conn>(alloc: Global, site: &Site<'_>, conn: &mut C) -> Statu
         (λ out. Resolved site.now (C.left conn.old) out result) }
     ensures served { StreamServed site.now result (C.left conn.old) (C.left conn.new)
         (C.taken conn.old) (C.taken conn.new) (C.held conn.old) (C.held conn.new) }
-    ensures read_count { C.reads conn.new ≡ count_if (is_status result Status.ReadFault) (C.reads conn.old) }
+    ensures read_count { C.reads conn.new
+        ≡ count_if (is_status result Status.ReadFault) (C.reads conn.old) }
     ensures write_count { C.writes conn.new
         ≡ count_if (is_status result Status.WriteFault) (C.writes conn.old) }
     ensures read_counts { C.reads conn.old ≤ C.reads conn.new }

@@ -1,6 +1,7 @@
 use Rattle.std.proofs.Common.{[], None, refl, arith, sym}
 use Rattle.std.proofs.lemmas.Bool.{false≢true}
 use Rattle.tdl_arguments.specs.Requests.{known_values}
+use Rattle.tdl_run.specs.Works.{counts_line, merged_line, migrated_line}
 use Rattle.tdl_run.proofs.RanLemmas.{none_more, ran_of_line}
 use Rattle.tdl_run.proofs.GenLemmas.{gen_ran}
 use Rattle.tdl_run.proofs.ServeLemmas.{serve_ran, visits_finish}
@@ -15,8 +16,8 @@ returns-in-Translate-clause-ran g c = rw c.in-Translate.is ([], none_more _, c.t
 
 pub returns-in-Check-clause-ran : goal.returns-in-Check-clause-ran
 returns-in-Check-clause-ran g c =
-    let w = c.check.ensures.written in
-    rw c.in-Check.is ([], none_more _, (w.0, w.1, ran_of_line _ _ _ _ _ _ _ w.0 c.check.result (record { is_output = refl; none_finished = refl; done = refl }) w.2 c.check.ensures.error refl refl refl c.check.ensures.counts))
+    let w = c.print_made.ensures.written (counts_line c.args.loaded.now) c.counts_line.ensures in
+    rw c.in-Check.is ([], none_more _, (w.0, w.1, ran_of_line _ _ _ _ _ _ _ w.0 c.print_made.result (record { is_output = refl; none_finished = refl; done = refl }) w.2 c.print_made.ensures.error refl refl refl c.print_made.ensures.counts))
 
 pub returns-in-Resolve-clause-ran : goal.returns-in-Resolve-clause-ran
 returns-in-Resolve-clause-ran g c =
@@ -189,13 +190,13 @@ returns-in-ClassUri-clause-unserved g c = λ none. refl
 pub returns-in-ClassUri-clause-door_counts : goal.returns-in-ClassUri-clause-door_counts
 returns-in-ClassUri-clause-door_counts g c = omega arith
 
-pub print_migrated-requires : goal.print_migrated-requires
-print_migrated-requires g c = c.requires.source c.in-Migrate.is
+pub migrated_line-requires : goal.migrated_line-requires
+migrated_line-requires g c = c.requires.source c.in-Migrate.is
 
 pub returns-in-Migrate-clause-ran : goal.returns-in-Migrate-clause-ran
 returns-in-Migrate-clause-ran g c =
-    let w = c.print_migrated.ensures.written in
-    rw c.in-Migrate.is ([], none_more _, (w.0, w.1, ran_of_line _ _ _ _ _ _ _ w.0 c.print_migrated.result (record { is_output = refl; none_finished = refl; done = refl }) w.2 c.print_migrated.ensures.error refl refl refl c.print_migrated.ensures.counts))
+    let w = c.print_made-in-Migrate.ensures.written (migrated_line c.args.loaded.now) c.migrated_line.ensures in
+    rw c.in-Migrate.is ([], none_more _, (w.0, w.1, ran_of_line _ _ _ _ _ _ _ w.0 c.print_made-in-Migrate.result (record { is_output = refl; none_finished = refl; done = refl }) w.2 c.print_made-in-Migrate.ensures.error refl refl refl c.print_made-in-Migrate.ensures.counts))
 
 pub returns-in-Migrate-clause-served : goal.returns-in-Migrate-clause-served
 returns-in-Migrate-clause-served g c = rw c.in-Migrate.is (λ heads. absurd (false≢true heads))
@@ -214,8 +215,8 @@ returns-in-Migrate-clause-used g c = rw c.in-Migrate.is (λ uses. absurd (false�
 
 pub returns-in-Merge-clause-ran : goal.returns-in-Merge-clause-ran
 returns-in-Merge-clause-ran g c =
-    let w = c.print_merged.ensures.written in
-    rw c.in-Merge.is ([], none_more _, (w.0, w.1, ran_of_line _ _ _ _ _ _ _ w.0 c.print_merged.result (record { is_output = refl; none_finished = refl; done = refl }) w.2 c.print_merged.ensures.error refl refl refl c.print_merged.ensures.counts))
+    let w = c.print_made-in-Merge.ensures.written (merged_line c.args.loaded.now) c.merged_line.ensures in
+    rw c.in-Merge.is ([], none_more _, (w.0, w.1, ran_of_line _ _ _ _ _ _ _ w.0 c.print_made-in-Merge.result (record { is_output = refl; none_finished = refl; done = refl }) w.2 c.print_made-in-Merge.ensures.error refl refl refl c.print_made-in-Merge.ensures.counts))
 
 pub returns-in-Merge-clause-served : goal.returns-in-Merge-clause-served
 returns-in-Merge-clause-served g c = rw c.in-Merge.is (λ heads. absurd (false≢true heads))

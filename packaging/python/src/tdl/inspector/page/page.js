@@ -95,7 +95,7 @@ function settle(sentence, isFailed = false, isShown = true) {
 
 const isInAddress = (text) => !held && text.length <= MOST_IN_ADDRESS;
 
-/** Puts what is shown into the address bar. */
+/** Puts the shown text and its settings into the address bar. */
 function keep() {
   const asked = question();
   const isHeld = asked.text !== "" && isInAddress(asked.text);
@@ -111,7 +111,7 @@ function changed(wait = WAIT) {
   }, wait);
 }
 
-/** Takes the lines of a file: into the field if they are few, else beside it. */
+/** Takes the lines of a file: into the field if they are few, otherwise next to it. */
 function take(name, text) {
   const plain = text.replace(/\r\n?/g, "\n").replace(/\n+$/, "");
   held = plain.length > MOST_IN_FIELD ? { name, text: plain } : null;

@@ -9,7 +9,7 @@ use Rattle.tdl_lines.specs.Outputs.{AnswersEnded}
 use Rattle.tdl_run.specs.CommandRuns.{AnswersLines, Moment}
 use Rattle.tdl_run.specs.Works.{LinesAnswered, input_limit, translating}
 use Rattle.tdl_run.proofs.RanLemmas.{lines_some, ran_of_memory}
-use Rattle.tdl_run.proofs.translate_command.translate_loaded.Goals as goal
+use Rattle.tdl_run.proofs.line_commands.translate_loaded.Goals as goal
 
 pub answer_input-requires : goal.answer_input-requires
 answer_input-requires g c = some_translated (translating_by c.args.loaded.now.tables c.args.loaded.now.prefixes c.in-Ok.options c.args.from c.args.to) c.requires.loaded

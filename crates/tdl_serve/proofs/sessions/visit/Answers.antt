@@ -2,7 +2,7 @@ use Rattle.std.proofs.Common.{◌∙◌, ap, arith}
 use Rattle.gs_port.specs.Connections.{Aside}
 use Rattle.tdl_serve.proofs.TurnLemmas.{accepted, counts_of_turn}
 use Rattle.tdl_serve.proofs.VisitLemmas.{visited_none}
-use Rattle.tdl_serve.proofs.visits.visit.Goals as goal
+use Rattle.tdl_serve.proofs.sessions.visit.Goals as goal
 
 pub returns-in-Accepted-clause-did : goal.returns-in-Accepted-clause-did
 returns-in-Accepted-clause-did g c =

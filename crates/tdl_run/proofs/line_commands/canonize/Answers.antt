@@ -1,4 +1,4 @@
-use Rattle.tdl_run.proofs.translate_command.canonize.Goals as goal
+use Rattle.tdl_run.proofs.line_commands.canonize.Goals as goal
 
 pub translate_loaded-requires-clause-options : goal.translate_loaded-requires-clause-options
 translate_loaded-requires-clause-options g c = record { filter = c.requires.options.filter; stem = c.requires.options.stem }

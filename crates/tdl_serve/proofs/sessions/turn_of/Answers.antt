@@ -1,6 +1,6 @@
 use Rattle.std.proofs.Common.{ap, sym, inl, inr}
 use Rattle.tdl_serve.specs.Turns.{turn_of}
-use Rattle.tdl_serve.proofs.visits.turn_of.Goals as goal
+use Rattle.tdl_serve.proofs.sessions.turn_of.Goals as goal
 
 pub returns-in-Memory : goal.returns-in-Memory
 returns-in-Memory c = ap turn_of (sym c.in-Memory.is)

@@ -4,7 +4,7 @@ use Rattle.tdl_answers.specs.ClassAnswers.{ClassReading, IsClassCanonLine, readi
 use Rattle.tdl_answers.proofs.ClassLineLemmas.{some_class_read}
 use Rattle.tdl_lines.specs.OutputsSupport.{HasAnswers}
 use Rattle.tdl_run.specs.CommandRuns.{AnswersLines, Moment}
-use Rattle.tdl_run.proofs.class_command.link_classes.Goals as goal
+use Rattle.tdl_run.proofs.line_commands.link_classes.Goals as goal
 
 pub new-answerer-requires : goal.new-answerer-requires
 new-answerer-requires g c = rw c.ais.ensures.rows c.requires.of_table

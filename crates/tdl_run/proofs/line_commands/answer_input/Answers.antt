@@ -1,6 +1,6 @@
 use Rattle.tdl_run.specs.CommandRuns.{Moment}
 use Rattle.tdl_run.proofs.RanLemmas.{ran_of_lines}
-use Rattle.tdl_run.proofs.answered_input.answer_input.Goals as goal
+use Rattle.tdl_run.proofs.line_commands.answer_input.Goals as goal
 
 pub returns : goal.returns
 returns g c =

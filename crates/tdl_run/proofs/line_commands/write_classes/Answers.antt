@@ -2,7 +2,7 @@ use Rattle.std.proofs.Common.{subst}
 use Rattle.tdl_answers.specs.ClassAnswers.{ClassWriting, IsClassUriLine}
 use Rattle.tdl_answers.proofs.ClassLineLemmas.{some_class_written}
 use Rattle.tdl_run.specs.CommandRuns.{AnswersLines, Moment}
-use Rattle.tdl_run.proofs.class_command.write_classes.Goals as goal
+use Rattle.tdl_run.proofs.line_commands.write_classes.Goals as goal
 
 pub new-answerer-requires : goal.new-answerer-requires
 new-answerer-requires g c = c.requires.of_table
