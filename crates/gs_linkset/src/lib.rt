@@ -32,6 +32,7 @@ mod writer;
 
 pub use doc::{DocFault, LinkDoc};
 pub use laws::{one_text_each, written_is_read};
+pub use link_shapes::is_single;
 pub use link_types::{Attr, AttrValue, Context, Relation, Target};
 pub use reader::{is_anchor, read};
 pub use writer::write;

@@ -68,7 +68,7 @@ pub(crate) fn is_tagged(name: &[u8]) -> bool
 }
 
 /// Returns whether the name is that of an attribute with one text.
-pub(crate) fn is_single(name: &[u8]) -> bool
+pub fn is_single(name: &[u8]) -> bool
     ensures { result ≡ is_single name.now }
 {
     name == b"type".as_slice() || name == b"title".as_slice() || name == b"media".as_slice()
