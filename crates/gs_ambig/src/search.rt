@@ -1,5 +1,5 @@
 ghost use Rattle.std.specs.Prelude.{◌≡◌, ◌+◌, ◌*◌, ◌^◌, ◌<◌, ◌∷◌, IfSome, IfNone, IsTrue, ◌↔◌, ◌++◌, [], OnOk, OnErr};
-ghost use Rattle.std.specs.Prelude.{◌/◌, ℕ, length, slice_index};
+ghost use Rattle.std.specs.Prelude.{◌/◌, ℕ, length};
 ghost use Rattle.gs_ambig.specs.Machines.{states_of, accept_of};
 ghost use Rattle.gs_ambig.specs.Walks.{edges_at};
 ghost use Rattle.gs_ambig.specs.Searches.{BothHave, HaveNoneInCommon, IfFound, IfNotFound, Leads, LeadsBehind, IsDead};
@@ -36,7 +36,7 @@ fn common_symbol(edge: &Edge, other: &Edge) -> Option<u8>
 }
 
 /// Inserts the symbol at the start of the word that was found after it.
-pub fn with_front(symbol: u8, mut word: Vec<u8>) -> Result<Option<Vec<u8>>, Memory>
+fn with_front(symbol: u8, mut word: Vec<u8>) -> Result<Option<Vec<u8>>, Memory>
     ensures found { IfFound result (λ whole. whole.items ≡ symbol ∷ word.items) }
     ensures some { IfNotFound result ⊥ }
 {
@@ -90,7 +90,7 @@ pub fn search(
 /// Returns the same for lists of symbols that take this edge in the first machine. In the second they take an edge from q to a
 /// state that is not below the least. The state p, which the edge leaves, bounds how far the search can still go.
 #[cycle(search)]
-pub fn search_behind(
+fn search_behind(
     alloc: Global,
     m: &Auto,
     n: &Auto,
@@ -155,7 +155,7 @@ impl Marks {
     }
 
     /// Returns whether a number is in the set.
-    pub fn contains(&self, number: usize) -> bool
+    fn contains(&self, number: usize) -> bool
         ensures { IsTrue result ↔ Contains self.now number }
     {
         is_set(self.bits.as_slice(), number)
@@ -169,7 +169,7 @@ impl Marks {
     }
 
     /// Puts a number in.
-    pub fn insert(&mut self, number: usize) -> Result<(), Memory>
+    fn insert(&mut self, number: usize) -> Result<(), Memory>
         ensures inserted { OnOk result (self.new ≡ self.old ++ number ∷ []) }
         ensures unchanged { OnErr result (self.new ≡ self.old) }
     {
@@ -189,7 +189,7 @@ impl Marks {
 }
 
 /// Returns whether a bit is set.
-pub fn is_set(bits: &[u64], number: usize) -> bool
+fn is_set(bits: &[u64], number: usize) -> bool
     ensures { IsTrue result ↔ IsSet bits.now number }
 {
     match bits.get(number / 64) {
@@ -199,7 +199,7 @@ pub fn is_set(bits: &[u64], number: usize) -> bool
 }
 
 /// Sets a bit. There is room for it.
-pub fn set(bits: &mut Vec<u64>, number: usize)
+fn set(bits: &mut Vec<u64>, number: usize)
     requires { number / 64 < length bits.old.items }
     ensures set { IsSet bits.new.items number }
     ensures others { SameBesides number bits.old.items bits.new.items }

@@ -9,7 +9,7 @@ pub struct Full;
 pub struct Short;
 
 /// Why a text is not a hexadecimal text of the bits of a buffer.
-#[derive(Clone, Copy, Debug, Error)]
+#[derive(Clone, Copy, Debug, PartialEq, Error)]
 pub enum HexFault {
     /// The text has an odd number of bytes.
     #[error("an odd number of hexadecimal digits")]

@@ -1,6 +1,6 @@
 ghost use Rattle.std.specs.Prelude.{◌≡◌, [], IfOk, false, codes, map};
 ghost use Rattle.serde_json.specs.View.{view};
-ghost use Rattle.gs_json.specs.Members.{items_of, items_in, text_in};
+ghost use Rattle.gs_json.specs.Members.{items_of, items_in};
 ghost use Rattle.gs_json.specs.Shapes.{shape_errors};
 ghost use Rattle.gs_class.specs.AnswersSupport.{IsFormFirst, of_json};
 ghost use Rattle.gs_prefix.specs.Documents.{array_errors};
@@ -9,11 +9,10 @@ ghost use Rattle.gs_tables_document.specs.Items.{item_of};
 
 use crate::error::ClassLoadFault;
 use gs_chars::{List, Memory, Text};
-use gs_json::{Entry, JsonFault, Node, Sort, number_in, plan_of, text_in};
+use gs_json::{Entry, JsonFault, Node, Sort, number_in, plan_of};
 use gs_prefix::judge_rows;
 use gs_tables::{ItemFault, read_item};
-use gs_tables_document::FieldItem;
-use serde_json::Value;
+use gs_tables_document::{FieldItem, copy_in};
 use std::alloc::Global;
 
 /// A class of a document, before it is judged.
@@ -114,13 +113,6 @@ pub(crate) fn judge_form(alloc: Global, root: &Node<'_>) -> Result<(), ClassLoad
     let plan = document_plan(alloc)?;
     judge_object(alloc, root, plan.items())?;
     judge_classes(alloc, root)
-}
-
-/// Returns a copy of the text of the named member, and of the empty text if there is none.
-fn copy_in(alloc: Global, object: &Value, name: &str) -> Result<Text, Memory>
-    ensures { IfOk result (λ text. text ≡ text_in name.now (view object.now)) }
-{
-    Text::from_bytes(alloc, text_in(object, name).as_bytes())
 }
 
 /// Returns the item that an array is, if it is an item of a text.

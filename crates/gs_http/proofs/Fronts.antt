@@ -2,7 +2,7 @@
 use Rattle.std.proofs.Common.{◌≡◌, ◌≢◌, ℕ, zero, suc, ◌+◌, ◌-◌, ◌<◌, ◌≤◌, min, true, false, List, [], ◌∷◌, ◌++◌, length, take, drop, Option, Some, None, refl, sym, ap, ◌∙◌, subst, arith, inl, inr, length-drop}
 use Rattle.std.specs.Prelude.{bytes_eq, option_map}
 use Rattle.std.proofs.lemmas.Bool.{cases_lt}
-use Rattle.std.proofs.lemmas.List.{length-take, take-append-le, drop-append-le}
+use Rattle.std.proofs.lemmas.List.{length-take, take-append-le, take_all, drop-append-le}
 use Rattle.memchr.specs.Find.{FindsNeedle, OccursAt}
 use Rattle.memchr.proofs.lemmas.MatchLemmas.{OccursAt-from_part, OccursAt-part}
 use Rattle.gs_chars.proofs.TruthsAndLists.{equal_bytes, same_bytes, true_or_false}
@@ -135,14 +135,8 @@ pub front_ended : front_of [] ≡ ended
 unfolding front_of
 front_ended = refl
 
-take_all : (text : List ℕ) (n : ℕ) → length text ≤ n → take n text ≡ text
-take_all [] zero h = refl
-take_all [] (suc n) h = refl
-take_all (c ∷ text) zero h = absurd (omega arith)
-take_all (c ∷ text) (suc n) h = ap (λ rest. c ∷ rest) (take_all text n (omega arith))
-
 pub taken_min : (text : List ℕ) (m n : ℕ) → m ≡ min (length text) n → take m text ≡ take n text
 taken_min text m n e = elim (cases_lt n (length text)) [
   | inl less ↦ let same : m ≡ n = omega arith in ap (λ k. take k text) same
-  | inr high ↦ let same : m ≡ length text = omega arith in take_all text m (omega arith) ∙ sym (take_all text n high)
+  | inr high ↦ let same : m ≡ length text = omega arith in take_all m text (omega arith) ∙ sym (take_all n text high)
 ]

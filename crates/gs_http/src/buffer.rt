@@ -1,4 +1,4 @@
-ghost use Rattle.std.specs.Prelude.{◌≡◌, ◌≤◌, ◌<◌, ◌+◌, [], true, drop, length, ◌^◌, ℕ, List, None, Option, take};
+ghost use Rattle.std.specs.Prelude.{◌≡◌, ◌≤◌, ◌<◌, ◌+◌, [], true, drop, length, ℕ, List, None, Option, take};
 ghost use Rattle.std.specs.Prelude.{IfSome};
 ghost use Rattle.gs_http.specs.ConnectedSupport.{Comes, Reads, reads_with, Begins, NothingLeft, reads_after};
 ghost use Rattle.gs_http.specs.Untouched.{IsUnwritten, StaysOpen};

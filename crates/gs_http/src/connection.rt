@@ -1,4 +1,4 @@
-ghost use Rattle.std.specs.Prelude.{◌≡◌, ◌-◌, ◌<◌, ◌≤◌, ◌==◌, length, true, vec_len, Bool, List, None, Some, take};
+ghost use Rattle.std.specs.Prelude.{◌≡◌, ◌-◌, ◌<◌, ◌≤◌, ◌==◌, length, true, Bool, List, None, Some, take};
 ghost use Rattle.gs_http.specs.ServedStreams.{IsServed, reads_when, writes_when};
 ghost use Rattle.gs_http.specs.Sites.{room_for};
 ghost use Rattle.gs_ai.specs.declared.row.AiRow.{AiRow};

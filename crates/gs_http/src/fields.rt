@@ -1,7 +1,7 @@
 ghost use Rattle.std.specs.Prelude.{◌≡◌, map, reverse};
 ghost use Rattle.std.specs.Char.{to_ascii_lowercase};
 ghost use Rattle.std.specs.Iterator.{YieldsFirstRef, item_count};
-ghost use Rattle.std.specs.List.{list_any, slice_split};
+ghost use Rattle.std.specs.List.{slice_split};
 ghost use Rattle.httparse.specs.Grammar.{is_ows, skip_ows, trim_ows};
 ghost use Rattle.gs_http.specs.Fields.{has_close, is_close, is_comma, is_word};
 ghost use Rattle.gs_http.specs.SaidFields.{members_left};

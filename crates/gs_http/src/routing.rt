@@ -1,5 +1,4 @@
 ghost use Rattle.std.specs.Prelude.{◌≡◌, ◌≤◌, ◌<◌, ◌==◌, ◌||◌, ℕ, Bool, List, IfErr, IfOk, length};
-ghost use Rattle.gs_ai.specs.declared.row.AiRow.{AiRow};
 ghost use Rattle.gs_dlink.specs.Answers.{target_answer};
 ghost use Rattle.gs_http.specs.References.{reference_for};
 ghost use Rattle.gs_http.specs.Forms.{rendered_as};

@@ -3,8 +3,7 @@ ghost use Rattle.percent_encoding.specs.Percent.{percent_decode};
 ghost use Rattle.gs_http.specs.AcceptedForms.{accepted_form};
 ghost use Rattle.gs_http.specs.LentValues.{asked_by, name_of, wished};
 ghost use Rattle.gs_http.specs.Wishes.{form_or_json, wish_named, wish_of, wish_unnamed, is_link_type, link_type};
-ghost use Rattle.std.specs.List.{after_first, find, slice_split};
-ghost use Rattle.gs_chars.specs.Characters.{is_byte};
+ghost use Rattle.std.specs.List.{find, slice_split};
 ghost use Rattle.gs_dlink.specs.Uris.{separates_parts};
 
 use crate::cuts::{after, before, behind, query_of};

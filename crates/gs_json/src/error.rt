@@ -2,7 +2,7 @@ use gs_chars::{Memory, Text};
 use thiserror::Error;
 
 /// Why a document is not read as asked. The places are JSON Pointers (RFC 6901).
-#[derive(Debug, Drop, Error)]
+#[derive(Debug, PartialEq, Drop, Error)]
 pub enum JsonFault {
     /// The bytes are invalid JSON.
     #[error("invalid JSON")]

@@ -1,5 +1,5 @@
 -- The attributes of the entries of a map are those of the parameters.
-use Rattle.std.proofs.Common.{◌≡◌, ℕ, zero, suc, ◌+◌, ◌<◌, Bool, true, false, List, [], ◌∷◌, ◌++◌, Option, Some, None, map, slice_get, bytes_eq, unwrap_or, refl, ap, sym, ◌∙◌, inl, inr, Less, append-nil, append_assoc, cond}
+use Rattle.std.proofs.Common.{◌≡◌, ℕ, zero, suc, ◌+◌, Bool, true, false, List, [], ◌∷◌, ◌++◌, Option, Some, None, map, slice_get, bytes_eq, unwrap_or, refl, ap, sym, ◌∙◌, inl, inr, Less, append-nil, append_assoc, cond}
 use Rattle.std.specs.BTreeMap as tree
 use Rattle.std.specs.BTreeMap.{BTreeMap, is_at, IsOrdered, Updates}
 use Rattle.std.specs.Cmp.Lexicographic.{nat_list_cmp_total, slice_cmp}

@@ -24,6 +24,7 @@ use Rattle.gs_linktext_grammar.proofs.PartLemmas.{split_none}
 use Rattle.gs_linktext.specs.Links.{attr_of, attr_value, attr_with, first_error, is_language_byte, is_reserved, link_error, many_value, tagged_text, tagged_value, types_in, values_of, IsAttributes, IsLinksOf, IsLinksOfLink}
 use Rattle.gs_dlink.proofs.FreeBytes.{decoded_again}
 use Rattle.gs_ident.specs.Links.{percent_encoded}
+use Rattle.gs_ident.proofs.MovedPairs.{differs}
 use Rattle.gs_linktext.specs.Spelling.{has_unspellable_language, is_unspellable_value}
 use Rattle.gs_linktext.proofs.AttrLemmas.{no_values}
 use Rattle.gs_linktext.proofs.SpelledBytes.{all_from_none, language_utf8, mark_ends}
@@ -78,9 +79,6 @@ attr_back attr good = rw (good.reserved, value_back attr.name attr.value good.va
 
 -- ---- the values of a name
 
-apart : (a b : List ℕ) → bytes_eq a b ≡ false → bytes_eq b a ≡ false
-apart a b h = false_from (bytes_eq b a) (λ t. let same = equal_bytes b a t in let e : bytes_eq a b ≡ true = rw same (same_bytes a) in let f : false ≡ true = sym h ∙ e in cc)
-
 values_both : (name : List ℕ) (xs ys : List Param) → values_of name (xs ++ ys) ≡ values_of name xs ++ values_of name ys
 values_both name [] ys = refl
 values_both name (x ∷ xs) ys = elim (true_or_false (bytes_eq x.name name)) [
@@ -110,7 +108,7 @@ IsBelowAll name attrs = AllByRecursion (λ m. slice_cmp nat_cmp name m ≡ Less)
 pub below_apart : (a b : List ℕ) → slice_cmp nat_cmp a b ≡ Less → bytes_eq b a ≡ false
 below_apart a b h =
     let f : is_eq (slice_cmp nat_cmp a b) ≡ false = rw h refl in
-    apart a b (sym (is_eq-slice_cmp a b) ∙ f)
+    differs a b (sym (is_eq-slice_cmp a b) ∙ f)
 
 none_above : (name : List ℕ) (attrs : List Attr) → IsBelowAll name attrs → values_of name (read_attrs attrs) ≡ []
 none_above name [] below = refl
@@ -141,7 +139,7 @@ each_values : (attrs : List Attr) (i : ℕ) (attr : Attr) → AreSorted attrs �
 each_values [] i attr s at = absurd (not_some attr at)
 each_values (a ∷ attrs) zero attr s at = rw (← some_is a attr at) (first_values a attrs s.0)
 each_values (a ∷ attrs) (suc i) attr s at =
-    values_split attr.name a attrs ∙ ap (λ (vs : List (List ℕ)). vs ++ values_of attr.name (read_attrs attrs)) (no_values_of a.name attr.name (value_lexemes a.value) (apart attr.name a.name (below_apart a.name attr.name (below_at a.name attrs i attr s.0 at)))) ∙ each_values attrs i attr s.1 at
+    values_split attr.name a attrs ∙ ap (λ (vs : List (List ℕ)). vs ++ values_of attr.name (read_attrs attrs)) (no_values_of a.name attr.name (value_lexemes a.value) (differs attr.name a.name (below_apart a.name attr.name (below_at a.name attrs i attr s.0 at)))) ∙ each_values attrs i attr s.1 at
 
 good_at : (attrs : List Attr) (i : ℕ) (attr : Attr) → AreGoodAttrs attrs → slice_get attrs i ≡ Some attr → IsGoodAttr attr
 good_at [] i attr good at = absurd (not_some attr at)
@@ -167,8 +165,8 @@ found_at name (a ∷ attrs) attr s good h = by (bytes_eq a.name name) refl (λ g
 -- of a name that is not reserved, the values are those of the attributes
 link_values : (name : List ℕ) (link : Link) → is_reserved name ≡ false → values_of name (map read_param (link_params link)) ≡ values_of name (read_attrs link.2.attrs)
 link_values name link h =
-    let rel : bytes_eq (codes "rel") name ≡ false = apart name (codes "rel") (or_first (bytes_eq name (codes "rel")) _ h) in
-    let anchor : bytes_eq (codes "anchor") name ≡ false = apart name (codes "anchor") (or_first (bytes_eq name (codes "anchor")) (bytes_eq name (codes "href")) (or_second (bytes_eq name (codes "rel")) _ h)) in
+    let rel : bytes_eq (codes "rel") name ≡ false = differs name (codes "rel") (or_first (bytes_eq name (codes "rel")) _ h) in
+    let anchor : bytes_eq (codes "anchor") name ≡ false = differs name (codes "anchor") (or_first (bytes_eq name (codes "anchor")) (bytes_eq name (codes "href")) (or_second (bytes_eq name (codes "rel")) _ h)) in
     rw (rel, anchor) refl
 
 pub not_reserved : (name : List ℕ) (values : List (List ℕ)) (attr : Attr) → attr_with name values ≡ Some attr → is_reserved name ≡ false

@@ -5,8 +5,8 @@ ghost use Rattle.gs_linkset.specs.declared.link_types.AttrValue.TheVariants.{One
 ghost use Rattle.gs_linktext.specs.Groups.{is_one};
 ghost use Rattle.std.specs.List.{cons_option, filter_map, list_all, prefix_len};
 ghost use Rattle.std.specs.Str.{bytes_eq, is_utf8};
-ghost use Rattle.gs_linkset.specs.Attributes.{is_single, is_tagged};
-ghost use Rattle.gs_linkset.specs.LinkShapes.{is_attr, is_tagged_text, is_value};
+ghost use Rattle.gs_linkset.specs.Attributes.{is_tagged};
+ghost use Rattle.gs_linkset.specs.LinkShapes.{is_tagged_text, is_value};
 ghost use Rattle.gs_linktext_grammar.specs.Bytes.{after_prefix, prefix_of};
 ghost use Rattle.gs_linktext.specs.Links.{attr_value, attr_with, is_language_byte, is_reserved, tagged_by, tagged_text, IsAttributes};
 ghost use Rattle.gs_linktext.specs.Groups.{attrs_of_entries};
@@ -14,7 +14,7 @@ ghost use Rattle.gs_linktext.specs.Groups.{attrs_of_entries};
 use crate::groups::groups_of;
 use gs_chars::{List, Memory, Text};
 use gs_dlink::decoded;
-use gs_linkset::{Attr, AttrValue};
+use gs_linkset::{Attr, AttrValue, is_single};
 use gs_linktext_grammar::{CheckedText, Param, is_utf8};
 use std::alloc::Global;
 use std::collections::BTreeMap;
@@ -24,13 +24,6 @@ fn is_tagged(name: &[u8]) -> bool
     ensures { result ≡ is_tagged name.now }
 {
     name.ends_with(b"*")
-}
-
-/// Returns whether the name is that of an attribute with one text.
-fn is_single(name: &[u8]) -> bool
-    ensures { result ≡ is_single name.now }
-{
-    name == b"type".as_slice() || name == b"title".as_slice() || name == b"media".as_slice()
 }
 
 /// Returns whether the name is that of no attribute.

@@ -239,7 +239,7 @@ fn push_context<'a>(links: &mut Vec<LentLink<'a>>, context: &'a Context) -> Resu
 }
 
 /// Returns the links of contexts, in their order.
-pub(crate) fn lent_links(alloc: Global, contexts: &[Context]) -> Result<Vec<LentLink<'_>>, Memory>
+fn lent_links(alloc: Global, contexts: &[Context]) -> Result<Vec<LentLink<'_>>, Memory>
     ensures { IfOk result (λ links. map seen links.items ≡ links_of_document contexts.now) }
 {
     let mut links = Vec::new(alloc);

@@ -4,7 +4,7 @@ ghost use Rattle.gs_linktext_grammar.specs.Answers.{IsSyntax};
 ghost use Rattle.gs_linktext_grammar.specs.Bytes.{after_prefix, prefix_of, is_blank, is_target_byte, is_token};
 ghost use Rattle.gs_linktext_grammar.specs.Bytes.{is_quotable, is_quoted_byte};
 ghost use Rattle.gs_linktext_grammar.specs.Prefixes.{after_blanks, first_lexeme, quoted_of, said_from, target_of};
-ghost use Rattle.gs_linktext_grammar.specs.Prefixes.{with_bytes, word_of};
+ghost use Rattle.gs_linktext_grammar.specs.Prefixes.{word_of};
 ghost use Rattle.gs_linktext_grammar.specs.Lexemes.{unquoted};
 
 use crate::error::LinkTextFault;
@@ -231,7 +231,7 @@ pub fn is_quotable(c: u8) -> bool
 }
 
 /// Returns whether the byte may be in a quoted string without a backslash.
-pub(crate) fn is_quoted_byte(c: u8) -> bool
+fn is_quoted_byte(c: u8) -> bool
     ensures { result ≡ is_quoted_byte c }
 {
     is_quotable(c) && c != b'"' && c != b'\\'

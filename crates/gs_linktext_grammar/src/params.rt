@@ -1,4 +1,4 @@
-ghost use Rattle.std.specs.Prelude.{◌≡◌, IfOk, IfErr, None, Some, [], map, ◌<◌, IfSome, List, length};
+ghost use Rattle.std.specs.Prelude.{◌≡◌, IfOk, IfErr, None, Some, map, ◌<◌, IfSome, List, length};
 ghost use Rattle.std.specs.Char.{to_ascii_lowercase};
 ghost use Rattle.std.specs.Option.{option_map};
 ghost use Rattle.gs_linktext_grammar.specs.Answers.{IsSyntax};
@@ -123,7 +123,7 @@ pub(crate) fn params_of(alloc: Global, parts: &[&[Lexeme]]) -> Result<Vec<Param>
 
 impl Lexeme {
     /// Returns whether it is a comma.
-    pub(crate) fn is_comma(&self) -> bool
+    fn is_comma(&self) -> bool
         ensures { result ≡ is_comma self.now }
     {
         matches!(self, Lexeme::Comma)
@@ -137,7 +137,7 @@ impl Lexeme {
     }
 
     /// Returns whether it is an equals sign.
-    pub(crate) fn is_equals(&self) -> bool
+    fn is_equals(&self) -> bool
         ensures { result ≡ is_equals self.now }
     {
         matches!(self, Lexeme::Equals)

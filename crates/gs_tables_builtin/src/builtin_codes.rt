@@ -320,7 +320,7 @@ pub fn builtin_ais(alloc: Global) -> Result<List<AiRow>, Memory>
 
 /// A row of an application identifier, written in a line.
 #[derive(Clone, Copy)]
-pub(crate) enum AiLine<'a> {
+enum AiLine<'a> {
     /// An attribute: its code and its part.
     Attribute(&'a [u8], Part),
     /// A key qualifier: its AI, its part, and the value that means none.

@@ -1,4 +1,4 @@
-ghost use Rattle.std.specs.Prelude.{◌≡◌, ◌++◌, IfOk, OnOk, map, replicate};
+ghost use Rattle.std.specs.Prelude.{◌≡◌, ◌++◌, IfOk, OnOk, map};
 ghost use Rattle.gs_tables_builtin.specs.BuiltIn.{asset_encodings, document_encodings, encodings, further_encodings, identities, item_encodings, zeros};
 ghost use Rattle.gs_tables_builtin.specs.BuiltInSupport.{encoding_known, identity_known, identity_with, item_known, serial_known};
 

@@ -1,4 +1,4 @@
-ghost use Rattle.std.specs.Prelude.{◌≡◌, ◌≤◌, ◌-◌, ◌^◌, ◌∷◌, ◌++◌, [], IfOk, IsTrue, OnOk, Some, codes, map, option_to_list};
+ghost use Rattle.std.specs.Prelude.{◌≡◌, ◌≤◌, ◌-◌, ◌^◌, ◌∷◌, ◌++◌, IfOk, IsTrue, OnOk, Some, codes, map, option_to_list};
 ghost use Rattle.std.specs.List.{flat_map};
 ghost use Rattle.gs_bits.specs.Bits.{bits_of};
 ghost use Rattle.gs_grammar.specs.declared.item.Item.TheVariants.{Lit};

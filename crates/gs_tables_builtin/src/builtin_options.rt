@@ -1,4 +1,4 @@
-ghost use Rattle.std.specs.Prelude.{◌≡◌, ◌-◌, ◌∷◌, ◌++◌, [], IfOk, IsTrue, OnOk, List, map};
+ghost use Rattle.std.specs.Prelude.{◌≡◌, ◌-◌, ◌++◌, IfOk, IsTrue, OnOk, List, map};
 ghost use Rattle.std.specs.List.{flat_map, list_all};
 ghost use Rattle.gs_tables_builtin.specs.BuiltIn.{encoded_items, encoded_row, encoded_rows, pure_row, pure_rows, row_with, there};
 ghost use Rattle.gs_tables_builtin.specs.BuiltInSupport.{Gains, rest_fits, rests_fit};
