@@ -18,7 +18,8 @@ use thiserror::Error;
 
 /// Returns the line that shows the dump that a text is.
 fn shown_text(alloc: Global, set: &TableSet, text: &[u8]) -> Result<Text, DumpReason>
-    ensures { HasMemory (λ reason. reason ≡ Common OutOfMemory) result → IsDumpShown set.now text.now result }
+    ensures { HasMemory (λ reason. reason ≡ Common OutOfMemory) result
+        → IsDumpShown set.now text.now result }
 {
     if text.len() > LONGEST_TEXT {
         return Err(DumpReason::Common(Reason::Long));

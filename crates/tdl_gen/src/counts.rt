@@ -1,4 +1,4 @@
-ghost use Rattle.std.specs.Prelude.{◌≡◌, IfOk, string_bytes, ◌≢◌, [], ◌+◌, ◌*◌, ◌<◌, ◌≤◌, ◌^◌, Err, length};
+ghost use Rattle.std.specs.Prelude.{◌≡◌, IfOk, string_bytes, ◌≢◌, [], ◌+◌, ◌<◌, ◌≤◌, ◌^◌, Err, length};
 ghost use Rattle.tdl_gen.specs.Counts.{counts_text, filter_one};
 ghost use Rattle.gs_translate.specs.declared.reason.Reason.TheVariants.{Memory as WantOfMemory};
 ghost use Rattle.gs_translate.specs.Reasons.{reason_text};

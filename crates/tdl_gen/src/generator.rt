@@ -1,5 +1,5 @@
 ghost use Rattle.std.specs.Prelude.{◌≡◌, ◌+◌, ◌<◌, ◌^◌, IfOk, string_bytes, ◌≤◌, []};
-ghost use Rattle.tdl_gen.specs.Generator.{digits_in, generated_line, next_state, sgtin_text};
+ghost use Rattle.tdl_gen.specs.Generator.{generated_line, next_state, sgtin_text};
 ghost use Rattle.std.specs.Bool.{OnTrue};
 ghost use Rattle.tdl_lines.specs.Statuses.{is_status};
 ghost use Rattle.gs_port.specs.Counts.{Rises};

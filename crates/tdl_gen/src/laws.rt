@@ -1,4 +1,4 @@
-ghost use Rattle.std.specs.Prelude.{◌≡◌, ℕ, List};
+ghost use Rattle.std.specs.Prelude.{ℕ};
 ghost use Rattle.gs_tables.specs.Judgements.{IsLoaded};
 ghost use Rattle.gs_tables.specs.Tables.{TableRows};
 ghost use Rattle.gs_translate.specs.StepsSupport.{HasOne, HasSome};

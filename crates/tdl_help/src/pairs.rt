@@ -17,8 +17,8 @@ fn name_in(row: NameRow, word: &str) -> Option<Name> {
 
 /// Returns the index of the row that has this word, and its name.
 fn found(rows: &[NameRow], word: &str) -> Option<(usize, Name)> {
-    for index in 0..rows.len() {
-        if let Some(name) = name_in(rows[index], word) {
+    for (index, row) in rows.iter().enumerate() {
+        if let Some(name) = name_in(*row, word) {
             return Some((index, name));
         }
     }
@@ -27,11 +27,11 @@ fn found(rows: &[NameRow], word: &str) -> Option<(usize, Name)> {
 
 /// Returns whether one of the options has a name of the row.
 fn is_there(rows: &[NameRow], row: usize, options: &[String]) -> bool {
-    for place in 0..options.len() {
+    for (place, option) in options.iter().enumerate() {
         if place % 2 == 1 {
             continue;
         }
-        if let Some((index, _)) = found(rows, options[place].as_str()) {
+        if let Some((index, _)) = found(rows, option.as_str()) {
             if index == row {
                 return true;
             }
@@ -64,10 +64,9 @@ fn wrong_option(rows: &[NameRow], options: &[String], place: usize) -> Option<(u
 
 /// Returns the first required option that is missing.
 fn first_missing(rows: &[NameRow], options: &[String]) -> Option<&'static str> {
-    for index in 0..rows.len() {
-        let row = rows[index];
+    for (index, row) in rows.iter().enumerate() {
         if row.required && !is_there(rows, index, options) {
-            return Some(missing(row));
+            return Some(missing(*row));
         }
     }
     None

@@ -125,7 +125,7 @@ names_after names k (inr (inr e)) = rw e refl
 
 -- ---- two loads, one after another
 
--- a load that stops where no memory was lost stops wherever it is
+-- a load that stops without a loss of memory stops with any
 pub stops_anyway : {A : Type 0} {Give : Option FilesInMemory → Result A Stop → Type 0} {up_to : FileKind → List (List ℕ)} {before now : FilesKnown} (lost : Bool) → StopsOpening Give up_to false before now → StopsOpening Give up_to lost before now
 stops_anyway {up_to = up_to} {before = before} {now = now} lost d = record { decided = λ known stop is gives. opens_anyway lost (up_to (kind_of stop)) before.opened now.opened (d.decided known stop is gives) }
 

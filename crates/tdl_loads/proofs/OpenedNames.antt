@@ -34,7 +34,7 @@ whatever_given (Err e) fact f = tt
 pub opens_all : (lost : Bool) (names : List (List ℕ)) (before now : Option (List (List ℕ))) → AddsNames lost before names now → OpensFirst lost names before now
 opens_all lost names before now adds = (length names, rw (take-length names) adds)
 
--- names that were opened where no memory was lost were opened wherever it is
+-- names that were opened without a loss of memory were opened with any
 pub opens_anyway : (lost : Bool) (names : List (List ℕ)) (before now : Option (List (List ℕ))) → OpensFirst false names before now → OpensFirst lost names before now
 opens_anyway lost names before now opens = (opens.0, added_anyway lost before now (take opens.0 names) opens.1)
 

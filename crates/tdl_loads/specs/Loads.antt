@@ -260,8 +260,8 @@ abbrev pub is_load_short : {A : Type 0} → Result A Unloaded → Bool
 is_load_short (Ok a) = false
 is_load_short (Err unloaded) = is_short unloaded
 
--- trusted, own: holds if only the first of these names were opened, in their order; only where memory was lost the opened ones
--- may be unknown instead
+-- trusted, own: holds if only the first of these names were opened, in their order; the opened ones may be unknown instead
+-- only if memory was lost
 abbrev pub OpensFirst : Bool → List (List ℕ) → Option (List (List ℕ)) → Option (List (List ℕ)) → Type 0
 OpensFirst lost names before now = (count : ℕ) × AddsNames lost before (take count names) now
 
@@ -277,7 +277,7 @@ named_up_to kind.Classes files = names_in_order files
 named_up_to other files = tables_named files ++ links_named files
 
 -- trusted, own: holds if only the first of the named files were opened, in their order; if the files are known, none was opened
--- after the one at which the run stops. Only where memory was lost the opened ones may be unknown instead
+-- after the one at which the run stops. The opened ones may be unknown instead only if memory was lost
 pub record OpensUpTo (lost : Bool) (files : Option FilesInMemory) (asked : Asked) (before now : Option (List (List ℕ))) : Type 0 where
   pub first : OpensFirst lost (names_in_order asked.files) before now
   pub decided : (known : FilesInMemory) (stop : Stop) → files ≡ Some known → FilesGive files asked (Err stop) → OpensFirst lost (named_up_to (kind_of stop) asked.files) before now

@@ -160,7 +160,7 @@ pub record Loads {A : Type 0} (Give : Option FilesInMemory → Result A Stop →
   pub counts : before.errors ≤ now.errors
 
 -- trusted, own: holds if no file was opened after the one at which the load stops, if the files are known; `up_to` gives the names up
--- to the file of a kind. Only where memory was lost the opened names may be unknown
+-- to the file of a kind. The opened names may be unknown only if memory was lost
 pub record StopsOpening {A : Type 0} (Give : Option FilesInMemory → Result A Stop → Type 0) (up_to : FileKind → List (List ℕ)) (lost : Bool) (before now : FilesKnown) : Type 0 where
   pub decided : (known : FilesInMemory) (stop : Stop) → before.files ≡ Some known → Give before.files (Err stop) → OpensFirst lost (up_to (kind_of stop)) before.opened now.opened
 

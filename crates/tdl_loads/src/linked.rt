@@ -1,4 +1,4 @@
-ghost use Rattle.std.specs.Prelude.{◌≡◌, true, Ok, map};
+ghost use Rattle.std.specs.Prelude.{◌≡◌, true, Ok};
 ghost use Rattle.gs_merge.specs.MergedDocuments.{merge_answer};
 ghost use Rattle.tdl_messages.specs.declared.file_kind.FileKind.TheVariants.{Merge as OfMerge};
 ghost use Rattle.tdl_arguments.specs.Ranges.{is_vocabulary};
@@ -7,7 +7,6 @@ ghost use Rattle.tdl_loads.specs.Loads.{is_load_short, merge_verdict, merged_wit
 ghost use Rattle.tdl_loads.specs.LoadsSupport.{LinkedGive, Loads, StopsOpening, files_known, links_up_to};
 ghost use Rattle.tdl_loads.specs.Reads.{JudgedAs};
 ghost use Rattle.gs_chars.specs.Answers.{first_or};
-ghost use Rattle.gs_template.specs.Errors.{place_errors};
 
 use crate::links::{Judging, load_links, load_other, load_store, no_context};
 use crate::loads::{Linked, Unloaded};

@@ -49,8 +49,8 @@ fn compare<C: Calls>(
     Ok(false)
 }
 
-/// Judges a line after the case that was before it, if there was one without its answer. Appends what is wrong, and returns
-/// whether nothing is.
+/// Judges a line after the case that was before it, if there was one without its answer. Appends each fault, and returns whether
+/// there is none.
 fn judge<C: Calls>(
     alloc: Global,
     calls: &C,

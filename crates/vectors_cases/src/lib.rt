@@ -7,7 +7,7 @@
 //! `\\` a backslash, and `\e` nothing, so that an argument may be empty. An argument that is left out is empty too. An answer
 //! is written in the same way. A line that begins with `#` names the source of the cases below it; it and an empty line are not
 //! cases. The answer to a line that is not a call is `no case`. The program prints each case whose answer differs, with both
-//! answers, and for each file the number of its wanted answers and of those that differ.
+//! answers. For each file it prints the number of its wanted answers and of those that differ.
 //!
 //! The head of each file of a library says which arguments its calls take, and what they answer.
 #![tactic(auto)]

@@ -10,7 +10,7 @@ ghost use Rattle.gs_grammar.specs.Levels.{AreOfKind, OptionForm};
 
 use crate::bits::{add_bits, buffer};
 use gs_bits::BitBuf;
-use gs_chars::{List, Text};
+use gs_chars::Text;
 use gs_grammar::{Item, Opt, OptFault, WriteFault, holds, read_option, write_bits, write_text};
 use std::alloc::Global;
 use vectors_cases::{Done, Line, Rejection, behind, bytes_at, item_of, named, push};

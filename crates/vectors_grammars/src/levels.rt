@@ -43,7 +43,7 @@ pub fn answer(alloc: Global, line: &mut Line, call: &[u8], args: &[Text]) -> Don
 }
 
 /// Returns the level of the words.
-pub fn level_of(alloc: Global, bit_level: bool, words: &[Text]) -> Result<Level, Rejection> {
+fn level_of(alloc: Global, bit_level: bool, words: &[Text]) -> Result<Level, Rejection> {
     let options = options_of(alloc, bit_level, words)?;
     Ok(Level::new(alloc, bit_level, options)?)
 }

@@ -70,7 +70,7 @@ fn states(alloc: Global, line: &mut Line, bit_level: bool, words: &[Text]) -> Do
     Ok(())
 }
 
-/// Writes `Clear`, or the two machines that share a list of symbols, and that list if it is asked for.
+/// Writes `Clear`, or the two machines that share a list of symbols, and that list if it is requested.
 fn add_verdict(alloc: Global, line: &mut Line, machines: &[Auto], has_word: bool) -> Done {
     match check(alloc, machines) {
         Ok(Verdict::Clear) => line.plain("Clear"),

@@ -132,7 +132,7 @@ fn checked(alloc: Global, table: &AiTable, words: &[Text]) -> Result<Pair, Rejec
 }
 
 /// Makes the pairs, which are valid.
-pub fn pairs_of(alloc: Global, table: &AiTable, words: &[Text]) -> Result<Vec<Pair>, Rejection>
+fn pairs_of(alloc: Global, table: &AiTable, words: &[Text]) -> Result<Vec<Pair>, Rejection>
     ensures { IfOk result (λ pairs. All (IsInOrder table.now) pairs.items) }
 {
     let mut pairs = Vec::new(alloc);
