@@ -4,7 +4,7 @@ use gs_json::JsonFault;
 use thiserror::Error;
 
 /// Why a set of classes is rejected. The indexes count from 0.
-#[derive(Debug, Drop, Error)]
+#[derive(Debug, PartialEq, Drop, Error)]
 pub enum ClassLoadFault {
     /// The document is not of the form of a document of classes.
     #[error("another form than that of a document of classes")]

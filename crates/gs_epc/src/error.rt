@@ -5,7 +5,7 @@ use gs_tables::Field;
 use thiserror::Error;
 
 /// Why a text says no EPC.
-#[derive(Clone, Copy, Debug, Error)]
+#[derive(Clone, Copy, Debug, PartialEq, Error)]
 pub enum EpcFault {
     /// The text is not a hexadecimal text of at most 128 digits.
     #[error("the text is not at most 128 hexadecimal digits of whole bytes")]

@@ -6,7 +6,7 @@ use gs_tables::Field;
 use thiserror::Error;
 
 /// Why a text is not a dump.
-#[derive(Clone, Copy, Debug, Error)]
+#[derive(Clone, Copy, Debug, PartialEq, Error)]
 pub enum DumpFault {
     /// The text is not a hexadecimal text of at most 128 digits.
     #[error("{0}")]

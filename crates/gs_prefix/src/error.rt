@@ -3,7 +3,7 @@ use gs_json::JsonFault;
 use thiserror::Error;
 
 /// Why a list of company prefix lengths is rejected. Entries are counted from 0.
-#[derive(Debug, Drop, Error)]
+#[derive(Debug, PartialEq, Drop, Error)]
 pub enum PrefixFault {
     /// The document is not of the form of such a list.
     #[error("another form than that of a list of company prefix lengths")]

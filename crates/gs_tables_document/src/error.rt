@@ -20,7 +20,7 @@ pub enum LimitName {
 }
 
 /// Why tables are rejected. The indexes count from 0.
-#[derive(Debug, Drop, Error)]
+#[derive(Debug, PartialEq, Drop, Error)]
 pub enum LoadFault {
     /// The document is not of the form of a table document.
     #[error("another form than that of a table document")]

@@ -10,7 +10,7 @@ use gs_tables::Field;
 use thiserror::Error;
 
 /// Why a text is rejected.
-#[derive(Debug, Drop, Error)]
+#[derive(Debug, PartialEq, Drop, Error)]
 pub enum Reason {
     /// The text has more than 2,048 bytes.
     #[error("the text has more than 2,048 bytes")]

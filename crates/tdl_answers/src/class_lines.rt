@@ -160,7 +160,7 @@ impl Answerer for ClassUriLines<'_> {
 }
 
 /// Why a class URI names nothing, or why the identity of a link is not written as a class URI.
-#[derive(Debug, Drop, Error)]
+#[derive(Debug, PartialEq, Drop, Error)]
 pub enum ClassReason {
     /// A reason that translations have too: the text is long or has no reading, is not a link, or its identity is not written.
     #[error("{0}")]

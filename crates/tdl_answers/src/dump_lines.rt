@@ -81,7 +81,7 @@ impl Answerer for DumpWriteLines<'_> {
 }
 
 /// Why a dump is not shown, or a line that shows one is not written as a dump.
-#[derive(Debug, Drop, Error)]
+#[derive(Debug, PartialEq, Drop, Error)]
 pub enum DumpReason {
     /// A reason that translations have too: the text is long, is not a hexadecimal text or has no reading, or the EPC is not
     /// written.

@@ -82,7 +82,7 @@ impl Drop for Loaded {
 }
 
 /// The reason why a run has not loaded its files.
-#[derive(Debug, Drop, Error)]
+#[derive(Debug, PartialEq, Drop, Error)]
 pub enum Unloaded {
     /// A file is rejected.
     #[error("a file is rejected")]

@@ -9,7 +9,7 @@ use gs_template::PlaceFault;
 use thiserror::Error;
 
 /// Why a file, or the rows instead, are rejected.
-#[derive(Debug, Drop, Error)]
+#[derive(Debug, PartialEq, Drop, Error)]
 pub enum FileFault {
     /// The file has more bytes than its kind may have.
     #[error("the file has more bytes than its kind may have")]
