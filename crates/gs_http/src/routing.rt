@@ -1,9 +1,11 @@
-ghost use Rattle.std.specs.Prelude.{◌≡◌, ◌≤◌, ◌<◌, ◌==◌, ◌||◌, ℕ, Bool, List, IfErr, IfOk, length};
+ghost use Rattle.std.specs.Prelude.{◌≡◌, ◌≤◌, ◌<◌, ◌==◌, ◌||◌, ℕ, Bool, List, IfErr, IfOk, false, length};
+ghost use Rattle.std.specs.Bool.{OnTrue};
 ghost use Rattle.gs_dlink.specs.Answers.{target_answer};
 ghost use Rattle.gs_http.specs.References.{reference_for};
-ghost use Rattle.gs_http.specs.Forms.{rendered_as};
+ghost use Rattle.gs_http.specs.Forms.{in_json, rendered_as};
+ghost use Rattle.gs_http.specs.declared.documents.LinksetForm.TheVariants.{Json};
 ghost use Rattle.gs_links.specs.Choices.{chosen as chosen_numbers};
-ghost use Rattle.gs_links.specs.Documents.{linked};
+ghost use Rattle.gs_links.specs.Documents.{document_of, linked};
 ghost use Rattle.gs_links.specs.Languages.{narrowed};
 ghost use Rattle.gs_links.specs.declared.link.Link.{Link as Linked};
 ghost use Rattle.gs_links.specs.declared.link.Want.{Want as Wanted};
@@ -81,6 +83,13 @@ fn is_single(chosen: &[u32]) -> bool
     chosen.len() == 1
 }
 
+/// Returns whether a document is written from the links of the store: in JSON, with their own target URIs.
+fn is_lent(templates: bool, form: LinksetForm) -> bool
+    ensures { OnTrue result ((templates ≡ false) × (form ≡ Json)) }
+{
+    !templates && matches!(form, LinksetForm::Json)
+}
+
 /// What a request asks a resolver for: the links of an identity that fit its wish.
 #[derive(Clone, Copy)]
 struct Lookup<'q, 'a> {
@@ -147,7 +156,23 @@ impl<'q, 'a> Lookup<'q, 'a> {
         }
     }
 
-    /// Returns the document of chosen links in a form.
+    /// Returns the document of chosen links as JSON, with the links' own target URIs.
+    fn render_own(&self, alloc: Global, chosen: &[u32]) -> Result<Rendered, Memory>
+        requires chosen { (want : Wanted) × (ranges : List (List ℕ))
+            × (chosen.now ≡ narrowed self.now.resolver.now.links
+            (chosen_numbers self.now.resolver.now.links self.now.identity.now want) ranges) }
+        requires some { 0 < length chosen.now }
+        ensures { IfOk result (λ sent. sent
+            ≡ in_json (document_of (linked self.now.resolver.now.links chosen.now))) }
+    {
+        let store = self.resolver.store();
+        Ok(Rendered {
+            form: LinksetForm::Json,
+            text: store.write_document(alloc, self.identity, chosen)?,
+        })
+    }
+
+    /// Returns the document of chosen links in a form. It copies the links only for a text or for templates.
     fn render(&self, alloc: Global, form: LinksetForm, chosen: &[u32]) -> Result<Rendered, Memory>
         requires chosen { (want : Wanted) × (ranges : List (List ℕ))
             × (chosen.now ≡ narrowed self.now.resolver.now.links
@@ -158,6 +183,9 @@ impl<'q, 'a> Lookup<'q, 'a> {
             (linked self.now.resolver.now.links chosen.now))) }
     {
         let templates = self.resolver.settings().templates;
+        if is_lent(templates, form) {
+            return self.render_own(alloc, chosen);
+        }
         let document = self
             .resolver
             .store()
