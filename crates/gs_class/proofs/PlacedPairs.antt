@@ -1,4 +1,4 @@
--- The places of the pairs of an identity of the table: the listed codes are among its qualifiers alone.
+-- The places of the pairs of an identity of the table: the listed codes are only among its qualifiers.
 use Rattle.std.proofs.Common.{◌≡◌, ℕ, zero, suc, ◌||◌, not, Bool, true, false, List, [], ◌∷◌, ◌++◌, filter, Some, None, bytes_eq, find, is_some, slice_get, refl, sym, ap, subst, ◌∙◌, inl, inr, true≢false}
 use Rattle.std.specs.List.{filter_map, list_any}
 use Rattle.gs_chars.proofs.TruthsAndLists.{and_parts, equal_bytes, false_from_not, same_bytes, true_or_false}

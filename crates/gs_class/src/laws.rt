@@ -29,8 +29,8 @@ pub fn what_is_written_is_read(table: &AiTable)
     let _ = table.rows();
 }
 
-/// States that an identity that is read of a class URI is written by the company prefix length of the class that read it, and
-/// never rejected, whatever the prefixes. The set is of a table.
+/// States that an identity that is read of a class URI is never rejected, whatever the prefixes. It is written by the company
+/// prefix length of the class that read it. The set is of a table.
 pub fn what_is_read_is_written()
     ensures { (ais : List AiRow) (set : ClassRows) (prefixes : List PrefixEntry) (text : List ℕ)
         (identity : Elements) → IsOfTable ais set → (read : IsClass ais set text identity)

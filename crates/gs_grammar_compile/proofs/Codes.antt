@@ -30,7 +30,7 @@ pub arms_fork : (table : List (List Edge)) (a b q : ℕ) (low high : List ℕ �
 arms_fork table a b q low high r s =
     arms_cons table (edge 0 0 a) (edge 1 1 b ∷ []) q low (ByEdge (edge 1 1 b) high) r (arms_one table (edge 1 1 b) q high s) (λ x w h k. let c = h.1 in let d = k.0 in omega arith)
 
--- the state that these numbers lead to reads exactly the codes of the set whose first bits write `front`, of which n bits follow
+-- the state that these numbers lead to reads exactly the codes of the set whose first bits write `front`, and n more bits follow
 abbrev covers : ℕ → ℕ → ℕ → Bool
 covers zero zero front = not (is_in_set82 front)
 covers zero (suc zero) front = is_in_set82 front

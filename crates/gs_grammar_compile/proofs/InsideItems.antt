@@ -183,7 +183,7 @@ inside_esc (suc more) lo base end l =
     let rest = inside_at (base + 1 + 1 + 1 + 1) (base + 4) end (esc_table (lo - 1) more (base + 4) end) (omega arith) (inside_esc more (lo - 1) (base + 4) end (omega arith)) in
     (first, ((omega arith, omega arith, (omega arith, omega arith, tt)), (third, (fourth, rest))))
 
--- each edge of the states of a code, of which this one is the first, leads on
+-- each edge of the states of a code, which begin with this one, leads on
 abbrev leads_on : ℕ → ℕ → Bool
 leads_on k target = nat_le target 1 || (nat_lt (k + 2) target && nat_le target 24)
 

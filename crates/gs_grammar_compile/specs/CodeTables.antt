@@ -7,8 +7,8 @@ use Rattle.gs_grammar_compile.specs.Tables.{edge, run_table}
 abbrev pub edge_where : Bool → ℕ → ℕ → List Edge
 edge_where is_so bit to = if is_so then edge bit bit to ∷ [] else []
 
--- the edge of a bit of a code to a state, which is given by its number among the states below the first bit and 2 more: 0 is no
--- edge, and 1 the end of the code
+-- the edge of a bit of a code to a state, given by 2 more than its number among the states below the first bit; 0 means that there
+-- is no edge, and 1 the end of the code
 abbrev pub code_edge : ℕ → ℕ → ℕ → ℕ → List Edge
 code_edge bit base next zero = []
 code_edge bit base next (suc zero) = edge bit bit next ∷ []
@@ -20,17 +20,17 @@ code_target zero base next = next
 code_target (suc zero) base next = next
 code_target (suc (suc n)) base next = base + n
 
--- the edges of a state, given by where a zero and a one lead
+-- the edges of a state, given by the targets of a zero and a one
 abbrev pub code_row : ℕ → ℕ → ℕ × ℕ → List Edge
 code_row base next targets = code_edge 0 base next targets.0 ++ code_edge 1 base next targets.1
 
--- states, given by where a zero and a one lead from each
+-- states, given by the targets of a zero and a one from each
 abbrev pub code_block : List (ℕ × ℕ) → ℕ → ℕ → List (List Edge)
 code_block [] base next = []
 code_block (targets ∷ rows) base next = code_row base next targets ∷ code_block rows base next
 
--- the states below the first bit of a code: two that a zero and a one lead to, and then those of each further bit, where fronts
--- that the same bits make characters of the set are one state
+-- the states below the first bit of a code: two that a zero and a one lead to, and then those of each further bit. Fronts are one
+-- state if the same bits make characters of the set of both
 unfoldable pub code_states : List (ℕ × ℕ)
 code_states =
     (0, 4) ∷ (5, 6)

@@ -207,7 +207,7 @@ impl<'q, 'a> Lookup<'q, 'a> {
         Ok(Answer::Redirect(reference_for(alloc, templates, self.identity, href)?))
     }
 
-    /// Returns the answer for a relation, by the links that are chosen for the identity, of which there is one at least.
+    /// Returns the answer for a relation, by the links that are chosen for the identity: at least one.
     fn by_count(&self, alloc: Global, chosen: &[u32]) -> Result<Answer<'a>, Memory>
         requires chosen { (want : Wanted) × (ranges : List (List ℕ))
             × (chosen.now ≡ narrowed self.now.resolver.now.links

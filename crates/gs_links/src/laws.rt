@@ -55,8 +55,8 @@ pub fn same_links_same_store()
         → load_answer table voc b ≡ Ok y → x ≡ y }
 {}
 
-/// States that a linkset with the links of one that loads, in one order, loads to the same links if each of its contexts has a
-/// link.
+/// States when a linkset loads to the same links as one that loads: it has those links in one order, and each of its contexts
+/// has a link.
 pub fn same_links_load()
     ensures { (table : List AiRow) (voc : List ℕ) (a b : List Context) (links : List Link)
         → links_of_document a ≡ links_of_document b → list_all has_link b ≡ true

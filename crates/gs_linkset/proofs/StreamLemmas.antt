@@ -100,7 +100,7 @@ module _ (fault : Option JsonFault) (read : List Context) (items : List Data) (d
       by None h so_far = context_more items d read so_far context more own e
       by (Some _) h so_far = absurd (let g : false ≡ true = h in cc)
 
--- what is done holds where it is done
+-- a fact that follows from one that holds after success
 pub done : {U E A B : Type 0} (r : Result U E) → IfOk r (λ _. A) → (A → B) → OnOk r B
 done (Ok u) h f = f h
 done (Err e) h f = tt
@@ -134,7 +134,7 @@ none_before (Some p) = refl
 
 -- ---- the loops
 
--- what is known between two items
+-- the known facts between two items
 pub record ItemsSoFar (depth : ℕ) (initial ts : List Token) (contexts : Contexts) : Type 0 where
   pub turns : ℕ
   pub found : List Data
@@ -168,7 +168,7 @@ module _ (depth : ℕ) (initial ts r : List Token) (old : Contexts) (so_far : It
     has = rw (e, listed so_far.found) so_far.read.0;
   }
 
--- what is known between two members
+-- the known facts between two members
 pub record MembersSoFar (depth : ℕ) (initial ts : List Token) (answer : Result (List Context) JsonFault) : Type 0 where
   pub turns : ℕ
   pub known : Members
