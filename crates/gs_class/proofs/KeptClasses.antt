@@ -14,7 +14,7 @@ use Rattle.gs_ai.specs.declared.row.AiRow.{AiRow}
 use Rattle.gs_ai.specs.Tables.{is_empty, is_key}
 use Rattle.gs_ai.specs.Values.{has_code}
 use Rattle.gs_ai.proofs.RuleLemmas.{none_at}
-use Rattle.gs_ai.proofs.Searches.{cons_none, position-cons}
+use Rattle.gs_ai.proofs.Searches.{cons_none}
 use Rattle.gs_grammar.specs.Items.{is_bad, size_of_all}
 use Rattle.gs_grammar.specs.Levels.{KeepBounds}
 use Rattle.gs_grammar.specs.Limits.{most_symbols}
@@ -25,7 +25,7 @@ use Rattle.gs_tables.specs.declared.form.KeyForm.TheVariants.{Digits}
 use Rattle.gs_tables.specs.declared.form.Room.TheVariants.{Characters}
 use Rattle.gs_tables.specs.Forms.{characters_of}
 use Rattle.gs_tables.specs.Rules.{items_of_field, keeps_gcp, keeps_rest, keeps_serial}
-use Rattle.gs_tables.proofs.KeptRows.{gcp_kept}
+use Rattle.gs_tables.proofs.KeptRows.{gcp_kept, none_first, none_listed}
 use Rattle.gs_class.specs.declared.error.ClassLoadFault.{ClassLoadFault}
 use Rattle.gs_class.specs.declared.error.ClassLoadFault.TheVariants.{Limit, BadItem, Size, Mismatch, Duplicate}
 use Rattle.gs_class.specs.declared.document.ClassRow.{ClassRow}
@@ -44,14 +44,7 @@ within_limit size most error h = by (nat_lt most size) refl h
     by true e h = absurd (let g : error ∷ [] ≡ [] = h in cc)
     by false e h = grind (arith, nat_tests)
 
-none_listed : {X Y : Type 0} (f : X → Y) (o : Option X) → option_to_list (option_map f o) ≡ [] → o ≡ None
-none_listed f None h = refl
-none_listed f (Some x) h = absurd (let g : f x ∷ [] ≡ [] = h in cc)
-
 -- ---- items
-
-none_first : {X : Type 0} (test : X → Bool) (x : X) (xs : List X) → test x ≡ false → position test xs ≡ None → position test (x ∷ xs) ≡ None
-none_first test x xs first rest = rw (position-cons test x xs, first, rest) refl
 
 pub none_bad : (xs : List (Option FieldItem)) → position is_bad_item xs ≡ None → position (is_bad false) (alone (present xs)) ≡ None
 none_bad [] h = refl

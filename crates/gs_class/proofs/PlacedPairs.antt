@@ -12,6 +12,7 @@ use Rattle.gs_ident.proofs.IdentityLemmas.{made_facts}
 use Rattle.gs_ident.proofs.KeyPairs.{found_place}
 use Rattle.gs_ident.proofs.PairLemmas.{find_by_cases, found_passes}
 use Rattle.gs_class.specs.Written.{others_of}
+use Rattle.gs_epc.proofs.LaidSets.{found_kept}
 
 or_more : (a b : Bool) → b ≡ true → (a || b) ≡ true
 or_more true b h = refl
@@ -37,17 +38,6 @@ listed_code pairs (code ∷ codes) j pair at = elim (find_by_cases (λ (p : Pair
   | inr none ↦
       let here : pair_with pairs code ≡ None = none in
       or_more (bytes_eq pair.code code) (list_any (bytes_eq pair.code) codes) (listed_code pairs codes j pair (rw here at at))
-]
-
--- an item that is found among those that pass a test passes it
-found_kept : (t p : Pair → Bool) (pairs : List Pair) (pair : Pair) → find p (filter t pairs) ≡ Some pair → t pair ≡ true
-found_kept t p [] pair e = absurd (let f : None ≡ Some pair = e in cc)
-found_kept t p (first ∷ pairs) pair e = elim (true_or_false (t first)) [
-  | inl h ↦ let f : find p (first ∷ filter t pairs) ≡ Some pair = rw h at e in elim (true_or_false (p first)) [
-    | inl g ↦ let k : Some first ≡ Some pair = rw g at f in let same : first ≡ pair = cc in rw (← same) h
-    | inr g ↦ found_kept t p pairs pair (rw g at f)
-  ]
-  | inr h ↦ found_kept t p pairs pair (rw h at e)
 ]
 
 -- the qualifiers of an identity of the table have listed codes, and its attributes have none of these

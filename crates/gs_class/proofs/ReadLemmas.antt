@@ -2,12 +2,12 @@
 use Rattle.std.proofs.Common.{◌≡◌, ℕ, ◌+◌, ◌≤◌, List, [], ◌∷◌, ◌++◌, length, take, map, Option, Some, None, unwrap_or, slice_get, refl, ap, arith}
 use Rattle.std.specs.Option.{option_and_then}
 use Rattle.std.proofs.lemmas.List.{map-append, take_all}
+use Rattle.gs_chars.proofs.TruthsAndLists.{take_next}
 use Rattle.serde_json.specs.Data.{Data}
 use Rattle.serde_json.specs.Find.{get}
 use Rattle.gs_json.specs.Answers.{items_count}
 use Rattle.gs_json.specs.Members.{array_in, items_in, items_of}
 use Rattle.gs_json.proofs.ArrayItems.{items_length}
-use Rattle.gs_prefix.proofs.FirstRejections.{take_next}
 
 module _ {X : Type 0} (f : Data → X) (d : Data) where
   -- one item more that was read

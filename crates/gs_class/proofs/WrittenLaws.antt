@@ -5,7 +5,7 @@ use Rattle.std.specs.List.{list_any}
 use Rattle.std.specs.Option.{option_map_or}
 use Rattle.std.proofs.lemmas.Bool.Decides.{nat_tests}
 use Rattle.std.proofs.lemmas.List.{length-map}
-use Rattle.gs_chars.proofs.TruthsAndLists.{and_parts, equal_bytes, false_from, false_from_not, mapped_some, or_parts, place_left, place_right, true_from_not, true_or_false}
+use Rattle.gs_chars.proofs.TruthsAndLists.{and_parts, equal_bytes, false_from_not, mapped_some, place_left, place_right, true_from_not, true_or_false}
 use Rattle.gs_ai.specs.declared.pair.Pair.{Pair}
 use Rattle.gs_ai.specs.declared.row.AiRow.{AiRow}
 use Rattle.gs_ai.specs.Tables.{KeepsRules, is_key_of}
@@ -34,7 +34,7 @@ use Rattle.gs_tables.specs.Rules.{has_room, is_digits, is_one, items_of_field, k
 use Rattle.gs_epc.specs.Epcs.{value_of}
 use Rattle.gs_epc.specs.Layout.{KeyFields, lay, parts_at}
 use Rattle.gs_epc.proofs.LaidLaws.{again}
-use Rattle.gs_ident.proofs.KeyPairs.{IsKeyPair, is_key_pair}
+use Rattle.gs_ident.proofs.KeyPairs.{IsKeyPair, is_key_pair, absent as unlisted}
 use Rattle.gs_epc.proofs.ReadBack.{none_stands, one_stands, value_where}
 use Rattle.gs_class.specs.declared.class_set.Class.{Class}
 use Rattle.gs_class.specs.declared.error.ClassWriteFault.{ClassWriteFault}
@@ -156,14 +156,6 @@ module _ (ais : List AiRow) (row : ClassRow) (kept : KeptClass ais row) (identit
   said_back = rw (prefix_back, rest_back, serial_back) refl
 
 -- ---- the pairs of an identity that a class writes
-
--- a code that passes the test is not in a list without passing codes
-unlisted : (p : List ℕ → Bool) (code : List ℕ) (codes : List (List ℕ)) → p code ≡ true → list_any p codes ≡ false → list_any (bytes_eq code) codes ≡ false
-unlisted p code [] passes none = refl
-unlisted p code (other ∷ codes) passes none =
-    let both = or_parts (p other) (list_any p codes) none in
-    let differs : bytes_eq code other ≡ false = false_from (bytes_eq code other) (λ same. true≢false (sym passes ∙ ap p (equal_bytes code other same) ∙ both.0)) in
-    rw differs (unlisted p code codes passes both.1)
 
 -- a pair that is not extra has the code of the key or of the element
 one_of_two : (key element code : List ℕ) → (not (bytes_eq key code) && not (bytes_eq element code)) ≡ false → (bytes_eq key code ≡ true) ⊎ (element ≡ code)

@@ -132,11 +132,6 @@ no_segments at path h = no_pieces is_slash at path h
 
 -- ---- lengths
 
-pub few_taken : {X : Type 0} (n : ℕ) (xs : List X) → length (take n xs) ≤ length xs
-few_taken zero xs = omega arith
-few_taken (suc n) [] = omega arith
-few_taken (suc n) (x ∷ xs) = omega (arith, few_taken n xs)
-
 -- ---- the parts of a query, from the start
 
 abbrev first_place : List ℕ → ℕ

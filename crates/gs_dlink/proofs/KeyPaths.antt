@@ -2,14 +2,14 @@
 use Rattle.std.proofs.Common.{◌≡◌, ℕ, zero, suc, ◌+◌, ◌-◌, ◌≤◌, ◌||◌, Bool, true, false, List, [], ◌∷◌, ◌++◌, length, map, take, drop, find, slice_get, Option, Some, None, option_map, bytes_eq, refl, sym, ap, ◌∙◌, arith, ◌⊎◌, inl, inr, true≢false, append_assoc, reverse, take-append-drop}
 use Rattle.std.specs.List.{list_any}
 use Rattle.std.proofs.lemmas.List.{length-take-le, reverse-append}
-use Rattle.gs_chars.proofs.TruthsAndLists.{and_first, and_second, equal_bytes, or_first, or_second, true_or_false}
+use Rattle.gs_chars.proofs.TruthsAndLists.{and_first, and_second, equal_bytes, or_first, or_second, true_or_false, few_taken}
 use Rattle.gs_ai.specs.declared.row.AiRow.{AiRow}
 use Rattle.gs_ai.specs.Tables.{KeepsRules, is_key_of}
 use Rattle.gs_ai.specs.Values.{has_code}
 use Rattle.gs_dlink.specs.Paths.{IsKeyPath, codes_of, is_in_order, is_key_path, key_path, listed_of, paired, path_or}
 use Rattle.gs_dlink.specs.Uris.{Piece, Written, segments}
 use Rattle.gs_dlink.specs.UrisSupport.{LastSlash, NoSlash}
-use Rattle.gs_dlink.proofs.CutLemmas.{few_taken, no_segments, rest_taken, segments_last}
+use Rattle.gs_dlink.proofs.CutLemmas.{no_segments, rest_taken, segments_last}
 
 -- ---- segments in pairs
 

@@ -2,6 +2,7 @@
 use Rattle.std.proofs.Common.{◌≡◌, ℕ, zero, suc, ◌+◌, ◌≤◌, ◌<◌, ◌==◌, Bool, true, false, List, [], ◌∷◌, length, get_or, drop, map, bytes_eq, refl, sym, ap, ◌∙◌, arith, add-one, drop-cons, true≢false}
 use Rattle.std.proofs.lemmas.Bool.Decides.{nat_tests}
 use Rattle.std.proofs.lemmas.Option.{slice_get-map, slice_get_past}
+use Rattle.std.proofs.lemmas.List.{drop_all}
 use Rattle.gs_chars.proofs.TruthsAndLists.{read_at}
 use Rattle.gs_dlink.specs.declared.value.WrittenPair.{WrittenPair}
 use Rattle.gs_dlink.specs.Paths.{codes_of, is_in_order}
@@ -57,11 +58,5 @@ module _ (list : List (List ℕ)) (pairs : List Written) (index next : ℕ) (fir
   pub code_passed : is_code_at pairs next first ≡ false → Ordered list pairs (index + 1) next
   code_passed h = record { within = ordered.within; left = ordered.left ∙ rw cut (step_false first (drop (index + 1) list) pairs next h) }
 
-drop_all : {X : Type 0} (xs : List X) (n : ℕ) → length xs ≤ n → drop n xs ≡ []
-drop_all [] zero h = refl
-drop_all [] (suc n) h = refl
-drop_all (x ∷ xs) zero h = absurd (omega arith)
-drop_all (x ∷ xs) (suc n) h = drop_all xs n (omega arith)
-
 pub order_ends : (list : List (List ℕ)) (pairs : List Written) (index next size : ℕ) → Ordered list pairs index next → length list ≤ index → length pairs ≡ size → (next == size) ≡ is_in_order list (codes_of pairs)
-order_ends list pairs index next size ordered all e = ap (λ (n : ℕ). next == n) (sym e) ∙ at_end pairs next ordered.within ∙ sym (ordered.left ∙ rw (drop_all list index all) refl)
+order_ends list pairs index next size ordered all e = ap (λ (n : ℕ). next == n) (sym e) ∙ at_end pairs next ordered.within ∙ sym (ordered.left ∙ rw (drop_all index list all) refl)

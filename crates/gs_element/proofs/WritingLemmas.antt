@@ -16,6 +16,7 @@ use Rattle.gs_element.specs.Raw.{body_of, raw_text, separator, IsRaw, IsRawEleme
 use Rattle.gs_element.specs.WrittenTexts.{last_open, raw_behind, separator_of}
 use Rattle.gs_element.proofs.BodyLemmas.{digit_body}
 use Rattle.gs_element.proofs.RawLemmas.{digit_front}
+use Rattle.gs_ident.proofs.KeyLemmas.{one_more as taken}
 
 -- ---- element by element
 
@@ -32,9 +33,6 @@ raw_behind-append u (p ∷ a) b =
 last_open-append : (u : Bool) (a b : List Pair) → last_open u (a ++ b) ≡ last_open (last_open u a) b
 last_open-append u [] b = refl
 last_open-append u (p ∷ a) b = last_open-append (is_none (predefined_length p.code)) a b
-
-taken : (pairs : List Pair) (i : ℕ) (pair : Pair) → i < length pairs → pair ≡ get_or pairs i pair → take (i + 1) pairs ≡ take i pairs ++ pair ∷ []
-taken pairs i pair low read = take_more pairs i pair low ∙ ap (λ (p : Pair). take i pairs ++ p ∷ []) (sym read)
 
 pub one_written : (u : Bool) (pairs : List Pair) (i : ℕ) (pair : Pair) (base out closed coded new : List ℕ) → i < length pairs → pair ≡ get_or pairs i pair → out ≡ base ++ raw_behind u (take i pairs) → closed ≡ out ++ separator_of (last_open u (take i pairs)) → coded ≡ closed ++ pair.code → new ≡ coded ++ pair.value → new ≡ base ++ raw_behind u (take (i + 1) pairs)
 one_written u pairs i pair base out closed coded new low read e f g h =

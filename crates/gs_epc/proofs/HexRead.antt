@@ -1,10 +1,10 @@
 -- Bits that are written as hexadecimal digits are read again.
-use Rattle.std.proofs.Common.{◌≡◌, ℕ, ◌*◌, ◌%◌, ◌^◌, ◌<◌, true, false, List, [], ◌∷◌, length, position, replicate, Some, None, refl, sym, ap, ◌∙◌, arith}
+use Rattle.std.proofs.Common.{◌≡◌, ℕ, ◌*◌, ◌%◌, ◌^◌, ◌<◌, true, false, List, [], ◌∷◌, length, position, replicate, None, refl, sym, ap, ◌∙◌, arith}
 use Rattle.std.specs.Prelude.{is_some}
 use Rattle.std.specs.List.{AllPass, flat_map}
 use Rattle.std.proofs.lemmas.List.Elements.{All-append, All-cons, All-head, All-nil, All-replicate, All-tail}
 use Rattle.gs_ai.proofs.Searches.{cons_none}
-use Rattle.gs_chars.specs.Escapes.{hex_digit, hex_value}
+use Rattle.gs_chars.specs.Escapes.{hex_digit}
 use Rattle.gs_bits.specs.Bits.{AreBits, bits_of, number_of}
 use Rattle.gs_bits.specs.BitLaws.{AreBits-bits_of, bits_of-number_of, number_of-below}
 use Rattle.gs_bits.specs.HexText.{bits_of_digit, bits_of_hex, hex_of_bits, is_hex_digit}
@@ -15,15 +15,13 @@ use Rattle.gs_grammar.specs.Words.{decimal_value, written_word}
 use Rattle.gs_grammar.specs.WrittenWords.{written}
 use Rattle.gs_grammar.proofs.WritingLemmas.{lit_bits}
 use Rattle.gs_epc.proofs.WrittenSizes.{in_bounds}
+use Rattle.gs_chars.proofs.Spellings.{digit_reads}
+use Rattle.gs_grammar_level.proofs.BitSymbols.{code_bits as packed_bits}
 
 -- ---- the text written by an option of bits is bits
 
 zero_bits : (n : ℕ) → AreBits (replicate {A = ℕ} n 0)
 zero_bits n = All-replicate (λ b. b < 2) n 0 (omega arith)
-
-packed_bits : (value : List ℕ) → AreBits (flat_map (bits_of 7) value)
-packed_bits [] = All-nil (λ b. b < 2)
-packed_bits (c ∷ value) = All-append (λ b. b < 2) (bits_of 7 c) (flat_map (bits_of 7) value) (AreBits-bits_of 7 c) (packed_bits value)
 
 word_bits : (item : Item) (value : List ℕ) → is_in_bounds true item ≡ true → AreBits (written_word item value)
 word_bits (Lit literal) value bounds = lit_bits (Lit literal) literal refl bounds
@@ -45,9 +43,6 @@ written_bits (item ∷ items) (value ∷ values) good =
     All-append (λ b. b < 2) (written_word item value) (written items values) (word_bits item value (in_bounds item parts.0)) (written_bits items values parts.1)
 
 -- ---- digits of bits
-
-digit_reads : (n : ℕ) → n < 16 → hex_value (hex_digit n) ≡ Some n
-digit_reads n h = grind arith
 
 four_read : (four : List ℕ) → AreBits four → length four ≡ 4 → bits_of_digit (hex_digit (number_of four)) ≡ four
 four_read four are count =

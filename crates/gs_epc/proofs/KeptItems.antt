@@ -2,8 +2,7 @@
 use Rattle.std.proofs.Common.{◌≡◌, ℕ, ◌<◌, ◌≤◌, ◌^◌, true, false, List, [], ◌∷◌, length, decimal, refl, ap, ◌∙◌, arith}
 use Rattle.std.proofs.lemmas.Bool.Decides.{nat_tests}
 use Rattle.std.proofs.lemmas.Fmt.{decimal_nonempty}
-use Rattle.gs_chars.specs.Characters.{are_digits, are_in_set82, is_digit, is_in_set82}
-use Rattle.gs_chars.proofs.Sets.{ranges_of_set82}
+use Rattle.gs_chars.specs.Characters.{are_digits, are_in_set82, is_digit}
 use Rattle.gs_grammar.specs.declared.item.Item.{Item}
 use Rattle.gs_grammar.specs.declared.item.Item.TheVariants.{Lit, Pad, Digits, Int, Esc, NumPad, Num, NumStr, Ascii7, Fill}
 use Rattle.gs_grammar.specs.Items.{is_between, IsItem}
@@ -15,14 +14,9 @@ use Rattle.gs_grammar.proofs.Numbers.{count_order, digits_of_decimal}
 use Rattle.gs_grammar.proofs.WordLaws.{digits_bounds, greatest_small}
 use Rattle.gs_tables.specs.Rules.{has_room, is_digits, is_number, is_numeral}
 use Rattle.gs_epc.specs.KeptFields.{AreCharacters, AreNumbers}
+use Rattle.gs_chars.proofs.SpelledSets.{digit_in_set82 as digit_in_set}
 
 -- ---- digits
-
-digit_in_set : (c : ℕ) → is_digit c ≡ true → is_in_set82 c ≡ true
-digit_in_set c h =
-    let low : 48 ≤ c = grind (arith, nat_tests) in
-    let high : c ≤ 57 = grind (arith, nat_tests) in
-    ranges_of_set82 c (omega arith) ∙ grind (arith, nat_tests)
 
 digits_in_set : (text : List ℕ) → are_digits text ≡ true → are_in_set82 text ≡ true
 digits_in_set [] h = refl

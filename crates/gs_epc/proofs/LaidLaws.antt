@@ -1,10 +1,10 @@
 -- Laying out undoes taking apart: the fields of an identity of the table are laid out to it.
-use Rattle.std.proofs.Common.{◌≡◌, ℕ, ◌++◌, true, List, [], map, Option, Some, None, find, slice_get, refl, sym, ap, ◌∙◌}
+use Rattle.std.proofs.Common.{◌≡◌, ℕ, ◌++◌, true, List, [], map, Some, None, find, slice_get, refl, sym, ap, ◌∙◌}
 use Rattle.std.specs.List.{filter_map}
 use Rattle.std.specs.Option.{option_map, option_map_or}
 use Rattle.std.proofs.lemmas.List.Elements.{All-head}
 use Rattle.std.proofs.lemmas.Option.{slice_get-map}
-use Rattle.gs_chars.proofs.TruthsAndLists.{none_behind, none_in_front}
+use Rattle.gs_chars.proofs.TruthsAndLists.{none_behind, none_in_front, mapped_some as mapped}
 use Rattle.gs_ai.specs.declared.pair.Pair.{Pair}
 use Rattle.gs_ai.specs.declared.row.AiRow.{AiRow}
 use Rattle.gs_ai.specs.Tables.{KeepsRules, are_distinct, is_row, table_errors}
@@ -38,10 +38,6 @@ no_kinds document none =
     let levels = level_rejections document.ais document.kinds Binary document.binary ++ (level_rejections document.ais document.kinds Tag document.tag ++ level_rejections document.ais document.kinds Pure document.pure) in
     let behind = none_behind (limit_rejections document) (map AiFault (table_errors document.ais) ++ (kinds_rejections document.ais document.kinds ++ levels)) none in
     none_in_front (kinds_rejections document.ais document.kinds) levels (none_behind (map AiFault (table_errors document.ais)) (kinds_rejections document.ais document.kinds ++ levels) behind)
-
-mapped : {X Y : Type 0} (f : X → Y) (o : Option X) (y : Y) → option_map f o ≡ Some y → (x : X) × (o ≡ Some x) × (f x ≡ y)
-mapped f None y e = absurd (let g : None ≡ Some y = e in cc)
-mapped f (Some x) y e = (x, refl, cc)
 
 kept_kind : (set : TableRows) (i : ℕ) (row : Kind) → IsShaped set → slice_get set.kinds i ≡ Some row → KeptKind set.ais row
 kept_kind set i row shaped at =

@@ -26,7 +26,7 @@ use Rattle.gs_epc.proofs.LaidAgain.{IsTail}
 -- ---- the qualifiers
 
 -- a pair that is found among those that pass a test passes it
-found_kept : (t p : Pair → Bool) (pairs : List Pair) (pair : Pair) → find p (filter t pairs) ≡ Some pair → t pair ≡ true
+pub found_kept : (t p : Pair → Bool) (pairs : List Pair) (pair : Pair) → find p (filter t pairs) ≡ Some pair → t pair ≡ true
 found_kept t p [] pair e = absurd (let f : None ≡ Some pair = e in cc)
 found_kept t p (first ∷ pairs) pair e = elim (true_or_false (t first)) [
   | inl h ↦ let f : find p (first ∷ filter t pairs) ≡ Some pair = rw h at e in elim (true_or_false (p first)) [

@@ -3,14 +3,12 @@ use Rattle.std.proofs.Common.{◌≡◌, ℕ, ◌+◌, ◌-◌, ◌≤◌, ◌&&
 use Rattle.std.specs.List.{list_all, list_any}
 use Rattle.std.specs.Option.{option_and_then, option_map, option_map_or}
 use Rattle.std.proofs.lemmas.Bool.{leb-true}
-use Rattle.std.proofs.lemmas.Bool.Decides.{nat_tests}
 use Rattle.std.proofs.lemmas.List.{append-nil, take-append-drop}
 use Rattle.std.proofs.lemmas.List.Elements.{All-cons, All-nil}
 use Rattle.std.proofs.lemmas.List.Folds.{list_all-append}
 use Rattle.gs_chars.proofs.TruthsAndLists.{and_true}
 use Rattle.gs_chars.specs.Characters.{is_digit, is_in_set82}
 use Rattle.gs_chars.specs.CheckDigits.{check_digit_of}
-use Rattle.gs_chars.proofs.Sets.{in_ranges, ranges_of_set82}
 use Rattle.gs_ai.specs.declared.part.Part.{Part}
 use Rattle.gs_ai.specs.declared.part.Part.TheVariants.{Zero, Num, NumCheck, NumOpt, Set, SetOpt}
 use Rattle.gs_ai.specs.declared.errors.ValueFault.TheVariants.{Unknown}
@@ -35,17 +33,9 @@ use Rattle.gs_epc.specs.KeptFields.{AreCharacters, FitForm, FitKind, FitsFurther
 use Rattle.gs_epc.specs.Layout.{AreKeyDigits, behind_check, key_digits, key_pair, key_value, parts_at, tail_of_key, with_check, KeyFields}
 use Rattle.gs_epc.specs.LayoutSupport.{serial_pairs}
 use Rattle.gs_epc.proofs.LayoutParts.{KeepsParts, at_end, both_pass, checked_piece, digits_piece, in_front, no_error, nothing, number_piece, optional_piece, set_piece, zero_piece}
+use Rattle.gs_chars.proofs.SpelledSets.{digit_in_set82 as digit_in_set}
 
 -- ---- digits as characters
-
-in_range : (c : ℕ) → 48 ≤ c → c ≤ 57 → in_ranges c ≡ true
-in_range c low high = grind (arith, nat_tests)
-
-digit_in_set : (c : ℕ) → is_digit c ≡ true → is_in_set82 c ≡ true
-digit_in_set c h =
-    let low : 48 ≤ c = leb-true 48 c (and_left (leb 48 c) (leb c 57) h) in
-    let high : c ≤ 57 = leb-true c 57 (and_right (leb 48 c) (leb c 57) h) in
-    ranges_of_set82 c (omega arith) ∙ in_range c low high
 
 digits_in_set : (text : List ℕ) → list_all is_digit text ≡ true → list_all is_in_set82 text ≡ true
 digits_in_set [] all = refl

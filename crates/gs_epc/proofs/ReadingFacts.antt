@@ -35,7 +35,7 @@ pub record IsSaid (set : TableRows) (level : LevelName) (option : ℕ) (values :
 
 -- ---- an option and its facts
 
-as_many : (set : TableRows) (level : LevelName) → IsShaped set → length (options_of level set) ≡ length (level_rows level set).info
+pub as_many : (set : TableRows) (level : LevelName) → IsShaped set → length (options_of level set) ≡ length (level_rows level set).info
 as_many set level shaped = length-map (level_rows level set).level.options (λ (option : OptionForm). option.items) ∙ as_many_said set level shaped
 
 -- the option of a derivation has facts

@@ -1,31 +1,26 @@
 -- The candidates before an option, and the field that the last of them does not hold.
 use Rattle.std.proofs.Common.{◌≡◌, ℕ, zero, suc, ◌+◌, ◌<◌, ◌≤◌, true, false, List, [], ◌∷◌, length, Some, None, slice_get, get_or, Ok, Err, refl, sym, ap, subst, ◌∙◌, arith, inl, inr}
 use Rattle.std.proofs.lemmas.Bool.{cases_eq, cases_lt}
-use Rattle.std.proofs.lemmas.List.{length-map}
 use Rattle.std.proofs.lemmas.Option.{slice_get_within}
 use Rattle.gs_chars.proofs.TruthsAndLists.{read_at}
 use Rattle.gs_tables_document.specs.declared.document.Field.{Field}
 use Rattle.gs_tables_document.specs.declared.document.LevelName.{LevelName}
 use Rattle.gs_tables_document.specs.declared.document.OptInfo.{OptInfo}
 use Rattle.gs_grammar.specs.declared.error.Why.{Why}
-use Rattle.gs_grammar.specs.Levels.{OptionForm}
 use Rattle.gs_tables.specs.Tables.{IsShaped, TableRows, level_rows}
-use Rattle.gs_tables.proofs.KeptSets.{as_many_said}
 use Rattle.gs_epc.specs.declared.epc.Epc.{Epc}
 use Rattle.gs_epc.specs.declared.error.EpcWriteFault.{EpcWriteFault}
 use Rattle.gs_epc.specs.declared.error.EpcWriteFault.TheVariants.{NoOption, CannotHold, Memory}
 use Rattle.gs_epc.specs.Candidates.{Candidate, is_candidate}
 use Rattle.gs_epc.specs.Epcs.{options_of}
 use Rattle.gs_epc.specs.Writes.{AppendsAs, HoldsAll, NoneHoldsBefore, Rejects, Writes, WritesAs, text_by}
+use Rattle.gs_epc.proofs.ReadingFacts.{as_many}
 
 -- the element at a place
 at_place : {X : Type 0} (xs : List X) (i : ℕ) → i < length xs → (x : X) × (slice_get xs i ≡ Some x)
 at_place [] i low = absurd (omega arith)
 at_place (x ∷ xs) zero low = (x, refl)
 at_place (x ∷ xs) (suc i) low = at_place xs i (omega arith)
-
-as_many : (set : TableRows) (level : LevelName) → IsShaped set → length (options_of level set) ≡ length (level_rows level set).info
-as_many set level shaped = length-map (level_rows level set).level.options (λ (o : OptionForm). o.items) ∙ as_many_said set level shaped
 
 module _ (set : TableRows) (level : LevelName) (epc : Epc) where
   -- the last candidate among the first n options does not hold this field, and none of them holds every field

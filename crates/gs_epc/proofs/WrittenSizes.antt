@@ -1,5 +1,5 @@
 -- The text written by an option of bits has as many bits as its items.
-use Rattle.std.proofs.Common.{◌≡◌, ℕ, ◌+◌, ◌-◌, ◌*◌, ◌%◌, ◌≤◌, suc, Bool, true, false, not, List, [], ◌∷◌, ◌++◌, length, position, replicate, None, refl, ap, ◌∙◌, arith, length-append}
+use Rattle.std.proofs.Common.{◌≡◌, ℕ, ◌+◌, ◌-◌, ◌*◌, ◌%◌, ◌≤◌, Bool, true, false, not, List, [], ◌∷◌, ◌++◌, length, position, replicate, None, refl, ap, ◌∙◌, arith, length-append}
 use Rattle.std.specs.List.{flat_map}
 use Rattle.std.proofs.lemmas.List.{length-replicate}
 use Rattle.gs_ai.proofs.Searches.{cons_none}
@@ -11,7 +11,7 @@ use Rattle.gs_grammar.specs.Items.{is_bad, is_in_bounds, size_of, size_of_all}
 use Rattle.gs_grammar.specs.Words.{decimal_value, written_word}
 use Rattle.gs_grammar.specs.WrittenWords.{AreHeld, why_not, written}
 use Rattle.gs_grammar.proofs.HoldLemmas.{packed_length}
-use Rattle.gs_grammar.proofs.WritingLemmas.{ascii_held}
+use Rattle.gs_grammar.proofs.WritingLemmas.{ascii_held, shift}
 
 zeros_count : (n : ℕ) → length (replicate {A = ℕ} n 0) ≡ n
 zeros_count n = length-replicate {A = ℕ} n 0
@@ -41,9 +41,6 @@ in_bounds item h = kept (is_in_bounds true item) h
     kept : (b : Bool) → not b ≡ false → b ≡ true
     kept true e = refl
     kept false e = absurd (let f : true ≡ false = e in cc)
-
-shift : (item : Item) (items : List Item) (value : List ℕ) (values : List (List ℕ)) → AreHeld (item ∷ items) (value ∷ values) → AreHeld items values
-shift item items value values h k other v l p q = h (suc k) other v (omega arith) p q
 
 pub written_count : (items : List Item) (values : List (List ℕ)) → position (is_bad true) items ≡ None → length values ≡ length items → AreHeld items values → length (written items values) ≡ size_of_all items
 written_count [] values good one_each held = refl

@@ -319,7 +319,7 @@ first_share level items rows =
       };
     }
 
-swapped : (level : List (List Item)) (i j : ℕ) (w : List ℕ) → ShareList level i j w → ShareList level j i w
+pub swapped : (level : List (List Item)) (i j : ℕ) (w : List ℕ) → ShareList level i j w → ShareList level j i w
 swapped level i j w s = record { one = s.other; other = s.one; by_one = s.by_other; by_other = s.by_one; differ = λ a. s.differ (record { option = sym a.option; words = sym a.words }) }
 
 unambiguous : (level : List (List Item)) → AreItems level → ((i : ℕ) → i < length level → Row level i → ⊥) → IsUnambiguous level

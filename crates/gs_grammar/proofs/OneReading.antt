@@ -52,7 +52,7 @@ same_words (w ∷ words) (v ∷ words') = elim (same_list w v) as (λ _. (w ∷ 
 ]
 
 -- and of two derivations
-are_same : (level : List (List Item)) (w : List ℕ) (one other : Derivation level w) → AreSame level w one other ⊎ (AreSame level w one other → ⊥)
+pub are_same : (level : List (List Item)) (w : List ℕ) (one other : Derivation level w) → AreSame level w one other ⊎ (AreSame level w one other → ⊥)
 are_same level w one other = elim (cases_eq one.option other.option) as (λ _. AreSame level w one other ⊎ (AreSame level w one other → ⊥)) [
   | inr n ↦ inr (λ s. n s.option)
   | inl e ↦ elim (same_words one.words other.words) as (λ _. AreSame level w one other ⊎ (AreSame level w one other → ⊥)) [

@@ -82,7 +82,7 @@ zeros_number (x ∷ xs) h =
     let rest = zeros_number xs (All-tail (λ b. b ≡ 0) x xs h) in
     rw (first, rest) (omega arith)
 
-code_number : (c : ℕ) → c < 128 → number_of (bits_of 7 c) ≡ c
+pub code_number : (c : ℕ) → c < 128 → number_of (bits_of 7 c) ≡ c
 code_number c h = number_of-bits_of 7 c ∙ mod-eq_of_lt h
 
 -- zeros begin only with the code 0

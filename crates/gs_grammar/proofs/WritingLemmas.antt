@@ -115,7 +115,7 @@ written_size bit_level item value b h =
     (word_length item value (written_word item value) i (held_word item value (greatest_small item i) h)).1
 
 -- the written words joined are a derivation with these values
-shift : (item : Item) (items : List Item) (value : List ℕ) (values : List (List ℕ)) → AreHeld (item ∷ items) (value ∷ values) → AreHeld items values
+pub shift : (item : Item) (items : List Item) (value : List ℕ) (values : List (List ℕ)) → AreHeld (item ∷ items) (value ∷ values) → AreHeld items values
 shift item items value values h k other v l p q = h (suc k) other v (omega arith) p q
 
 pub written_derives : (items : List Item) (values : List (List ℕ)) → All IsItem items → length values ≡ length items → AreHeld items values → Derives items (written items values) values (written_words items values)

@@ -1,6 +1,5 @@
 -- The states of digits after a 1, and of digits of variable length, that were added to a table.
 use Rattle.std.proofs.Common.{◌≡◌, ℕ, ◌<◌, ◌≤◌, ◌+◌, ◌-◌, ◌^◌, List, ◌++◌, length, zero, suc, sym, ◌∙◌, ap, arith, length-append}
-use Rattle.std.proofs.Math.Nat.{one-le-pow, pow-le-pow_right}
 use Rattle.std.proofs.lemmas.List.{append_assoc, append-nil}
 use Rattle.gs_ambig.specs.declared.machine.Edge.{Edge}
 use Rattle.gs_grammar_compile.specs.Tables.{run_table}
@@ -8,12 +7,6 @@ use Rattle.gs_grammar_compile.specs.NumeralTables.{free_table, digits_table}
 use Rattle.gs_grammar_compile.specs.OnesTables.{layer_states, lead_edges, leads_edges, count_rows, counts_rows, layer_rows, ones_table}
 use Rattle.gs_grammar_compile.proofs.AddedRows.{run_count}
 use Rattle.gs_grammar_compile.proofs.ReadsOnes.{layer_count}
-
-pub small_power : (power n : ℕ) → n ≤ 12 → power ≡ 10 ^ n → (1 ≤ power) × (power ≤ 1000000000000)
-small_power power n few e =
-    let some = one-le-pow n 10 (omega arith) in
-    let most : 10 ^ n ≤ 10 ^ 12 = pow-le-pow_right {n = 10} (omega arith) few in
-    (omega arith, omega arith)
 
 leads_next : (n next count : ℕ) (row new all : List Edge) → row ++ leads_edges n next (suc count) ≡ all → new ≡ row ++ lead_edges n next (10 ^ suc count) (suc count) → new ++ leads_edges n next count ≡ all
 leads_next n next count row new all h e =

@@ -120,7 +120,7 @@ words_of table all (item ∷ items) border (next ∷ borders) place run w h f a 
 
 -- two runs with the same cuts are the same
 
-same_front : (v w x y : List ℕ) → v ++ x ≡ w ++ y → length v ≡ length w → (v ≡ w) × (x ≡ y)
+pub same_front : (v w x y : List ℕ) → v ++ x ≡ w ++ y → length v ≡ length w → (v ≡ w) × (x ≡ y)
 same_front v w x y e l =
     let front : v ≡ w = sym (take_at v x (length v) refl) ∙ ap (λ (z : List ℕ). take (length v) z) e ∙ take_at w y (length v) (sym l) in
     let back : x ≡ y = sym (drop_at v x (length v) refl) ∙ ap (λ (z : List ℕ). drop (length v) z) e ∙ drop_at w y (length v) (sym l) in

@@ -11,7 +11,7 @@ use Rattle.gs_grammar.specs.declared.item.Item.TheVariants.{Ascii7}
 use Rattle.gs_grammar.specs.Words.{IsWord, IsPacked}
 use Rattle.gs_grammar.specs.Languages.{PacksWithin}
 use Rattle.gs_grammar.proofs.ItemWords.{ascii_word}
-use Rattle.gs_grammar.proofs.Packs.{pack_cons, packed_fixes, packed_nil, set82_bounds, writes_number}
+use Rattle.gs_grammar.proofs.Packs.{pack_cons, packed_fixes, packed_nil, set82_bounds, code_number as number_is}
 use Rattle.gs_ambig.specs.declared.machine.Edge.{Edge}
 use Rattle.gs_ambig.specs.Walks.{edges_at}
 use Rattle.gs_grammar_compile.specs.Readers.{Reads}
@@ -84,9 +84,6 @@ fronted c value w p = record {
   packed = record { characters = and_second (is_in_set82 c) (are_in_set82 value) p.characters; padding = p.padding; packed = refl };
   character = and_first (is_in_set82 c) (are_in_set82 value) p.characters;
 }
-
-number_is : (c : ℕ) → c < 128 → number_of (bits_of 7 c) ≡ c
-number_is c l = writes_number 7 c (bits_of 7 c) (record { fits = l; written = refl })
 
 packed_coded : (lo n bits c : ℕ) (value w : List ℕ) → Fronted c value w → lo ≤ suc (length value) → length value ≤ n → length w ≡ bits → Code 7 0 (PacksIn (lo - 1) n (bits - 7)) w
 packed_coded lo n bits c value w f least most count =

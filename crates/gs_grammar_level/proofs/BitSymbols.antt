@@ -26,7 +26,7 @@ literal_bits (b ∷ w) h =
 zero_bits : (n : ℕ) → AreBits (replicate n 0)
 zero_bits n = All-replicate (λ b. b < 2) n 0 (omega arith)
 
-code_bits : (value : List ℕ) → AreBits (flat_map (bits_of 7) value)
+pub code_bits : (value : List ℕ) → AreBits (flat_map (bits_of 7) value)
 code_bits [] = All-nil (λ b. b < 2)
 code_bits (c ∷ value) = All-append (λ b. b < 2) (bits_of 7 c) (flat_map (bits_of 7) value) (AreBits-bits_of 7 c) (code_bits value)
 

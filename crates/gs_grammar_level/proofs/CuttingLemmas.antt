@@ -16,7 +16,7 @@ use Rattle.gs_grammar_level.specs.Cuttings.{starts_of, AreWidthsOf, IsCuttingOf,
 use Rattle.gs_grammar_level.specs.Fronts.{CutsAreFixed, ReadAlone}
 use Rattle.gs_grammar_level.specs.ShareSearches.{ShareNoList}
 use Rattle.gs_grammar_level.proofs.FrontLemmas.{option_by}
-use Rattle.gs_grammar_level.proofs.SharedLists.{same_front}
+use Rattle.gs_grammar_compile.proofs.JoinLemmas.{same_front}
 
 -- the start places of the items, one item more
 

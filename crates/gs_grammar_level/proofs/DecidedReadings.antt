@@ -1,11 +1,13 @@
 -- It is decidable whether two derivations are one; so a level that is not ambiguous has at most one of each list.
-use Rattle.std.proofs.Common.{◌≡◌, ℕ, ◌⊎◌, List, [], ◌∷◌, refl, sym, inl, inr, arith}
-use Rattle.std.proofs.lemmas.Bool.{cases_eq, cases_lt}
+use Rattle.std.proofs.Common.{◌≡◌, ℕ, ◌⊎◌, List, [], ◌∷◌, refl, inl, inr, arith}
+use Rattle.std.proofs.lemmas.Bool.{cases_lt}
 use Rattle.gs_grammar.specs.declared.item.Item.{Item}
 use Rattle.gs_grammar.specs.Derivations.{Derivation, AreSame, OneDerivation}
 use Rattle.gs_grammar.specs.Ambiguity.{IsAmbiguous, ShareList}
 use Rattle.gs_grammar.proofs.DecidedSpellings.{same_list}
 use Rattle.gs_grammar_level.specs.FirstShares.{HasShare}
+use Rattle.gs_grammar.proofs.DecidedShares.{swapped}
+use Rattle.gs_grammar.proofs.OneReading.{are_same as derivations_known}
 
 same_words : (words others : List (List ℕ)) → (words ≡ others) ⊎ (words ≡ others → ⊥)
 same_words [] [] = inl refl
@@ -16,15 +18,6 @@ same_words (v ∷ words) (w ∷ others) = elim (same_list v w) as (λ _. (v ∷ 
   | inl same ↦ elim (same_words words others) as (λ _. (v ∷ words ≡ w ∷ others) ⊎ (v ∷ words ≡ w ∷ others → ⊥)) [
     | inl rest ↦ inl (let e = same in let f = rest in cc)
     | inr n ↦ inr (λ e. n (let f : v ∷ words ≡ w ∷ others = e in cc))
-  ]
-]
-
-derivations_known : (level : List (List Item)) (w : List ℕ) (one other : Derivation level w) → AreSame level w one other ⊎ (AreSame level w one other → ⊥)
-derivations_known level w one other = elim (cases_eq one.option other.option) as (λ _. AreSame level w one other ⊎ (AreSame level w one other → ⊥)) [
-  | inr n ↦ inr (λ s. n s.option)
-  | inl e ↦ elim (same_words one.words other.words) as (λ _. AreSame level w one other ⊎ (AreSame level w one other → ⊥)) [
-    | inl f ↦ inl (record { option = e; words = f })
-    | inr n ↦ inr (λ s. n s.words)
   ]
 ]
 
@@ -40,15 +33,6 @@ only_derivation level w derivation none = record {
 }
 
 -- options that share a list
-
-pub swapped : (level : List (List Item)) (i j : ℕ) (w : List ℕ) → ShareList level i j w → ShareList level j i w
-swapped level i j w s = record {
-  one = s.other;
-  other = s.one;
-  by_one = s.by_other;
-  by_other = s.by_one;
-  differ = λ same. s.differ (record { option = sym same.option; words = sym same.words });
-}
 
 pub share_of : (level : List (List Item)) → IsAmbiguous level → HasShare level
 share_of level a =

@@ -1,5 +1,5 @@
 -- The part of a list from a place on, and the part before it.
-use Rattle.std.proofs.Common.{◌≡◌, ℕ, ◌<◌, ◌≤◌, ◌+◌, List, [], ◌∷◌, length, get_or, take, drop, zero, suc, refl, ap, arith, add-one}
+use Rattle.std.proofs.Common.{◌≡◌, ℕ, ◌<◌, ◌+◌, List, [], ◌∷◌, length, get_or, drop, zero, suc, arith, add-one}
 
 -- the first item of the rest, and the items after it
 pub record Parts {X : Type 0} (xs rest : List X) (x d : X) (n : ℕ) : Type 0 where
@@ -18,17 +18,3 @@ part_at (y ∷ xs) rest x d zero e =
 part_at (y ∷ xs) rest x d (suc n) e =
     let r = part_at xs rest x d n e in
     record { within = let l = r.within in omega arith; here = r.here; others = rw add-one (rw add-one at r.others) }
-
--- nothing is left after the end
-pub none_left : {X : Type 0} (xs : List X) (n : ℕ) → length xs ≤ n → drop n xs ≡ []
-none_left [] zero l = refl
-none_left [] (suc n) l = refl
-none_left (x ∷ xs) zero l = absurd (omega arith)
-none_left (x ∷ xs) (suc n) l = none_left xs n (omega arith)
-
--- all is taken up to the end
-pub all_taken : {X : Type 0} (xs : List X) (n : ℕ) → length xs ≤ n → take n xs ≡ xs
-all_taken [] zero l = refl
-all_taken [] (suc n) l = refl
-all_taken (x ∷ xs) zero l = absurd (omega arith)
-all_taken {X} (x ∷ xs) (suc n) l = ap (λ (ys : List X). x ∷ ys) (all_taken xs n (omega arith))

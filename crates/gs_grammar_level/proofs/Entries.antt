@@ -1,12 +1,11 @@
 -- The invariants of the loops of the trail.
 use Rattle.std.proofs.Common.{◌≡◌, ℕ, ◌<◌, ◌≤◌, ◌+◌, true, false, List, [], ◌∷◌, ◌++◌, length, get_or, drop, suc, refl, sym, ◌∙◌, ap, arith, length-append, add-one}
-use Rattle.std.proofs.lemmas.List.{get_or_append_left, append-nil, append_assoc, get_or_default}
+use Rattle.std.proofs.lemmas.List.{get_or_append_left, append-nil, append_assoc, get_or_default, drop_all}
 use Rattle.std.proofs.Math.Seq.{drop-cons}
 use Rattle.gs_ambig.specs.declared.machine.Edge.{Edge}
 use Rattle.gs_ambig.specs.Walks.{edges_at}
 use Rattle.gs_grammar_level.specs.declared.trail.Entry.{Entry}
 use Rattle.gs_grammar_level.specs.Trails.{leads_with, successors, layer, entry_at}
-use Rattle.gs_grammar_level.proofs.DropLemmas.{none_left}
 
 -- the edges that are left, from one of them on
 edges_left : (edges : List Edge) (symbol back i : ℕ) (d : Edge) → i < length edges → successors (drop i edges) symbol back ≡ successors (get_or edges i d ∷ drop (i + 1) edges) symbol back
@@ -28,7 +27,7 @@ one_passed edges symbol back i d base trail low h leads =
 
 pub all_over : (edges : List Edge) (symbol back i : ℕ) (base trail : List Entry) → trail ++ successors (drop i edges) symbol back ≡ base ++ successors edges symbol back → length edges ≤ i → trail ≡ base ++ successors edges symbol back
 all_over edges symbol back i base trail h high =
-    let none : drop i edges ≡ [] = none_left edges i high in
+    let none : drop i edges ≡ [] = drop_all i edges high in
     sym (append-nil trail) ∙ ap (λ (es : List Edge). trail ++ successors es symbol back) (sym none) ∙ h
 
 -- the entries so far, after those before a number of the first ones were handled
@@ -57,7 +56,7 @@ so_many_step table symbol from first trail new number entry edges h l e f is =
 
 pub so_many_end : (table : List (List Edge)) (symbol from : ℕ) (first trail : List Entry) (number : ℕ) → SoMany table symbol from first trail number → length first ≤ number → trail ≡ first ++ layer table symbol from (drop from first)
 so_many_end table symbol from first trail number h l =
-    let none : drop number first ≡ [] = none_left first number l in
+    let none : drop number first ≡ [] = drop_all number first l in
     let all : h.more ++ [] ≡ layer table symbol from (drop from first) = ap (λ (xs : List Entry). h.more ++ layer table symbol number xs) (sym none) ∙ h.whole in
     h.are ∙ ap (λ (xs : List Entry). first ++ xs) (sym (append-nil h.more) ∙ all)
 

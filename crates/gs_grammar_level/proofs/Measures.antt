@@ -1,6 +1,6 @@
 -- Words at the places that the sizes of items give.
 use Rattle.std.proofs.Common.{◌≡◌, ℕ, ◌<◌, ◌≤◌, ◌+◌, ◌-◌, List, [], ◌∷◌, ◌++◌, length, get_or, take, drop, refl, sym, ◌∙◌, ap, arith, length-drop}
-use Rattle.std.proofs.lemmas.List.{take_at, drop_at, length-append, append_assoc, append-nil, nil_from_length, take-append-drop}
+use Rattle.std.proofs.lemmas.List.{take_at, drop_at, length-append, append_assoc, append-nil, nil_from_length, take-append-drop, take_all}
 use Rattle.gs_grammar.specs.declared.item.Item.{Item}
 use Rattle.gs_grammar.specs.Items.{IsItem, size_of, shortest_of}
 use Rattle.gs_grammar.specs.Words.{IsWord, Word}
@@ -11,7 +11,6 @@ use Rattle.gs_grammar.proofs.WordLaws.{word_length}
 use Rattle.gs_grammar_level.specs.Cuttings.{starts_of}
 use Rattle.gs_grammar_level.specs.Fronts.{CutsAreFixed}
 use Rattle.gs_grammar_level.specs.Widths.{HasWidth, HasNextCut, width_by}
-use Rattle.gs_grammar_level.proofs.DropLemmas.{all_taken}
 
 -- the width of one item
 
@@ -100,7 +99,7 @@ front item others rest width h d =
 pub measures_step : (items left : List Item) (item : Item) (others : List Item) (w rest ahead : List ℕ) (values : List (List ℕ)) (width : ℕ) (value : List ℕ) → Measures items left w rest ahead values → left ≡ item ∷ others → HasWidth item others rest width → Word item value (take width rest) → Measures items others w (drop width rest) (take (length ahead - 1) (drop 1 ahead)) (values ++ value ∷ [])
 measures_step items left item others w rest ahead values width value m e h word =
     let here : ahead ≡ starts_of m.place (item ∷ others) = rw e at m.ahead_are in
-    let left_are : take (length ahead - 1) (drop 1 ahead) ≡ drop 1 ahead = all_taken (drop 1 ahead) (length ahead - 1) (let l = length-drop 1 ahead in omega arith) in
+    let left_are : take (length ahead - 1) (drop 1 ahead) ≡ drop 1 ahead = take_all (length ahead - 1) (drop 1 ahead) (let l = length-drop 1 ahead in omega arith) in
     record {
       place = m.place + size_of item;
       ahead_are = left_are ∙ ap (drop 1) here;

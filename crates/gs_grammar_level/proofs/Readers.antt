@@ -5,6 +5,7 @@ use Rattle.std.specs.Option.{option_map}
 use Rattle.std.proofs.lemmas.Bool.{cases_lt}
 use Rattle.std.proofs.lemmas.Option.{slice_get-map}
 use Rattle.std.proofs.Math.Seq.{drop-cons}
+use Rattle.std.proofs.lemmas.List.{drop_all}
 use Rattle.gs_chars.proofs.TruthsAndLists.{within, mapped_some}
 use Rattle.gs_grammar.specs.declared.item.Item.{Item}
 use Rattle.gs_grammar.specs.Derivations.{IsDerived, Derivation, OneDerivation}
@@ -18,7 +19,6 @@ use Rattle.gs_grammar_level.specs.declared.fronts.Group.{Group}
 use Rattle.gs_grammar_level.specs.Trails.{AreCuts, HasCuts, HasNoRun}
 use Rattle.gs_grammar_level.specs.Guides.{StandsAt, HasLiteral, BeginAll, AreGroupsFrom}
 use Rattle.gs_grammar_level.specs.Finders.{ReadBy, NoneReads}
-use Rattle.gs_grammar_level.proofs.DropLemmas.{none_left}
 
 -- runs and derivations
 
@@ -96,7 +96,7 @@ group_begins from left rest group options w e h = let g : AreGroupsFrom from (gr
 
 pub no_group : (from : ℕ) (groups : List Group) (n : ℕ) (options : List OptionForm) (w : List ℕ) → length groups ≤ n → GroupsLeft from (drop n groups) options w → NoneReads options 0 (length options) w
 no_group from groups n options w l h =
-    let g : AreGroupsFrom from [] options = rw (none_left groups n l) at h.left in
+    let g : AreGroupsFrom from [] options = rw (drop_all n groups l) at h.left in
     none_within options w 0 from (length options) h.none g
 
 -- a level that is not ambiguous

@@ -1,7 +1,6 @@
 -- Machines that share a list of symbols, and options that do.
-use Rattle.std.proofs.Common.{◌≡◌, ℕ, ◌<◌, ◌+◌, ◌++◌, zero, suc, List, [], ◌∷◌, length, take, drop, Some, refl, sym, ◌∙◌, ap, arith}
+use Rattle.std.proofs.Common.{◌≡◌, ℕ, ◌<◌, ◌+◌, zero, suc, List, [], ◌∷◌, length, Some, refl, sym, ◌∙◌, ap, arith}
 use Rattle.std.specs.List.{concat, slice_get}
-use Rattle.std.proofs.lemmas.List.{take_at, drop_at}
 use Rattle.gs_grammar.specs.declared.item.Item.{Item}
 use Rattle.gs_grammar.specs.Ambiguity.{ShareList}
 use Rattle.gs_ambig.specs.Machines.{AutoForm}
@@ -10,14 +9,9 @@ use Rattle.gs_ambig.specs.Searches.{BothAccept, NoneInCommon, HasTwoWalks, IsSin
 use Rattle.gs_grammar_level.specs.ShareSearches.{ShareNoList}
 use Rattle.gs_grammar_level.proofs.DecidedShares.{derives_at}
 use Rattle.gs_grammar_compile.specs.Places.{cuts_from, word_cuts, run_cuts, CutsAreThoseOfDerivations}
+use Rattle.gs_grammar_compile.proofs.JoinLemmas.{same_front}
 
 -- words with the same cuts, joined to the same list, are the same
-
-pub same_front : (v w x y : List ℕ) → v ++ x ≡ w ++ y → length v ≡ length w → (v ≡ w) × (x ≡ y)
-same_front v w x y e l =
-    let front : v ≡ w = sym (take_at v x (length v) refl) ∙ ap (λ (z : List ℕ). take (length v) z) e ∙ take_at w y (length v) (sym l) in
-    let back : x ≡ y = sym (drop_at v x (length v) refl) ∙ ap (λ (z : List ℕ). drop (length v) z) e ∙ drop_at w y (length v) (sym l) in
-    (front, back)
 
 count_cuts : (place : ℕ) (words : List (List ℕ)) → length (cuts_from place words) ≡ suc (length words)
 count_cuts place [] = refl

@@ -1,9 +1,9 @@
 -- How a walk goes on over the rest of some symbols, and its end.
 use Rattle.std.proofs.Common.{◌≡◌, ℕ, ◌<◌, ◌≤◌, List, [], ◌∷◌, length, get_or, drop, suc, sym, ◌∙◌, ap}
 use Rattle.std.proofs.Math.Seq.{drop-cons}
+use Rattle.std.proofs.lemmas.List.{drop_all}
 use Rattle.gs_ambig.specs.Walks.{Fits, edges_at, Walk}
 use Rattle.gs_ambig.specs.Machines.{AutoForm, accept_of}
-use Rattle.gs_grammar_level.proofs.DropLemmas.{none_left}
 
 -- the next state of a walk, and the walk from there
 pub record NextState (form : AutoForm) (symbols : List ℕ) (symbol n state : ℕ) : Type 0 where
@@ -28,4 +28,4 @@ stays form state (next ∷ rest) left e w = let f : Walk form.table state (next 
 
 -- after the last symbol it is at the accepting state
 pub ends_at : (form : AutoForm) (symbols : List ℕ) (n state : ℕ) (rest : List ℕ) → length symbols ≤ n → Walk form.table state rest (drop n symbols) (accept_of form) → state ≡ accept_of form
-ends_at form symbols n state rest l w = stays form state rest (drop n symbols) (none_left symbols n l) w
+ends_at form symbols n state rest l w = stays form state rest (drop n symbols) (drop_all n symbols l) w

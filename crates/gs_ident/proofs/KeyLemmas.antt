@@ -195,7 +195,7 @@ all_counted table pairs none = filter_all (λ pair. not (stands_for_none table p
 pub no_keys_yet : (table : List AiRow) → AreKeys table [] (record { with_none = false; first = None; other = None })
 no_keys_yet table = record { none = refl; first = refl; other = λ key f. absurd (let g : None ≡ Some key = f in cc) }
 
-one_more : (pairs : List Pair) (i : ℕ) (pair : Pair) → i < length pairs → pair ≡ get_or pairs i pair → take (i + 1) pairs ≡ take i pairs ++ pair ∷ []
+pub one_more : (pairs : List Pair) (i : ℕ) (pair : Pair) → i < length pairs → pair ≡ get_or pairs i pair → take (i + 1) pairs ≡ take i pairs ++ pair ∷ []
 one_more pairs i pair low read = take_more pairs i pair low ∙ ap (λ (x : Pair). take i pairs ++ x ∷ []) (sym read)
 
 pub with_next : (table : List AiRow) (pairs : List Pair) (i : ℕ) (pair : Pair) (keys next : Keys) → i < length pairs → pair ≡ get_or pairs i pair → ((before : List Pair) → length before ≡ i → AreKeys table before keys → AreKeys table (before ++ pair ∷ []) next) → AreKeys table (take i pairs) keys → AreKeys table (take (i + 1) pairs) next

@@ -18,12 +18,9 @@ use Rattle.gs_ident.proofs.CodeOrder.{none_ascending}
 use Rattle.gs_ident.proofs.IdentityLemmas.{made_answer, made_with}
 use Rattle.gs_chars.proofs.TruthsAndLists.{true_or_false}
 use Rattle.gs_ident.specs.QualifiedKeys.{IsQualifiedKey, pairs_in}
-use Rattle.gs_ident.proofs.MovedPairs.{row_distinct}
+use Rattle.gs_ident.proofs.MovedPairs.{row_distinct, differs as other_way}
 
 -- ---- codes in a list
-
-other_way : (a b : List ℕ) → bytes_eq a b ≡ false → bytes_eq b a ≡ false
-other_way a b h = false_from (bytes_eq b a) (λ same. let e = equal_bytes b a same in true≢false (let f : bytes_eq a b ≡ true = rw e (same_bytes a) in sym f ∙ h))
 
 or_left : (a b : Bool) → (a || b) ≡ false → a ≡ false
 or_left true b h = h
@@ -34,7 +31,7 @@ or_right true b h = absurd (let e : true ≡ false = h in cc)
 or_right false b h = h
 
 -- a code that passes the test is not in a list without passing codes
-absent : (p : List ℕ → Bool) (code : List ℕ) (codes : List (List ℕ)) → p code ≡ true → list_any p codes ≡ false → list_any (bytes_eq code) codes ≡ false
+pub absent : (p : List ℕ → Bool) (code : List ℕ) (codes : List (List ℕ)) → p code ≡ true → list_any p codes ≡ false → list_any (bytes_eq code) codes ≡ false
 absent p code [] passes none = refl
 absent p code (other ∷ codes) passes none =
     let differs : bytes_eq code other ≡ false = false_from (bytes_eq code other) (λ same.

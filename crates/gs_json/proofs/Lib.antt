@@ -5,5 +5,6 @@ pub mod JudgementLemmas
 pub mod LookUpLemmas
 pub mod WalkLemmas
 pub mod Pointers
+pub mod PutMembers
 pub mod NumeralLemmas
 pub mod ValueLoops

@@ -8,7 +8,7 @@ use Rattle.std.specs.Str.{bytes_eq, is_utf8}
 use Rattle.std.proofs.lemmas.Cmp.{nat_list_cmp_total}
 use Rattle.std.proofs.lemmas.List.Elements.{All-cons, All-head, All-tail, filter_map-append}
 use Rattle.std.specs.Option.{option_map_or}
-use Rattle.gs_chars.proofs.TruthsAndLists.{and_first, and_second, and_true, within}
+use Rattle.gs_chars.proofs.TruthsAndLists.{and_first, and_second, and_true, within, take_next}
 use Rattle.gs_ident.specs.Elements.{Elements, first_qualifiers}
 use Rattle.gs_ident.specs.Links.{canonical_link}
 use Rattle.gs_linkset.specs.LinkShapes.{ascend, is_below, is_below_first, is_context, is_relation, is_target}
@@ -20,7 +20,6 @@ use Rattle.gs_links.specs.Languages.{matches, narrowed, some_or}
 use Rattle.gs_links.specs.Shapes.{is_link}
 use Rattle.gs_links.specs.declared.link.Link.{Link}
 use Rattle.gs_links.specs.declared.link.Want.{Want}
-use Rattle.gs_linkset.proofs.ReadLemmas.{take_next}
 use Rattle.gs_links.proofs.ChoiceLemmas.{chosen_anchor, found, get_at}
 
 -- ---- the links of numbers

@@ -6,14 +6,13 @@ use Rattle.std.specs.Option.{option_map_or}
 use Rattle.std.proofs.lemmas.Bool.{cases_lt, eq-eqb, eqb-true}
 use Rattle.std.proofs.lemmas.List.{append-nil}
 use Rattle.std.proofs.lemmas.List.Elements.{filter-append}
-use Rattle.gs_chars.proofs.TruthsAndLists.{and_first, and_second, and_true, within}
+use Rattle.gs_chars.proofs.TruthsAndLists.{and_first, and_second, and_true, within, take_next}
 use Rattle.gs_ident.specs.Elements.{Elements, first_qualifiers}
 use Rattle.gs_links.specs.Choices.{IsAmong, chosen_depth, depth_of, is_candidate, is_chosen, numbers_from, passing}
 use Rattle.gs_links.specs.Index.{IsIndexOf, anchor_number, has_number, listed, with_last}
 use Rattle.gs_links.specs.declared.index.Index.{Index}
 use Rattle.gs_links.specs.declared.link.Link.{Link}
 use Rattle.gs_links.specs.declared.link.Want.{Want}
-use Rattle.gs_linkset.proofs.ReadLemmas.{take_next}
 use Rattle.gs_links.proofs.ChoiceLemmas.{among, chosen_anchor, depth_below, depth_whole, depth_within, found, get_at, numbers_end, same_filter}
 
 -- ---- of numbers those of links that pass

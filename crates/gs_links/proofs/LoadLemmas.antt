@@ -5,11 +5,11 @@ use Rattle.std.specs.List.{enumerate_from, flat_map}
 use Rattle.std.proofs.lemmas.Bool.{cases_lt}
 use Rattle.std.proofs.lemmas.Grind.{flat_map-append}
 use Rattle.std.proofs.Common.{lt→ltb}
-use Rattle.std.proofs.lemmas.List.{append-nil, append_assoc, length-append, map-append, take_all}
+use Rattle.std.proofs.lemmas.List.{append-nil, append_assoc, length-append, map-append, take_all, length-map}
 use Rattle.gs_ai.specs.Tables.{is_empty}
 use Rattle.gs_ai.specs.declared.pair.Pair.{Pair}
 use Rattle.gs_ai.specs.declared.row.AiRow.{AiRow}
-use Rattle.gs_chars.proofs.TruthsAndLists.{nil_parts}
+use Rattle.gs_chars.proofs.TruthsAndLists.{nil_parts, take_next}
 use Rattle.gs_chars.specs.Answers.{first_or}
 use Rattle.gs_dlink.specs.declared.error.LinkFault.{LinkFault}
 use Rattle.gs_ident.specs.Elements.{Elements}
@@ -17,7 +17,6 @@ use Rattle.gs_ident.specs.Identities.{IsMadeWith, identity_of_pairs}
 use Rattle.gs_ident.specs.declared.errors.IdentFault.{IdentFault}
 use Rattle.gs_linkset.specs.declared.link_types.Context.{Context}
 use Rattle.gs_linkset.specs.declared.link_types.Relation.{Relation}
-use Rattle.gs_linkset.proofs.ReadLemmas.{take_next}
 use Rattle.gs_links.specs.Loads.{OrMemory, anchor_answer, bad_target, by_identity, by_pairs, context_errors, context_links, expanded, link_with, links_by, links_of, load_answer, pairs_answer, relation_errors, relation_links, relations_errors, store_errors, targets_count, without_attributes}
 use Rattle.gs_links.specs.LoadingSupport.{relations_count}
 use Rattle.gs_links.specs.declared.error.AnchorWhy.{AnchorWhy}
@@ -180,14 +179,10 @@ pub too_many : (table : List AiRow) (voc : List ℕ) (contexts : List Context) �
 unfolding load_answer store_errors
 too_many table voc contexts over = rw (← over) (inr refl)
 
-map_length : {X Y : Type 0} (f : X → Y) (xs : List X) → length (map f xs) ≡ length xs
-map_length f [] = refl
-map_length f (x ∷ xs) = ap suc (map_length f xs)
-
 relations_links : (voc : List ℕ) (anchor : Elements) (relations : List Relation) → length (flat_map (relation_links voc anchor) relations) ≡ relations_count relations
 relations_links voc anchor [] = refl
 relations_links voc anchor (relation ∷ relations) =
-    let own = map_length (link_with anchor (expanded voc relation.name)) relation.targets in
+    let own = length-map relation.targets (link_with anchor (expanded voc relation.name)) in
     let rest = relations_links voc anchor relations in
     length-append (relation_links voc anchor relation) (flat_map (relation_links voc anchor) relations)
     ∙ ap (λ n. n + length (flat_map (relation_links voc anchor) relations)) own

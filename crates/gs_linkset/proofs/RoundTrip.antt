@@ -33,8 +33,9 @@ use Rattle.gs_linkset.specs.declared.link_types.AttrValue.TheVariants.{One, Many
 use Rattle.gs_linkset.specs.declared.link_types.Context.{Context}
 use Rattle.gs_linkset.specs.declared.link_types.Relation.{Relation}
 use Rattle.gs_linkset.specs.declared.link_types.Target.{Target}
-use Rattle.gs_linkset.proofs.PlainTrees.{ArePlain, HavePlain, IsBelowAll, IsPlain, depth_put, plain_put, text_reads, text_utf8}
+use Rattle.gs_linkset.proofs.PlainTrees.{ArePlain, HavePlain, IsPlain, plain_put, text_reads, text_utf8}
 use Rattle.gs_linkset.proofs.WrittenLemmas.{attr_parts, below_at, context_parts, many_texts, one_text, relation_parts, sorted, tagged_texts, target_parts, true_at}
+use Rattle.gs_json.proofs.PutMembers.{IsBelowAll, depth_put}
 
 -- ---- arrays
 

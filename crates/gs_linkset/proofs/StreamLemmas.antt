@@ -1,9 +1,9 @@
 -- The contexts of items and the values of tokens, one after another.
-use Rattle.std.proofs.Common.{◌≡◌, ◌⊎◌, ℕ, suc, ◌+◌, ◌<◌, ◌≤◌, ◌-◌, List, [], ◌∷◌, ◌++◌, length, map, true, false, Option, Some, None, refl, sym, ap, subst, ◌∙◌, inl, inr, arith, option_map, option_and_then}
+use Rattle.std.proofs.Common.{◌≡◌, ◌⊎◌, ℕ, suc, ◌+◌, ◌<◌, ◌≤◌, ◌-◌, List, [], ◌∷◌, ◌++◌, length, true, false, Option, Some, None, refl, sym, ap, subst, ◌∙◌, inl, inr, arith, option_map, option_and_then}
 use Rattle.std.specs.Prelude.{⊤, Result, Ok, Err, IfOk, OnOk, is_some, option_to_list}
 use Rattle.std.specs.List.{enumerate_from, flat_map}
 use Rattle.std.specs.Option.{option_map_or}
-use Rattle.std.proofs.lemmas.List.{append-nil, map-append}
+use Rattle.std.proofs.lemmas.List.{append-nil, map-append, length-map}
 use Rattle.json.specs.Token.{Token}
 use Rattle.json.specs.Lex.{tokens}
 use Rattle.json.specs.Json as json
@@ -49,10 +49,6 @@ module _ (errors : List ℕ → Data → List JsonFault) (place : List ℕ) (d :
   errors_more : (items : List Data) → item_errors errors place (items ++ d ∷ []) ≡ item_errors errors place items ++ errors (item_place place (length items)) d
   errors_more items = let same : 0 + length items ≡ length items = omega arith in errors_from 0 items ∙ ap (λ i. item_errors errors place items ++ errors (item_place place i) d) same
 
-mapped_length : {X Y : Type 0} (f : X → Y) (xs : List X) → length (map f xs) ≡ length xs
-mapped_length f [] = refl
-mapped_length f (x ∷ xs) = ap suc (mapped_length f xs)
-
 module _ (items : List Data) (d : Data) where
   -- after an error the first one stays
   pub error_stays : (e : JsonFault) → OrMemory (Err e) (contexts_answer items) → OrMemory (Err e) (contexts_answer (items ++ d ∷ []))
@@ -65,7 +61,7 @@ module _ (items : List Data) (d : Data) where
     unfolding contexts_answer
     error_comes e h =
         let known = none_first _ _ read so_far in
-        let count = ap length known.1 ∙ mapped_length context_of items in
+        let count = ap length known.1 ∙ length-map items context_of in
         rw (errors_more context_errors linkset_place d items, known.0) (same_error _ _ _ e (rw count at h))
 
     pub context_more : (context : Context) (more : List Context) → OrMemory (Ok context) (first_or (context_errors (item_place linkset_place (length read)) d) (context_of d)) → more ≡ read ++ context ∷ []
@@ -73,7 +69,7 @@ module _ (items : List Data) (d : Data) where
     unfolding contexts_answer
     context_more context more h e =
         let known = none_first _ _ read so_far in
-        let count = ap length known.1 ∙ mapped_length context_of items in
+        let count = ap length known.1 ∙ length-map items context_of in
         let own = none_first _ _ context (rw count at h) in
         rw (errors_more context_errors linkset_place d items, known.0, own.0, e, own.1, known.1, map-append) (inr refl)
 

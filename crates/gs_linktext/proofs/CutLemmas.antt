@@ -14,7 +14,7 @@ use Rattle.gs_linktext.specs.Contexts.{are_apart, ascends, first_name, has_targe
 use Rattle.gs_linktext.specs.Cuts.{context_with, relation_with, takes, IsMore}
 use Rattle.gs_linktext_grammar.specs.Grammar.{is_some_part}
 use Rattle.gs_chars.proofs.TruthsAndLists.{and_first, and_second, and_true, equal_bytes, not_false}
-use Rattle.gs_linktext.proofs.FilterLemmas.{all_more}
+use Rattle.gs_linkset.proofs.ReadLemmas.{all_more}
 
 -- a link: its anchor, its relation type and its target
 abbrev Link : Type 0

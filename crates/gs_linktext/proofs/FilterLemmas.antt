@@ -1,8 +1,7 @@
 -- The results of each item, one item more.
-use Rattle.std.proofs.Common.{◌≡◌, ℕ, ◌+◌, ◌<◌, Bool, true, List, [], ◌∷◌, ◌++◌, Option, Some, None, length, take, get_or, refl, ap, sym, ◌∙◌}
-use Rattle.std.specs.List.{filter_map, list_all}
+use Rattle.std.proofs.Common.{◌≡◌, ℕ, ◌+◌, ◌<◌, List, [], ◌∷◌, ◌++◌, Option, Some, None, length, take, get_or, refl, ap, sym, ◌∙◌}
+use Rattle.std.specs.List.{filter_map}
 use Rattle.std.proofs.lemmas.List.{take_more}
-use Rattle.gs_chars.proofs.TruthsAndLists.{and_first, and_second, and_true}
 
 module _ {X Y : Type 0} (f : X → Option Y) where
   pub filter_map_none : (xs : List X) (y : X) → f y ≡ None → filter_map f (xs ++ y ∷ []) ≡ filter_map f xs
@@ -30,7 +29,3 @@ module _ {X Y : Type 0} (f : X → Option Y) where
   taken_some xs i x ys zs z h is so_far some new =
       let more : take (i + 1) xs ≡ take i xs ++ x ∷ [] = take_more xs i x h ∙ ap (λ (p : X). take i xs ++ p ∷ []) (sym is) in
       rw more (new ∙ ap (λ (ws : List Y). ws ++ z ∷ []) so_far ∙ sym (filter_map_some (take i xs) x z some))
-
-pub all_more : {X : Type 0} (t : X → Bool) (xs : List X) (x : X) → list_all t xs ≡ true → t x ≡ true → list_all t (xs ++ x ∷ []) ≡ true
-all_more t [] x h own = rw own refl
-all_more t (y ∷ xs) x h own = and_true (t y) (list_all t (xs ++ x ∷ [])) (and_first (t y) (list_all t xs) h) (all_more t xs x (and_second (t y) (list_all t xs) h) own)

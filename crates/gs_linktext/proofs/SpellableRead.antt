@@ -22,7 +22,7 @@ use Rattle.gs_linktext_grammar.specs.declared.lexeme.Lexeme.{Lexeme}
 use Rattle.gs_linktext_grammar.specs.declared.lexeme.Lexeme.TheVariants.{Comma, Semicolon, Equals, Word, Target as Angled, Quoted}
 use Rattle.gs_linktext_grammar.specs.declared.written_link.Param.{Param}
 use Rattle.gs_linktext_grammar.specs.declared.written_link.WrittenLink.{WrittenLink}
-use Rattle.gs_linktext_grammar.proofs.LexLemmas.{not_some, some_is}
+use Rattle.gs_linktext_grammar.proofs.LexLemmas.{not_some, some_is, all_prefix as prefix_all}
 use Rattle.gs_linktext.specs.Links.{IsLinksOf, IsLinksOfLink, attr_of, attr_value, first_value, is_language_byte, is_reserved, many_value, tagged_by, tagged_text, tagged_value, types_in, types_of, values_of}
 use Rattle.gs_linktext.specs.ReadAnswers.{IsReadAs}
 use Rattle.gs_linktext.specs.Spelling.{cannot_spell, has_unspellable_language, is_unspellable_attr, is_unspellable_href, is_unspellable_name, is_unspellable_text, is_unspellable_type, is_unspellable_value, is_upper}
@@ -294,14 +294,6 @@ its_name name (p ∷ params) h some = by (bytes_eq p.name name) refl (λ g. its_
     by : (b : Bool) → bytes_eq p.name name ≡ b → ((values_of name params ≡ [] → ⊥) → is_name name ≡ true) → is_name name ≡ true
     by true e rest = rw (← equal_bytes p.name name e) (and_first (is_name p.name) (list_all is_quotable p.value) (and_first (is_fine p) (list_all is_fine params) h))
     by false e rest = rest (λ none. some (rw e none))
-
-prefix_all : (test : ℕ → Bool) (text : List ℕ) → list_all test (prefix_of test text) ≡ true
-prefix_all test [] = refl
-prefix_all test (c ∷ text) = by (test c) refl (prefix_all test text)
-  where
-    by : (b : Bool) → test c ≡ b → list_all test (prefix_of test text) ≡ true → list_all test (prefix_of test (c ∷ text)) ≡ true
-    by true e rest = rw e (and_true (test c) (list_all test (prefix_of test text)) e rest)
-    by false e rest = rw e refl
 
 tagged_by_is : (language behind : List ℕ) (pair : List ℕ × List ℕ) → list_all is_language_byte language ≡ true → tagged_by language behind ≡ Some pair → has_unspellable_language pair ≡ false
 tagged_by_is language [] pair all h = absurd (not_some pair h)

@@ -75,7 +75,7 @@ one_epc set level symbols one other a b =
 abbrev dump_by : Bool → ℕ → Epc → Dump
 dump_by user attributes epc = record { user = user; attributes = attributes; epc = epc }
 
-equal_dumps : (u v : Bool) (a b : ℕ) (e f : Epc) → u ≡ v → a ≡ b → e ≡ f → dump_by u a e ≡ dump_by v b f
+pub equal_dumps : (u v : Bool) (a b : ℕ) (e f : Epc) → u ≡ v → a ≡ b → e ≡ f → dump_by u a e ≡ dump_by v b f
 equal_dumps u v a b e f p q r = rw (p, q, r) refl
 
 pub one_bank : (set : TableRows) (bits : List ℕ) (one other : Dump) → IsBank set bits one → IsBank set bits other → one ≡ other

@@ -29,6 +29,7 @@ use Rattle.gs_epc.specs.Filters.{IsFilter}
 use Rattle.gs_epc.proofs.FieldRules.{filter_kept}
 use Rattle.gs_membank.proofs.FilterLemmas.{one_in_bits}
 use Rattle.gs_membank.proofs.FullWords.{empty_value, word_at}
+use Rattle.gs_tables.proofs.FoundItems.{field_itself as own_field}
 
 -- ---- a field has one item at most
 
@@ -75,14 +76,6 @@ one_further (Characters most) pieces totals h =
     (none_at_all pieces both.0, none_at_all totals both.1)
 
 -- ---- the value of a field is that of its one item
-
-own_field : (field : Field) → is_field field (Some field) ≡ true
-own_field Filter = refl
-own_field Gcp = refl
-own_field Rest = refl
-own_field Piece = refl
-own_field Total = refl
-own_field Serial = refl
 
 one_there : (field : Field) (parts : List FieldItem) (k : ℕ) (item : Item) → slice_get parts k ≡ Some (Some field, item) → 1 ≤ length (items_of_field field parts)
 one_there field [] k item at = absurd (let e : None ≡ Some (Some field, item) = at in cc)

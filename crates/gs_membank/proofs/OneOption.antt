@@ -1,5 +1,5 @@
 -- Two options of a level differ in their kind, their encoding or their prefix length.
-use Rattle.std.proofs.Common.{◌≡◌, ◌==◌, ◌&&◌, ◌+◌, ◌<◌, ℕ, nat_lt, not, true, false, List, [], ◌∷◌, ◌++◌, take, map, position, Option, Some, None, slice_get, bytes_eq, refl, sym, ap, ◌∙◌, arith, option_map}
+use Rattle.std.proofs.Common.{◌≡◌, ◌==◌, ◌&&◌, ◌+◌, ◌<◌, ℕ, nat_lt, not, true, false, List, [], ◌++◌, take, map, position, Some, None, slice_get, bytes_eq, refl, sym, ap, ◌∙◌, arith, option_map}
 use Rattle.std.specs.Prelude.{option_to_list}
 use Rattle.std.proofs.lemmas.Bool.Decides.{nat_tests}
 use Rattle.std.proofs.lemmas.Option.{slice_get-map}
@@ -22,7 +22,7 @@ use Rattle.gs_tables_document.specs.Documents.{is_bits}
 use Rattle.gs_tables.specs.Rules.{has_name}
 use Rattle.gs_tables.specs.Tables.{IsShaped, TableRows, fits, info_of, is_bad_item, is_same, items_alone, level_rejections, level_rows, limit_rejections, option_rejections, row_rejections}
 use Rattle.gs_tables.specs.TablesSupport.{rule_rejections}
-use Rattle.gs_tables.proofs.KeptRows.{placed, row_at}
+use Rattle.gs_tables.proofs.KeptRows.{placed, row_at, none_listed}
 use Rattle.gs_tables.proofs.SetLemmas.{sound}
 
 no_rejections : (document : Document) → row_rejections document ≡ [] → level_rejections document.ais document.kinds Binary document.binary ≡ []
@@ -30,10 +30,6 @@ unfolding row_rejections
 no_rejections document none =
     let rows = none_behind (limit_rejections document) (map Ai (table_errors document.ais) ++ rule_rejections document.ais document.kinds document.binary document.tag document.pure) none in
     (sound document.ais document.kinds document.binary document.tag document.pure (none_behind (map Ai (table_errors document.ais)) (rule_rejections document.ais document.kinds document.binary document.tag document.pure) rows)).binary_kept
-
-none_listed : {X Y : Type 0} (f : X → Y) (o : Option X) → option_to_list (option_map f o) ≡ [] → o ≡ None
-none_listed f None h = refl
-none_listed f (Some x) h = absurd (let g : f x ∷ [] ≡ [] = h in cc)
 
 not_again : (ais : List AiRow) (kinds : List KindRow) (rows : List OptionRow) (j : ℕ) (row : OptionRow) → option_rejections ais kinds Binary rows (j, row) ≡ [] → position (λ other. is_same other row) (take j rows) ≡ None
 unfolding option_rejections

@@ -7,8 +7,7 @@ use Rattle.std.proofs.lemmas.List.Elements.{All-head, All-tail}
 use Rattle.gs_ai.specs.Tables.{is_empty}
 use Rattle.gs_chars.specs.Escapes.{hex_digit, hex_value}
 use Rattle.gs_chars.proofs.TruthsAndLists.{and_first, and_parts, and_true, equal_bytes, false_from_not, or_true, same_bytes}
-use Rattle.gs_bits.specs.Bits.{AreBits, bits_of, number_of}
-use Rattle.gs_bits.specs.BitLaws.{number_of-bits_of}
+use Rattle.gs_bits.specs.Bits.{AreBits, number_of}
 use Rattle.gs_bits.specs.HexText.{bits_of_hex, hex_of_bits, is_hex_digit}
 use Rattle.gs_grammar.specs.declared.item.Item.{Item}
 use Rattle.gs_grammar.specs.Derivations.{EachWord, no_item, one_item}
@@ -37,6 +36,7 @@ use Rattle.gs_membank.proofs.ControlLemmas.{word_length}
 use Rattle.gs_membank.proofs.FieldsAgain.{nothing_left_out, values_again}
 use Rattle.gs_membank.proofs.FullWords.{InBounds, full_words, words_held}
 use Rattle.gs_membank.proofs.OneOption.{one_option}
+use Rattle.gs_bits.proofs.HexBits.{hex_of_four}
 
 -- ---- digits in upper case
 
@@ -46,10 +46,6 @@ record IsUpper (c : ℕ) : Type 0 where
 
 digit_again : (c : ℕ) → is_hex_digit c ≡ true → IsUpper c
 digit_again c h = record { small = grind (arith, nat_tests); digit = grind (arith, nat_tests) }
-
-hex_of_four : (v : ℕ) (bits : List ℕ) → hex_of_bits (bits_of 4 v ++ bits) ≡ hex_digit (v % 16) ∷ hex_of_bits bits
-unfolding bits_of
-hex_of_four v bits = ap (λ k. hex_digit k ∷ hex_of_bits bits) (number_of-bits_of 4 v)
 
 upper_again : (text : List ℕ) → AllPass is_hex_digit text → hex_of_bits (bits_of_hex text) ≡ map to_ascii_uppercase text
 upper_again [] all = refl

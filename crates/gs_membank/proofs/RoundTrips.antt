@@ -23,6 +23,7 @@ use Rattle.gs_membank.proofs.ControlLemmas.{word_length}
 use Rattle.gs_membank.proofs.DumpLaws.{bit_same}
 use Rattle.gs_membank.proofs.DumpTexts.{hex_joined, hex_length}
 use Rattle.gs_membank.proofs.FilterLemmas.{names_encoding, same_in_bits, same_in_tags}
+use Rattle.gs_chars.proofs.Spellings.{digit_reads}
 
 -- ---- the digits of a control word
 
@@ -72,9 +73,6 @@ dump_back set dump text loaded of has attributes w =
     )
 
 -- ---- a line that is shown
-
-digit_reads : (n : ℕ) → n < 16 → hex_value (hex_digit n) ≡ Some n
-digit_reads n small = grind arith
 
 pub shown_back : (set : TableRows) (dump : Dump) (text : List ℕ) → IsLoaded set → IsOfSet set dump.epc → HasFilter dump.epc.filter → dump.attributes < 256 → ShownDump set dump text → IsShown set text dump
 shown_back set dump text loaded of has attributes w =

@@ -12,7 +12,7 @@ use Rattle.std.specs.Str.{bytes_eq}
 use Rattle.std.proofs.lemmas.List.{append-nil, append_assoc, map-append}
 use Rattle.std.proofs.lemmas.List.Elements.{filter-append}
 use Rattle.std.proofs.lemmas.List.Folds.{list_all-append}
-use Rattle.gs_chars.proofs.TruthsAndLists.{equal_bytes, same_bytes}
+use Rattle.gs_chars.proofs.TruthsAndLists.{equal_bytes, same_bytes, take_next}
 use Rattle.gs_linkset.specs.LinkShapes.{is_target}
 use Rattle.gs_linkset.specs.WrittenTrees.{target_text}
 use Rattle.gs_linkset.specs.declared.link_types.Relation.{Relation}
@@ -20,7 +20,6 @@ use Rattle.gs_linkset.specs.declared.link_types.Context.{Context}
 use Rattle.gs_linkset.specs.declared.link_types.Target.{Target}
 use Rattle.gs_links.specs.Shapes.{is_link}
 use Rattle.gs_links.specs.declared.link.Link.{Link}
-use Rattle.gs_linkset.proofs.ReadLemmas.{take_next}
 use Rattle.gs_links.proofs.RunLemmas.{equal_swapped}
 use Rattle.gs_merge.specs.Distinct.{distinct, is_same_target}
 use Rattle.gs_merge.specs.Groups.{AreGroups, AreTextsOf, entry_seen, found_at, group_at, grouped, groups_of, key_of, some_group, with_target}

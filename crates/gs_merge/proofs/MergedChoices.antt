@@ -8,7 +8,7 @@ use Rattle.std.proofs.lemmas.List.Elements.{All-append, All-head, All-tail}
 use Rattle.std.proofs.lemmas.List.Folds.{list_any-append}
 use Rattle.gs_ai.specs.Tables.{KeepsRules}
 use Rattle.gs_ai.specs.declared.row.AiRow.{AiRow}
-use Rattle.gs_chars.proofs.TruthsAndLists.{and_first, and_second, and_true, equal_bytes, or_parts, or_true, same_bytes}
+use Rattle.gs_chars.proofs.TruthsAndLists.{and_first, and_second, and_true, equal_bytes, or_parts, or_true, same_bytes, one_truth}
 use Rattle.gs_ident.specs.Elements.{Elements}
 use Rattle.gs_linkset.specs.declared.link_types.Target.{Target}
 use Rattle.gs_links.specs.Choices.{chosen_depth, depth_of, is_candidate, is_chosen, is_prefix, numbers_from}
@@ -25,7 +25,7 @@ use Rattle.gs_merge.specs.Stores.{IsOfRelation, IsStore, chosen_targets, larger_
 use Rattle.gs_merge.proofs.DistinctLemmas.{has_some, some_distinct}
 use Rattle.gs_merge.proofs.KeptLinks.{IsKept, store_kept}
 use Rattle.gs_merge.proofs.MergedStores.{all_kept, merged_has}
-use Rattle.gs_merge.proofs.SameTargets.{one_truth, target_itself, target_one}
+use Rattle.gs_merge.proofs.SameTargets.{target_itself, target_one}
 use Rattle.gs_merge.proofs.TargetsAt.{targets_are}
 
 -- ---- the links of chosen numbers

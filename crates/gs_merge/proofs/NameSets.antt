@@ -9,12 +9,11 @@ use Rattle.std.specs.Ordering.{is_eq, is_lt, nat_cmp, ordering_reverse}
 use Rattle.std.specs.Str.{bytes_eq}
 use Rattle.std.proofs.lemmas.Cmp.{nat_list_cmp_total, tied_itself}
 use Rattle.std.proofs.lemmas.Map.Lookups.{exact_bytes}
-use Rattle.gs_chars.proofs.TruthsAndLists.{and_true, equal_bytes, false_from, or_false, same_bytes}
+use Rattle.gs_chars.proofs.TruthsAndLists.{and_true, equal_bytes, false_from, or_false, same_bytes, one_truth}
 use Rattle.gs_linkset.specs.LinkShapes.{ascend, is_below_first}
 use Rattle.gs_linkset.proofs.NameSets.{Ascend, IsBelow, ascend_put, below_trans, has, has_put}
 use Rattle.gs_links.proofs.RunLemmas.{equal_swapped}
 use Rattle.gs_merge.specs.MergedDocuments.{ascending}
-use Rattle.gs_merge.proofs.SameTargets.{one_truth}
 
 equal_from : (o : Ordering) → is_eq o ≡ true → o ≡ Equal
 equal_from Less h = absurd (cc)

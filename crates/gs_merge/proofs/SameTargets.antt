@@ -1,9 +1,9 @@
 -- Targets that are the same are equal, and have one text.
-use Rattle.std.proofs.Common.{◌≡◌, ℕ, Bool, true, false, List, [], ◌∷◌, refl, sym, ap, ◌∙◌}
+use Rattle.std.proofs.Common.{◌≡◌, ℕ, Bool, true, List, [], ◌∷◌, refl, ap, ◌∙◌}
 use Rattle.std.specs.Cmp.Lexicographic.{pointwise}
 use Rattle.std.specs.List.{list_all, list_any}
 use Rattle.std.specs.Str.{bytes_eq}
-use Rattle.gs_chars.proofs.TruthsAndLists.{and_first, and_second, and_true, equal_bytes, same_bytes}
+use Rattle.gs_chars.proofs.TruthsAndLists.{and_first, and_second, and_true, equal_bytes, same_bytes, one_truth}
 use Rattle.gs_linkset.specs.LinkShapes.{is_target}
 use Rattle.gs_linkset.specs.WrittenTrees.{target_text}
 use Rattle.gs_linkset.specs.declared.link_types.Attr.{Attr}
@@ -71,12 +71,6 @@ target_one a b h =
     let href = equal_bytes a.href b.href (and_first (bytes_eq a.href b.href) (pointwise is_same_attr a.attrs b.attrs) h) in
     let attrs = all_one is_same_attr attr_one a.attrs b.attrs (and_second (bytes_eq a.href b.href) (pointwise is_same_attr a.attrs b.attrs) h) in
     ap (λ t. record { href = t; attrs = a.attrs }) href ∙ ap (λ t. record { href = b.href; attrs = t }) attrs
-
--- two truth values that imply each other are equal
-pub one_truth : (a b : Bool) → (a ≡ true → b ≡ true) → (b ≡ true → a ≡ true) → a ≡ b
-one_truth true b f g = sym (f refl)
-one_truth false true f g = g refl
-one_truth false false f g = refl
 
 -- targets of the shape are the same if their texts are
 pub same_text : (a b : Target) → is_target a ≡ true → is_target b ≡ true → bytes_eq (target_text a) (target_text b) ≡ is_same_target a b

@@ -3,19 +3,13 @@ use Rattle.std.proofs.Common.{◌≡◌, ℕ, zero, suc, ◌+◌, ◌-◌, ◌<�
 use Rattle.std.specs.List.{list_all}
 use Rattle.std.specs.Option.{IfSome}
 use Rattle.std.proofs.lemmas.Bool.Decides.{nat_tests}
-use Rattle.gs_chars.proofs.TruthsAndLists.{and_first, and_second, and_true, equal_bytes, true_or_false}
+use Rattle.gs_chars.proofs.TruthsAndLists.{and_first, and_second, and_true, equal_bytes, true_or_false, few_taken, one_truth as same_test}
 use Rattle.gs_chars.specs.Characters.{are_digits}
 use Rattle.gs_prefix.specs.declared.entry.PrefixEntry.{PrefixEntry}
 use Rattle.gs_prefix.specs.Lengths.{begins, beginning, has_prefix, is_longest, is_prefix, longest_entry, length_of_longest}
 use Rattle.gs_prefix.specs.LengthsSupport.{is_entry}
 
 -- ---- tests
-
-same_test : (a b : Bool) → (a ≡ true → b ≡ true) → (b ≡ true → a ≡ true) → a ≡ b
-same_test true true f g = refl
-same_test true false f g = sym (f refl)
-same_test false true f g = g refl
-same_test false false f g = refl
 
 -- ---- members of a list
 
@@ -89,11 +83,6 @@ length_take : {X : Type 0} (n : ℕ) (xs : List X) → n ≤ length xs → lengt
 length_take zero xs h = refl
 length_take (suc n) [] h = absurd (omega arith)
 length_take (suc n) (x ∷ xs) h = ap suc (length_take n xs (omega arith))
-
-few_taken : {X : Type 0} (n : ℕ) (xs : List X) → length (take n xs) ≤ length xs
-few_taken zero xs = omega arith
-few_taken (suc n) [] = omega arith
-few_taken (suc n) (x ∷ xs) = omega (arith, few_taken n xs)
 
 -- a fact of an entry with which digits begin
 record Begins (digits : List ℕ) (entry : PrefixEntry) : Type 0 where

@@ -25,9 +25,9 @@ use Rattle.gs_prefix.specs.Documents.{array_errors, entries_errors, entries_of, 
 use Rattle.gs_prefix.specs.Lengths.{has_prefix, is_prefix}
 use Rattle.gs_prefix.specs.LengthsSupport.{is_entry}
 use Rattle.gs_prefix.specs.Rules.{entry_rejections, rejections, rejections_at}
-use Rattle.gs_prefix.proofs.FirstRejections.{all_rows, first_behind, first_in_front, nothing_in_front, one_more, split_at, take_next}
+use Rattle.gs_prefix.proofs.FirstRejections.{all_rows, first_behind, first_in_front, nothing_in_front, one_more, split_at}
 use Rattle.gs_chars.proofs.ErrorAnswers.{no_error}
-use Rattle.gs_chars.proofs.TruthsAndLists.{and_first, and_second, true_or_false}
+use Rattle.gs_chars.proofs.TruthsAndLists.{and_first, and_second, true_or_false, take_next}
 
 -- ---- one entry
 

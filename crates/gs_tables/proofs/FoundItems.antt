@@ -47,7 +47,7 @@ there_same (Some y ∷ xs) (suc i) x at none = let next : suc i + 1 ≡ suc (i +
 
 -- ---- two items of a field
 
-field_itself : (field : Field) → is_field field (Some field) ≡ true
+pub field_itself : (field : Field) → is_field field (Some field) ≡ true
 field_itself Filter = refl
 field_itself Gcp = refl
 field_itself Rest = refl

@@ -128,7 +128,7 @@ pub record KeptRow (ais : List AiRow) (kinds : List KindRow) (level : LevelName)
   pub formed : form_at ais kind.key ≡ Some form
   pub fields : KeptFields ais kind row.gcp (items_there row) form
 
-none_first : {X : Type 0} (test : X → Bool) (x : X) (xs : List X) → test x ≡ false → position test xs ≡ None → position test (x ∷ xs) ≡ None
+pub none_first : {X : Type 0} (test : X → Bool) (x : X) (xs : List X) → test x ≡ false → position test xs ≡ None → position test (x ∷ xs) ≡ None
 none_first test x xs first rest = rw (position-cons test x xs, first, rest) refl
 
 none_bad : (bits : Bool) (xs : List (Option FieldItem)) → position (is_bad_item bits) xs ≡ None → position (is_bad bits) (map (λ (i : FieldItem). i.1) (flat_map option_to_list xs)) ≡ None

@@ -2,7 +2,7 @@
 use Rattle.std.proofs.Common.{◌≡◌, ℕ, suc, ◌+◌, not, Bool, true, false, List, [], ◌∷◌, map, position, Option, Some, None, is_some, slice_get, refl, arith, inl, inr}
 use Rattle.std.specs.Prelude.{Result, Ok, Err, IfOk}
 use Rattle.std.specs.List.{list_all}
-use Rattle.gs_chars.proofs.TruthsAndLists.{and_first, and_second, and_true, nil_parts, none_behind}
+use Rattle.gs_chars.proofs.TruthsAndLists.{and_first, and_second, and_true, nil_parts, none_behind, map_none}
 use Rattle.gs_chars.specs.Answers.{error_if}
 use Rattle.gs_ai.specs.declared.part.Part.{Part}
 use Rattle.gs_ai.specs.declared.part.Part.TheVariants as part
@@ -82,10 +82,6 @@ known_options ais kinds level rows none =
     known_option ais kinds level rows i row (rw zero_plus at here))
 
 -- ---- a document
-
-map_none : {X Y : Type 0} (f : X → Y) (xs : List X) → map f xs ≡ [] → xs ≡ []
-map_none f [] h = refl
-map_none f (x ∷ xs) h = absurd (let g : f x ∷ map f xs ≡ [] = h in cc)
 
 known_document : (document : Document) → rejections document ≡ [] → IsKnown document
 unfolding rejections row_rejections

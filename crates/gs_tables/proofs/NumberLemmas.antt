@@ -1,5 +1,5 @@
 -- The numbers of the options of a kind and prefix length.
-use Rattle.std.proofs.Common.{◌≡◌, ℕ, zero, suc, ◌+◌, ◌<◌, ◌≤◌, ◌==◌, ◌&&◌, Bool, true, false, List, [], ◌∷◌, ◌++◌, length, map, position, Option, Some, None, slice_get, option_map, unwrap_or, refl, sym, ap, subst, ◌∙◌, arith}
+use Rattle.std.proofs.Common.{◌≡◌, ℕ, zero, suc, ◌+◌, ◌<◌, ◌≤◌, ◌==◌, ◌&&◌, Bool, true, false, List, [], ◌∷◌, ◌++◌, length, map, position, Option, Some, None, slice_get, unwrap_or, refl, sym, ap, subst, ◌∙◌, arith}
 use Rattle.std.proofs.lemmas.Bool.Decides.{nat_tests}
 use Rattle.std.proofs.lemmas.Option.{slice_get-map, slice_get_within}
 use Rattle.gs_ai.specs.declared.row.AiRow.{AiRow}
@@ -12,6 +12,7 @@ use Rattle.gs_tables.specs.NumbersSupport.{AreNumbered, AreWithin}
 use Rattle.gs_tables.specs.Rules.{has_name}
 use Rattle.gs_tables.specs.Tables.{info_of, items_there, level_rejections}
 use Rattle.gs_tables.proofs.KeptRows.{gcp_kept, placed, row_at}
+use Rattle.gs_chars.proofs.TruthsAndLists.{mapped_some as mapped}
 
 -- ---- one list more
 
@@ -52,10 +53,6 @@ pub at_places : (infos : List OptInfo) (kinds : List (List (List ℕ))) (kind gc
 at_places infos kinds kind gcp lists numbers are at_kind at_length = (are.numbers kind lists at_kind).lengths gcp numbers at_length
 
 -- ---- the rows of a level
-
-mapped : {X Y : Type 0} (f : X → Y) (o : Option X) (y : Y) → option_map f o ≡ Some y → (x : X) × (o ≡ Some x) × (f x ≡ y)
-mapped f None y e = absurd (let g : None ≡ Some y = e in cc)
-mapped f (Some x) y e = (x, refl, cc)
 
 pub rows_within : (ais : List AiRow) (kinds : List KindRow) (level : LevelName) (rows : List OptionRow) (infos : List OptInfo) → level_rejections ais kinds level rows ≡ [] → infos ≡ map (info_of kinds) rows → AreWithin infos (length kinds)
 rows_within ais kinds level rows infos none made i info at =

@@ -133,7 +133,7 @@ impl Field {
 }
 
 /// A level of a table set: a form in which the tags and EPC URIs of all kinds are written (TDT 2.0, section 3).
-#[derive(Clone, Copy, Debug)]
+#[derive(Clone, Copy, Debug, PartialEq)]
 pub enum LevelName {
     /// The bits of a tag.
     Binary,

@@ -5,7 +5,7 @@ use gs_json::JsonFault;
 use thiserror::Error;
 
 /// A quantity that is limited.
-#[derive(Clone, Copy, Debug)]
+#[derive(Clone, Copy, Debug, PartialEq)]
 pub enum LimitName {
     /// Rows of application identifiers, at most `MOST_ROWS`.
     Ais,

@@ -24,6 +24,7 @@ use Rattle.gs_tables_migration.proofs.SecondTrees.{second_document, second_error
 use Rattle.gs_tables_migration.proofs.SortedTrees.{AreSorted, HaveSorted, IsSorted, sorted_member, sorted_put, sorted_read}
 use Rattle.gs_tables_migration.proofs.WholeDocuments.{document_whole}
 use Rattle.gs_tables_migration.proofs.WholeMembers.{some_error}
+use Rattle.gs_json.proofs.PutMembers.{depth_put as deep_put}
 
 -- ---- the rows of the second version
 
@@ -95,17 +96,6 @@ sorted_by (array ds) false first h = h
 sorted_by (object ms) false first h = rw first (sorted_object ms h)
 
 -- ---- the tree is as deep
-
-deep_by : (o : Ordering) (n : ℕ) (k l : List ℕ) (d e : Data) (ms : Members) → depth d ≤ n → members_depth (member l e ms) ≤ n → members_depth (put k d ms) ≤ n → members_depth (match_ordering o (member k d (member l e ms)) (member l d ms) (member l e (put k d ms))) ≤ n
-deep_by Less n k l d e ms own all more = omega arith
-deep_by Equal n k l d e ms own all more = omega arith
-deep_by Greater n k l d e ms own all more = omega arith
-
-deep_put : (n : ℕ) (k : List ℕ) (d : Data) (ms : Members) → depth d ≤ n → members_depth ms ≤ n → members_depth (put k d ms) ≤ n
-deep_put n k d no_members own all = omega arith
-deep_put n k d (member l e ms) own all =
-    let rest : members_depth ms ≤ n = omega arith in
-    deep_by (slice_cmp nat_cmp k l) n k l d e ms own all (deep_put n k d ms own rest)
 
 deep_or : (o : Ordering) (n : ℕ) (d e : Data) (rest : Option Data) → depth e ≤ n → (rest ≡ Some d → depth d ≤ n) → match_ordering o rest (Some e) rest ≡ Some d → depth d ≤ n
 deep_or Less n d e rest own more is = more is

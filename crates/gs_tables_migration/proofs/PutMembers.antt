@@ -9,7 +9,7 @@ use Rattle.std.proofs.lemmas.Map.Text.{is_eq-slice_cmp}
 use Rattle.serde_json.specs.Data.{Data, Members, no_members, member, put}
 use Rattle.serde_json.specs.Find.{get_member}
 use Rattle.serde_json.proofs.Views.{get_member-put, get_member-put_other}
-use Rattle.gs_chars.proofs.TruthsAndLists.{equal_bytes, nil_parts, none_of_both, or_parts, same_bytes}
+use Rattle.gs_chars.proofs.TruthsAndLists.{equal_bytes, nil_parts, none_of_both, or_parts, same_bytes, map_none}
 use Rattle.gs_json.specs.Answers.{names_of_members}
 use Rattle.gs_json.specs.Places.{item_place, member_place}
 use Rattle.gs_json.specs.Shapes.{entry_errors, is_named, members_errors, sort_errors, unknown_among, unknown_errors}
@@ -70,10 +70,6 @@ module _ (plan : List Entry) (entry : Entry) where
 -- the errors of the value that is put at a name, by the entry of that name
 abbrev pub put_errors : List ℕ → List ℕ → Data → Entry → List JsonFault
 put_errors place k d entry = if bytes_eq entry.name k then sort_errors (member_place place entry.name) entry.sort d else []
-
-map_none : {X Y : Type 0} (f : X → Y) (xs : List X) → map f xs ≡ [] → xs ≡ []
-map_none f [] h = refl
-map_none f (x ∷ xs) h = absurd (let g : f x ∷ map f xs ≡ [] = h in cc)
 
 flat_more : {X Y : Type 0} (f : X → List Y) (xs : List X) (x : X) → flat_map f xs ≡ [] → f x ≡ [] → flat_map f (xs ++ x ∷ []) ≡ []
 flat_more f [] x none own = none_of_both (f x) [] own refl

@@ -1,8 +1,7 @@
 -- Trees whose objects have each name once, in ascending order. Each tree that is read from a text is one.
-use Rattle.std.proofs.Common.{◌≡◌, ℕ, List, [], ◌∷◌, Option, Some, None, option_map, option_and_then, Ordering, Less, Equal, Greater, ap, ◌∙◌, refl, subst, ◌⊎◌, inl, inr}
+use Rattle.std.proofs.Common.{◌≡◌, ℕ, List, Option, Some, None, option_map, option_and_then, Ordering, Less, Equal, Greater, ap, ◌∙◌, refl, subst, ◌⊎◌, inl, inr}
 use Rattle.std.specs.Prelude.{⊤}
 use Rattle.std.specs.Cmp.Lexicographic.{slice_cmp}
-use Rattle.std.specs.List.{AllByRecursion}
 use Rattle.std.specs.Ordering.{match_ordering, nat_cmp, ordering_reverse}
 use Rattle.std.proofs.lemmas.Cmp.{nat_list_cmp_total, tied_itself}
 use Rattle.json.specs.Json as json
@@ -11,10 +10,7 @@ use Rattle.serde_json.specs.Data.{Num, Data, null, boolean, number, string, arra
 use Rattle.serde_json.specs.Find.{get_member}
 use Rattle.serde_json.specs.Read.{number_of, of_items, of_json, of_members, max_depth, read}
 use Rattle.gs_json.specs.Answers.{names_of_members}
-
--- a name is below all names of the members
-abbrev pub IsBelowAll : List ℕ → Members → Type 0
-IsBelowAll k ms = AllByRecursion (λ l. slice_cmp nat_cmp k l ≡ Less) (names_of_members ms)
+use Rattle.gs_json.proofs.PutMembers.{IsBelowAll, below_put, below_trans}
 
 abbrev mutual
   pub IsSorted : Data → Type 0
@@ -34,19 +30,6 @@ abbrev mutual
   HaveSorted (member k d ms) = IsSorted d × IsBelowAll k ms × HaveSorted ms
 
 -- ---- a member more
-
-below_trans : (k l : List ℕ) (names : List (List ℕ)) → slice_cmp nat_cmp k l ≡ Less → AllByRecursion (λ m. slice_cmp nat_cmp l m ≡ Less) names → AllByRecursion (λ m. slice_cmp nat_cmp k m ≡ Less) names
-below_trans k l [] less all = tt
-below_trans k l (m ∷ names) less all = (nat_list_cmp_total.trans k l m less all.0, below_trans k l names less all.1)
-
-below_by : (o : Ordering) (l k m : List ℕ) (d e : Data) (ms : Members) → slice_cmp nat_cmp l k ≡ Less → IsBelowAll l (member m e ms) → IsBelowAll l (put k d ms) → IsBelowAll l (match_ordering o (member k d (member m e ms)) (member m d ms) (member m e (put k d ms)))
-below_by Less l k m d e ms own all more = (own, all)
-below_by Equal l k m d e ms own all more = all
-below_by Greater l k m d e ms own all more = (all.0, more)
-
-below_put : (l k : List ℕ) (d : Data) (ms : Members) → slice_cmp nat_cmp l k ≡ Less → IsBelowAll l ms → IsBelowAll l (put k d ms)
-below_put l k d no_members own all = (own, tt)
-below_put l k d (member m e ms) own all = below_by (slice_cmp nat_cmp k m) l k m d e ms own all (below_put l k d ms own all.1)
 
 sorted_by : (o : Ordering) (k l : List ℕ) (d e : Data) (ms : Members) → slice_cmp nat_cmp k l ≡ o → IsSorted d → HaveSorted (member l e ms) → HaveSorted (put k d ms) → HaveSorted (match_ordering o (member k d (member l e ms)) (member l d ms) (member l e (put k d ms)))
 sorted_by Less k l d e ms is own all more = (own, (is, below_trans k l (names_of_members ms) is all.1), all)

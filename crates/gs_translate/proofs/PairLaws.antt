@@ -1,7 +1,7 @@
 -- The meaning of element strings and links: one thing, by tables that satisfy their rules.
-use Rattle.std.proofs.Common.{◌≡◌, ◌⊎◌, inl, inr, ℕ, List, [], ◌∷◌, map, refl, sym, ◌∙◌, ap, arith}
+use Rattle.std.proofs.Common.{◌≡◌, ◌⊎◌, inl, inr, ℕ, List, [], refl, sym, ◌∙◌, ap, arith}
 use Rattle.std.specs.Prelude.{◌≢◌, Some, None, Result, Ok, Err, MatchResult}
-use Rattle.gs_chars.proofs.TruthsAndLists.{none_behind, none_in_front}
+use Rattle.gs_chars.proofs.TruthsAndLists.{none_behind, none_in_front, map_none as none_mapped}
 use Rattle.gs_ai.specs.declared.errors.ElementFault.{ElementFault}
 use Rattle.gs_ai.specs.declared.pair.Pair.{Pair}
 use Rattle.gs_ai.specs.Tables.{KeepsRules, table_errors}
@@ -31,10 +31,6 @@ use Rattle.gs_translate.specs.StepsSupport.{HasOne, HasSome}
 use Rattle.gs_translate.proofs.StepLaws.{then_one, then_some}
 
 -- ---- the application identifiers of a set satisfy their rules
-
-none_mapped : {X Y : Type 0} (f : X → Y) (xs : List X) → map f xs ≡ [] → xs ≡ []
-none_mapped f [] e = refl
-none_mapped f (x ∷ xs) e = absurd (let g : f x ∷ map f xs ≡ [] = e in cc)
 
 no_errors : (document : Document) → row_rejections document ≡ [] → table_errors document.ais ≡ []
 unfolding row_rejections

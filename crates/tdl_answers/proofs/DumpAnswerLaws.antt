@@ -22,7 +22,7 @@ use Rattle.gs_membank.specs.declared.error.DumpWriteFault.TheVariants as writing
 use Rattle.gs_membank.specs.Answers.{ReadsDump, ReadsShown, ShowsDump, WritesDump, of_writing, word_of}
 use Rattle.gs_membank.specs.Banks.{bit_of, control_bits}
 use Rattle.gs_membank.specs.ShownLines.{IsShownStart, shown_line}
-use Rattle.gs_membank.proofs.DumpLaws.{one_epc}
+use Rattle.gs_membank.proofs.DumpLaws.{one_epc, equal_dumps as same_dump}
 use Rattle.gs_membank.proofs.OneDump.{SomeKnown, some_dump}
 use Rattle.gs_membank.proofs.RoundTrips.{one_start}
 use Rattle.gs_membank.proofs.WriteLemmas.{dump_written, too_long as dump_too_long}
@@ -170,9 +170,6 @@ some_dump_by set text loaded few =
 
 abbrev dump_by : Bool → ℕ → Epc → Dump
 dump_by user attributes epc = record { user = user; attributes = attributes; epc = epc }
-
-same_dump : (u v : Bool) (a b : ℕ) (e f : Epc) → u ≡ v → a ≡ b → e ≡ f → dump_by u a e ≡ dump_by v b f
-same_dump u v a b e f p q r = rw (p, q, r) refl
 
 pub one_line_dump : (set : TableRows) (text : List ℕ) (one other : Result Dump DumpLineFault) → one ≢ Err line.Memory → other ≢ Err line.Memory → ReadsShown set text one → ReadsShown set text other → one ≡ other
 one_line_dump set text (Ok dump) (Ok other) t u a b =

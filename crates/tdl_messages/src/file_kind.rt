@@ -2,7 +2,7 @@ ghost use Rattle.std.specs.Prelude.{◌≡◌};
 ghost use Rattle.tdl_messages.specs.Rejections.{file_limit, file_word};
 
 /// A kind of file that the words may name.
-#[derive(Clone, Copy, Debug)]
+#[derive(Clone, Copy, Debug, PartialEq)]
 pub enum FileKind {
     /// The tables.
     Tables,

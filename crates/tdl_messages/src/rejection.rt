@@ -38,7 +38,7 @@ pub enum FileFault {
 }
 
 /// A file that is rejected.
-#[derive(Debug, Drop)]
+#[derive(Debug, PartialEq, Drop)]
 pub struct Rejection {
     /// The kind of the file.
     pub kind: FileKind,

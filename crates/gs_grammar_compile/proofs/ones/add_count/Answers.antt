@@ -1,5 +1,5 @@
 use Rattle.std.proofs.Common.{◌≡◌, ◌^◌, rules, arith}
-use Rattle.gs_grammar_compile.proofs.AddedOnes.{small_power}
+use Rattle.gs_grammar.proofs.Ones.{power_small as small_power}
 use Rattle.gs_grammar_compile.proofs.ones.add_count.Goals as goal
 
 pub overflow_mul-power : goal.overflow_mul-power

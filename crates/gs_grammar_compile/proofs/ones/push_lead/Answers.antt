@@ -1,5 +1,5 @@
 use Rattle.std.proofs.Common.{◌≡◌, ◌^◌, rules, arith}
-use Rattle.gs_grammar_compile.proofs.AddedOnes.{small_power}
+use Rattle.gs_grammar.proofs.Ones.{power_small as small_power}
 use Rattle.gs_grammar_compile.proofs.ones.push_lead.Goals as goal
 
 pub is_highest_of_double-requires-clause-small : goal.is_highest_of_double-requires-clause-small

@@ -1,7 +1,8 @@
 use Rattle.std.proofs.Common.{sym}
 use Rattle.gs_linkset.specs.LinkShapes.{is_tagged_text}
 use Rattle.gs_linktext.specs.Links.{tagged_text}
-use Rattle.gs_linktext.proofs.FilterLemmas.{all_more, taken_none, taken_some}
+use Rattle.gs_linktext.proofs.FilterLemmas.{taken_none, taken_some}
+use Rattle.gs_linkset.proofs.ReadLemmas.{all_more}
 use Rattle.gs_linktext.proofs.attrs.tagged_texts.Goals as goal
 
 pub loop-value-preserved-in_default : goal.loop-value-preserved-in_default
