@@ -17,8 +17,8 @@ use Rattle.gs_epc.specs.declared.error.EpcWriteFault.{EpcWriteFault}
 use Rattle.gs_epc.specs.declared.error.EpcWriteFault.TheVariants as write
 use Rattle.gs_epc.specs.Candidates.{Candidate, left_out, values_for}
 use Rattle.gs_epc.specs.Epcs.{options_of}
-use Rattle.gs_epc.specs.Writes.{LastRejects, Rejects, Writes, WritesAs, field_at, text_on}
-use Rattle.gs_translate.specs.Steps.{Reworded, UnlessMemory}
+use Rattle.gs_epc.specs.Writes.{AppendsAs, LastRejects, Rejects, Writes, WritesAs, field_at, text_on}
+use Rattle.gs_translate.specs.Steps.{AppendsText, Reworded, UnlessMemory}
 use Rattle.gs_translate.specs.StepsSupport.{HasOne}
 use Rattle.gs_translate.specs.Translations.{write_reason}
 use Rattle.gs_translate.proofs.StepLaws.{gives_err, one_reworded}
@@ -135,8 +135,9 @@ module _ (set : TableRows) (level : LevelName) (epc : Epc) where
   pub one_written : HasOne (Reworded write.Memory write_reason (WritesAs set level epc))
   one_written = one_reworded write.Memory write_reason (WritesAs set level epc) writes_one
 
--- why nothing is written is why there is no spelling
-pub written_none : (set : TableRows) (level : LevelName) (epc : Epc) (error : EpcWriteFault) → WritesAs set level epc (Err error) → UnlessMemory {X = List ℕ} (Err (write_reason error)) (Reworded write.Memory write_reason (WritesAs set level epc) (Err (write_reason error)))
-written_none set level epc write.NoOption w = gives_err write.Memory write_reason (WritesAs set level epc) write.NoOption (λ e. cc) w
-written_none set level epc (write.CannotHold field why) w = gives_err write.Memory write_reason (WritesAs set level epc) (write.CannotHold field why) (λ e. cc) w
-written_none set level epc write.Memory w = tt
+-- why nothing is appended is why there is no spelling
+pub appended_none : (set : TableRows) (level : LevelName) (epc : Epc) (before now : List ℕ) (error : EpcWriteFault) → AppendsAs set level epc before now (Err error)
+    → UnlessMemory {X = Unit {0}} (Err (write_reason error)) (AppendsText {Done = Unit {0}} (Reworded write.Memory write_reason (WritesAs set level epc)) before now (Err (write_reason error)))
+appended_none set level epc before now write.NoOption a = (a.0, gives_err write.Memory write_reason (WritesAs set level epc) write.NoOption (λ e. cc) a.1)
+appended_none set level epc before now (write.CannotHold field why) a = (a.0, gives_err write.Memory write_reason (WritesAs set level epc) (write.CannotHold field why) (λ e. cc) a.1)
+appended_none set level epc before now write.Memory a = tt

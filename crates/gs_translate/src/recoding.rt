@@ -11,10 +11,9 @@ ghost use Rattle.gs_translate.specs.Translations.{AreInOrder, IsSpelling, IsTran
 
 use crate::form::{Form, Options, PairsForm, Target, Written};
 use crate::reason::Reason;
-use crate::spelling::{append_pairs, write_epc, written_as};
+use crate::spelling::{append_epc, append_pairs, written_as};
 use crate::tag_fields::retagged;
-use crate::words::append_word;
-use gs_chars::{LONGEST_TEXT, Memory, Text};
+use gs_chars::{LONGEST_TEXT, Memory};
 use gs_epc::{EpcReading, reading_of};
 use gs_tables::{LevelName, TableSet};
 use std::alloc::Global;
@@ -31,24 +30,8 @@ pub(crate) fn form_level(form: Form) -> Option<LevelName>
     }
 }
 
-/// Returns the text of a level for an EPC, with the filter value and the encoding of the options or of the EPC.
-fn write_reading(
-    alloc: Global,
-    set: &TableSet,
-    options: &Options,
-    to: LevelName,
-    reading: &EpcReading<'_>,
-) -> Result<Text, Reason>
-    requires options { FitsFilter options.now.filter }
-    requires given { FitsFilter reading.now.filter }
-    ensures { (identity : Elements) → UnlessMemory result
-        (IsRecoded set.now options.now to reading.now identity result) }
-{
-    let epc = retagged(options, to, reading.epc())?;
-    write_epc(alloc, set, to, &epc)
-}
-
-/// Appends the text of a level for an EPC, or gives the first reason why there is none.
+/// Appends the text of a level for an EPC, with the filter value and the encoding of the options or of the EPC, or gives the first
+/// reason why there is none.
 fn append_recoded(
     alloc: Global,
     set: &TableSet,
@@ -62,8 +45,8 @@ fn append_recoded(
     ensures { (identity : Elements) → UnlessMemory result (AppendsText
         (IsRecoded set.now options.now to reading.now identity) out.old.items out.new.items result) }
 {
-    let text = write_reading(alloc, set, options, to, reading)?;
-    Ok(append_word(out, text.as_bytes())?)
+    let epc = retagged(options, to, reading.epc())?;
+    append_epc(alloc, set, to, &epc, out)
 }
 
 /// Appends the element string or the link of the identity that an EPC names.

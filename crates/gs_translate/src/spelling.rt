@@ -12,45 +12,29 @@ use crate::form::{Options, PairsForm, Target, Written};
 use crate::reader::Meaning;
 use crate::reason::Reason;
 use crate::tag_fields::epc_for;
-use crate::words::append_word;
-use gs_chars::{Memory, Text};
+use gs_chars::Memory;
 use gs_dlink::append_link;
 use gs_element::{append_bracketed, append_raw};
-use gs_epc::{EpcRef, write_lent};
+use gs_epc::{EpcRef, append_lent};
 use gs_ident::{Identity, append_canonical};
 use gs_prefix::PrefixList;
 use gs_tables::{LevelName, TableSet};
 use std::alloc::Global;
 
-/// Returns the text of an EPC in a level, or why there is none.
-pub(crate) fn write_epc(
+/// Appends the text of an EPC in a level, or gives the reason why there is none.
+pub(crate) fn append_epc(
     alloc: Global,
     set: &TableSet,
     level: LevelName,
     epc: &EpcRef<'_>,
-) -> Result<Text, Reason>
+    out: &mut Vec<u8>,
+) -> Result<(), Reason>
     requires { HasFilterOn level epc.now.filter }
-    ensures { UnlessMemory result
-        (Reworded write.Memory write_reason (WritesAs set.now level epc.now) result) }
+    ensures { UnlessMemory result (AppendsText
+        (Reworded write.Memory write_reason (WritesAs set.now level epc.now))
+        out.old.items out.new.items result) }
 {
-    Ok(write_lent(alloc, set, level, epc)?)
-}
-
-/// Returns the text of a level for a meaning, or the first reason why there is none.
-fn write_meaning(
-    alloc: Global,
-    set: &TableSet,
-    prefixes: &PrefixList,
-    options: &Options,
-    level: LevelName,
-    meaning: &Meaning,
-) -> Result<Text, Reason>
-    requires options { FitsFilter options.now.filter }
-    requires meaning { FitsFilter meaning.now.filter }
-    ensures { UnlessMemory result (IsOfLevel set.now prefixes.now options.now level meaning.now result) }
-{
-    let epc = epc_for(alloc, set, prefixes, options, level, meaning)?;
-    write_epc(alloc, set, level, &epc)
+    Ok(append_lent(alloc, set, level, epc, out)?)
 }
 
 /// Appends the text of a level for a meaning, or gives the first reason why there is none.
@@ -68,8 +52,8 @@ fn append_meaning(
     ensures { UnlessMemory result (AppendsText
         (IsOfLevel set.now prefixes.now options.now level meaning.now) out.old.items out.new.items result) }
 {
-    let text = write_meaning(alloc, set, prefixes, options, level, meaning)?;
-    Ok(append_word(out, text.as_bytes())?)
+    let epc = epc_for(alloc, set, prefixes, options, level, meaning)?;
+    append_epc(alloc, set, level, &epc, out)
 }
 
 /// Returns what is written in a requested form.

@@ -1,12 +1,17 @@
-use Rattle.std.proofs.Common.{List, ℕ, refl}
+use Rattle.std.proofs.Common.{refl}
 use Rattle.std.proofs.lemmas.Result.{err_from_is_err_and}
-use Rattle.gs_translate.proofs.StepLaws.{unless_rejected}
+use Rattle.gs_epc.specs.declared.epc.Epc.{Epc}
+use Rattle.gs_translate.specs.Steps.{rejects}
+use Rattle.gs_translate.proofs.StepLaws.{then_appended, unless_rejected}
 use Rattle.gs_translate.proofs.recoding.append_recoded.Goals as goal
 
-pub returns-in_err-text : goal.returns-in_err-text
-returns-in_err-text c = λ identity.
+pub returns-in_err-epc : goal.returns-in_err-epc
+returns-in_err-epc c = λ identity.
     let p = err_from_is_err_and c.from_residual.result c.from_residual.ensures.1 in
-    rw (p.1, p.2) (unless_rejected (List ℕ) (Unit {0}) c.in_err-text.field-0.0 (λ said. (refl, said)) (c.in_err-text.ensures identity))
+    let said = rw c.epc.ensures at (c.in_err-epc.ensures.tagged identity) in
+    rw (p.1, p.2) (unless_rejected Epc (Unit {0}) c.in_err-epc.field-0.0 (λ said. (refl, rejects c.in_err-epc.field-0.0 said refl)) said)
 
 pub returns : goal.returns
-returns c = λ identity. (c.in_ok-text.text, rw c.as_bytes.ensures at c.in_ok-append_word.ensures, c.in_ok-text.ensures identity)
+returns c = λ identity.
+    let said = rw c.epc.ensures at (c.in_ok-epc.ensures.tagged identity) in
+    then_appended _ _ c.in_ok-epc.epc _ _ c.append_epc.result said c.append_epc.ensures
