@@ -70,7 +70,8 @@ fn identity_at(alloc: Global, table: &AiTable, target: &[u8]) -> Result<Identity
         ≡ by_elements templates links ranges identity wish) }
     ensures refused { IfErr result (λ fault. (templates : Bool) (links : List Linked)
         (ranges : List (List ℕ)) (wish : WishOf)
-        → Refuses fault (by_pairs table.now templates links ranges wish (target_answer table.now 0 target.now))) }
+        → Refuses fault
+        (by_pairs table.now templates links ranges wish (target_answer table.now 0 target.now))) }
 {
     let pairs = read_target(alloc, table, target)?;
     Ok(make(alloc, table, pairs)?)
@@ -200,7 +201,8 @@ impl<'q, 'a> Lookup<'q, 'a> {
     /// Returns the answer to go on to a link.
     fn redirect_to(&self, alloc: Global, link: &'a Link) -> Result<Answer<'a>, Memory>
         ensures { IfOk result (λ answer. said answer ≡ redirect
-            (reference_for self.now.resolver.now.settings.templates self.now.identity.now link.now.target.href)) }
+            (reference_for self.now.resolver.now.settings.templates self.now.identity.now
+            link.now.target.href)) }
     {
         let templates = self.resolver.settings().templates;
         let href = link.target.href.as_bytes();
