@@ -9,7 +9,7 @@ ghost use Rattle.gs_class.specs.Sets.{IsOfTable, kind_of};
 use crate::class_set::{Class, ClassSet};
 use crate::error::ClassFault;
 use gs_ai::{AiTable, Pair};
-use gs_chars::{Memory, Text};
+use gs_chars::{CowText, Memory, Text};
 use gs_epc::{place_of, push_checked};
 use gs_grammar_level::{Reading, read_text};
 use gs_ident::Identity;
@@ -17,7 +17,7 @@ use gs_tables::Field;
 use std::alloc::Global;
 
 /// Returns the value of a field, and the empty value if no item has the field.
-fn value_of<'a>(field: Field, fields: &[Option<Field>], values: &'a [Text]) -> &'a [u8]
+fn value_of<'a>(field: Field, fields: &[Option<Field>], values: &'a [CowText<'_>]) -> &'a [u8]
     ensures { result.now ≡ value_of field fields.now values.now }
 {
     match place_of(field, fields) {
@@ -27,7 +27,12 @@ fn value_of<'a>(field: Field, fields: &[Option<Field>], values: &'a [Text]) -> &
 }
 
 /// Returns the digits of the key that the values say, with their check digit.
-fn key_value(alloc: Global, ais: &AiTable, class: &Class, values: &[Text]) -> Result<Text, Memory>
+fn key_value(
+    alloc: Global,
+    ais: &AiTable,
+    class: &Class,
+    values: &[CowText<'_>],
+) -> Result<Text, Memory>
     requires { FitsClass ais.now class.now (said_by class.now values.now) }
     ensures { IfOk result (λ value. value ≡ with_check (key_digits class.now.lead
         (said_by class.now values.now).prefix (said_by class.now values.now).rest)) }
@@ -50,7 +55,7 @@ fn identity_of(
     alloc: Global,
     ais: &AiTable,
     class: &Class,
-    values: &[Text],
+    values: &[CowText<'_>],
 ) -> Result<Identity, Memory>
     requires { FitsClass ais.now class.now (said_by class.now values.now) }
     ensures identity { IfOk result (λ identity. identity

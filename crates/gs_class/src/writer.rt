@@ -10,7 +10,7 @@ ghost use Rattle.gs_class.specs.WrittenSupport.{CanBeWritten, CanWrite, IsQualif
 use crate::class_set::{Class, ClassSet};
 use crate::error::ClassWriteFault;
 use gs_ai::{AiTable, Pair};
-use gs_chars::{Memory, Text};
+use gs_chars::{CowText, Memory, Text};
 use gs_epc::{joined, pair_with, parts_at, prefix_in, rest_in, skip_first};
 use gs_grammar::{Opt, WriteFault, write_text};
 use gs_ident::Identity;
@@ -110,24 +110,28 @@ fn class_fields(
 }
 
 /// Returns the value that an item of the field holds.
-fn value_for(alloc: Global, said: &Said, field: Option<Field>) -> Result<Text, Memory>
-    ensures { IfOk result (λ value. value ≡ value_for (fields_in said.now) field) }
+fn value_for(said: &Said, field: Option<Field>) -> CowText<'_>
+    ensures { result ≡ value_for (fields_in said.now) field }
 {
     match field {
-        Some(Field::Gcp) => said.prefix.copy(alloc),
-        Some(Field::Rest) => said.rest.copy(alloc),
-        Some(Field::Serial) => said.serial.copy(alloc),
-        _ => Ok(Text::new(alloc)),
+        Some(Field::Gcp) => CowText::lent(said.prefix.as_bytes()),
+        Some(Field::Rest) => CowText::lent(said.rest.as_bytes()),
+        Some(Field::Serial) => CowText::lent(said.serial.as_bytes()),
+        _ => CowText::lent(&[]),
     }
 }
 
 /// Returns the value of each item.
-fn values_for(alloc: Global, said: &Said, fields: &[Option<Field>]) -> Result<Vec<Text>, Memory>
+fn values_for<'a>(
+    alloc: Global,
+    said: &'a Said,
+    fields: &[Option<Field>],
+) -> Result<Vec<CowText<'a>>, Memory>
     ensures { IfOk result (λ values. values.items ≡ values_for (fields_in said.now) fields.now) }
 {
     let mut values = Vec::new(alloc);
     for field in fields {
-        values.push(value_for(alloc, said, *field)?)?;
+        values.push(value_for(said, *field))?;
     }
     Ok(values)
 }

@@ -20,4 +20,5 @@ pub mod ReadLaws
 pub mod NumberWalks
 pub mod LaidAgain
 pub mod LaidSets
+pub mod LaidLinks
 pub mod LaidLaws

@@ -5,8 +5,8 @@ ghost use Rattle.gs_tables.specs.Rules.{is_field};
 ghost use Rattle.gs_epc.specs.Candidates.{HasFilter, HasFilterOn, filter_text, is_asked, is_left_out, left_out, value_for};
 
 use crate::epc::EpcRef;
-use crate::layout::push_few;
-use gs_chars::{Memory, Text};
+use crate::key_parts::joined;
+use gs_chars::{CowText, Memory};
 use gs_tables::{Field, LevelName};
 use std::alloc::Global;
 
@@ -46,52 +46,45 @@ fn filter_text(level: LevelName, filter: Option<u8>) -> &'static [u8]
     }
 }
 
-/// Returns a copy of a text that is one byte as a rule, which takes fewer steps so.
-fn few(alloc: Global, bytes: &[u8]) -> Result<Text, Memory>
-    ensures { IfOk result (λ text. text ≡ bytes.now) }
-{
-    let mut text = Text::new(alloc);
-    push_few(&mut text, bytes)?;
-    Ok(text)
-}
-
-/// Returns the rest, joined: its lead digits are one as a rule.
-fn rest_of(alloc: Global, epc: &EpcRef<'_>) -> Result<Text, Memory>
+/// Returns the rest, joined if it has lead digits.
+fn rest_of<'a>(alloc: Global, epc: &EpcRef<'a>) -> Result<CowText<'a>, Memory>
     ensures { IfOk result (λ text. text ≡ epc.now.rest) }
 {
-    let mut text = few(alloc, epc.lead)?;
-    text.extend_from_slice(epc.behind)?;
-    Ok(text)
+    if epc.lead.is_empty() {
+        return Ok(CowText::lent(epc.behind));
+    }
+    Ok(CowText::from(joined(alloc, epc.lead, epc.behind)?))
 }
 
-/// Returns a copy of the value of the items that stand for a field.
-fn value_for(
+/// Returns the value of the items that stand for a field.
+fn value_for<'a>(
     alloc: Global,
-    epc: &EpcRef<'_>,
-    filter: &[u8],
+    epc: &EpcRef<'a>,
+    filter: &'static [u8],
     field: Option<Field>,
-) -> Result<Text, Memory>
+) -> Result<CowText<'a>, Memory>
     ensures { (level : LevelName) → filter.now ≡ filter_text level epc.now.filter
         → IfOk result (λ value. value ≡ value_for level epc.now field) }
 {
-    match field {
-        None => Ok(Text::new(alloc)),
-        Some(Field::Filter) => few(alloc, filter),
-        Some(Field::Gcp) => Text::from_bytes(alloc, epc.prefix),
-        Some(Field::Rest) => rest_of(alloc, epc),
-        Some(Field::Piece) => Text::from_bytes(alloc, epc.piece),
-        Some(Field::Total) => Text::from_bytes(alloc, epc.total),
-        Some(Field::Serial) => Text::from_bytes(alloc, epc.serial),
-    }
+    let text: &[u8] = match field {
+        None => &[],
+        Some(Field::Filter) => filter,
+        Some(Field::Gcp) => epc.prefix,
+        Some(Field::Rest) => return rest_of(alloc, epc),
+        Some(Field::Piece) => epc.piece,
+        Some(Field::Total) => epc.total,
+        Some(Field::Serial) => epc.serial,
+    };
+    Ok(CowText::lent(text))
 }
 
 /// Returns the values of the items that stand for these fields.
-pub(crate) fn values_for(
+pub(crate) fn values_for<'a>(
     alloc: Global,
     level: LevelName,
-    epc: &EpcRef<'_>,
+    epc: &EpcRef<'a>,
     fields: &[Option<Field>],
-) -> Result<Vec<Text>, Memory>
+) -> Result<Vec<CowText<'a>>, Memory>
     requires { HasFilterOn level epc.now.filter }
     ensures { IfOk result (λ values. values.items ≡ map (value_for level epc.now) fields.now) }
 {

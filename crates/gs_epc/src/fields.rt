@@ -7,7 +7,7 @@ ghost use Rattle.gs_epc.specs.FieldTexts.{texts_of, with_text};
 ghost use Rattle.gs_epc.specs.Filters.{IsFilter};
 
 use crate::epc::KeyTexts;
-use gs_chars::Text;
+use gs_chars::CowText;
 use gs_tables::Field;
 
 /// Returns the place of the first item that stands for a field.
@@ -18,7 +18,7 @@ pub fn place_of(field: Field, fields: &[Option<Field>]) -> Option<usize>
 }
 
 /// Returns the number of a filter value.
-fn filter_number(value: &Text) -> u8
+fn filter_number(value: &CowText<'_>) -> u8
     requires { IsFilter value.now }
     ensures { result ≡ decimal_value value.now }
 {
@@ -26,7 +26,7 @@ fn filter_number(value: &Text) -> u8
 }
 
 /// Returns the number of the filter value, if an item has it.
-pub(crate) fn filter_of(fields: &[Option<Field>], values: &[Text]) -> Option<u8>
+pub(crate) fn filter_of(fields: &[Option<Field>], values: &[CowText<'_>]) -> Option<u8>
     requires { IfSome (value_at Field.Filter fields.now values.now) IsFilter }
     ensures { result ≡ filter_of fields.now values.now }
 {
@@ -49,7 +49,7 @@ fn put_text<'a>(texts: &mut KeyTexts<'a>, field: Option<Field>, text: &'a [u8])
 }
 
 /// Returns the fields of the key that the values of items give. The first item of a field counts, so the last is taken first.
-pub(crate) fn texts_of<'a>(fields: &[Option<Field>], values: &'a [Text]) -> KeyTexts<'a>
+pub(crate) fn texts_of<'a>(fields: &[Option<Field>], values: &'a [CowText<'_>]) -> KeyTexts<'a>
     ensures { result ≡ texts_of fields.now values.now }
 {
     let mut texts = KeyTexts {

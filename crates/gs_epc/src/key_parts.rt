@@ -150,7 +150,7 @@ pub fn parts_at<'a>(ais: &'a AiTable, code: &[u8]) -> &'a [Part]
 }
 
 /// Returns the text that stands for an absent element of the code.
-fn none_text<'a>(ais: &'a AiTable, code: &[u8]) -> &'a [u8]
+pub(crate) fn none_text<'a>(ais: &'a AiTable, code: &[u8]) -> &'a [u8]
     ensures { result.now ≡ none_text ais.now code.now }
 {
     match ais.row_with(code) {

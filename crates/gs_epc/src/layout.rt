@@ -1,18 +1,20 @@
 ghost use Rattle.std.specs.Prelude.{◌≡◌, ◌≤◌, ◌++◌, IfOk, length, Some, slice_get};
-ghost use Rattle.gs_ident.specs.Identities.{IsMadeWith};
+ghost use Rattle.std.specs.List.{flat_map};
+ghost use Rattle.gs_ident.specs.Identities.{IsMadeWith, stands_for_none};
+ghost use Rattle.gs_ident.specs.Links.{path_step, spelled};
 ghost use Rattle.gs_ident.specs.QualifiedKeys.{pairs_in};
 ghost use Rattle.gs_epc.specs.Epcs.{IsOfSet};
 ghost use Rattle.gs_epc.specs.KeptFields.{FitKind};
 ghost use Rattle.gs_epc.specs.Layout.{AreKeyDigits, IsLaidOut, behind_check, key_digits, key_value, lay, parts_at};
-ghost use Rattle.gs_epc.specs.Layout.{tail_of_key, with_check, zero_in_front, fields_in};
+ghost use Rattle.gs_epc.specs.Layout.{serial_elements, tail_of_key, with_check, zero_in_front, fields_in};
 ghost use Rattle.gs_epc.specs.LayoutSupport.{serial_pairs};
 ghost use Rattle.gs_epc.specs.declared.epc.Epc.{Epc};
 
 use crate::epc::{Epc, KeyTexts, texts_in};
-use crate::key_parts::{joined, parts_at};
+use crate::key_parts::{joined, none_text, parts_at};
 use gs_ai::{AiTable, Pair, Part};
 use gs_chars::{Memory, Text, check_digit};
-use gs_ident::Identity;
+use gs_ident::{Identity, append_element};
 use gs_tables::{Kind, SerialAt, TableSet, are_characters};
 use std::alloc::Global;
 
@@ -37,7 +39,7 @@ fn tail_of_key<'a>(at: &SerialAt, serial: &'a [u8]) -> &'a [u8]
 }
 
 /// Appends digits one by one. There is usually at most one, for which this takes fewer instructions than appending a slice.
-pub(crate) fn push_few(value: &mut Text, digits: &[u8]) -> Result<(), Memory>
+fn push_few(value: &mut Text, digits: &[u8]) -> Result<(), Memory>
     ensures { IfOk result (λ _. value.new ≡ value.old ++ digits.now) }
 {
     for digit in digits {
@@ -157,6 +159,54 @@ pub(crate) fn lay_out(
     };
     let serial = serial_pair(alloc, &kind.serial, texts.serial)?;
     Identity::of_key(alloc, ais, key, serial)
+}
+
+/// Returns whether the value is the text that means an absent element of the code.
+fn stands_for_none(ais: &AiTable, code: &[u8], value: &[u8]) -> bool
+    ensures { result ≡ stands_for_none ais.now (record { code = code.now; value = value.now }) }
+{
+    let none = none_text(ais, code);
+    !none.is_empty() && none == value
+}
+
+/// Appends a serial as a step of the path of a link, if it is a separate element and means one.
+fn append_serial(
+    ais: &AiTable,
+    at: &SerialAt,
+    serial: &[u8],
+    out: &mut Vec<u8>,
+) -> Result<(), Memory>
+    ensures { IfOk result (λ _. out.new.items
+        ≡ out.old.items ++ flat_map path_step (serial_elements ais.now at.now serial.now)) }
+{
+    match at {
+        SerialAt::Ai(code) => {
+            if stands_for_none(ais, code.as_bytes(), serial) {
+                return Ok(());
+            }
+            append_element(out, b'/', code.as_bytes(), serial, b'/')
+        }
+        SerialAt::Nowhere | SerialAt::Tail => Ok(()),
+    }
+}
+
+/// Appends the link under the stem of a key of the kind, and of its serial.
+pub(crate) fn append_laid_out(
+    alloc: Global,
+    ais: &AiTable,
+    kind: &Kind,
+    texts: &KeyTexts,
+    stem: &[u8],
+    out: &mut Vec<u8>,
+) -> Result<(), Memory>
+    requires { FitKind ais.now kind.now texts.now }
+    ensures { IfOk result (λ _. out.new.items
+        ≡ out.old.items ++ spelled stem.now (lay ais.now kind.now texts.now)) }
+{
+    let value = key_value(alloc, ais, kind, texts)?;
+    out.extend_from_slice(stem)?;
+    append_element(out, b'/', kind.key.as_bytes(), value.as_bytes(), b'/')?;
+    append_serial(ais, &kind.serial, texts.serial, out)
 }
 
 /// Returns the identity that an EPC of the set names (TDS 2.0, section 7): the key of its kind, laid out with its check digit,

@@ -1,10 +1,11 @@
 //! EPCs: the EPC that tag bits and EPC URIs give by the tables, the identity that it names, and the texts of an identity.
 //!
 //! - `read_hex`, `read_tag` and `read_pure` give the fields of an EPC; `write_hex`, `write_tag` and `write_pure` its text.
-//! - `reading_of` reads a text of any level; an `EpcReading` lends its fields, and gives the identity that it names.
+//! - `reading_of` reads a text of any level; an `EpcReading` lends its fields, and gives the identity that it names or appends
+//!   its link.
 //! - `identity_of` lays the fields out as a key and its serial number; `fields_of` takes an identity apart. `push_checked` writes
 //!   the digits of a key, for gs_class too.
-//! - `lent_fields_of`, `write_lent` and `append_lent` are `fields_of` and `write_level` over lent texts, without copies.
+//! - `lent_fields_of` and `append_lent` are `fields_of` and `write_level` over lent texts, without copies.
 //!
 //! # Example
 //!
@@ -46,4 +47,4 @@ pub use laws::{
 };
 pub use layout::{identity_of, push_checked};
 pub use reading::{EpcReading, read_hex, read_pure, read_tag, reading_of};
-pub use writer::{append_lent, write_hex, write_lent, write_level, write_pure, write_tag};
+pub use writer::{append_lent, write_hex, write_level, write_pure, write_tag};

@@ -1,6 +1,9 @@
-ghost use Rattle.std.specs.Prelude.{◌≡◌, IfOk, IfSome, List, ℕ};
+ghost use Rattle.std.specs.Prelude.{◌≡◌, ◌++◌, IfOk, IfSome, List, ℕ, length};
+ghost use Rattle.gs_grammar.specs.Limits.{most_symbols};
 ghost use Rattle.gs_grammar_level.specs.Readings.{Reads};
+ghost use Rattle.gs_ident.specs.Elements.{Elements};
 ghost use Rattle.gs_ident.specs.Identities.{IsMadeWith};
+ghost use Rattle.gs_ident.specs.Links.{spelled};
 ghost use Rattle.gs_tables_document.specs.declared.document.Field.{Field};
 ghost use Rattle.gs_epc.specs.Epcs.{IsOfSet, epc_of, options_of, value_at};
 ghost use Rattle.gs_epc.specs.Filters.{IsFilter};
@@ -13,9 +16,10 @@ use crate::epc::{Epc, EpcRef, KeyTexts};
 use crate::error::EpcFault;
 use crate::fields::{filter_of, texts_of};
 use crate::key_parts::copied;
-use crate::layout::{kind_at, lay_out};
+use crate::layout::{append_laid_out, kind_at, lay_out};
 use gs_bits::BitBuf;
-use gs_chars::{List, Memory, Text};
+use gs_chars::{CowText, List, Memory};
+use gs_grammar::MOST_SYMBOLS;
 use gs_grammar_level::{Reading, read_bits, read_text};
 use gs_ident::Identity;
 use gs_tables::{LevelName, OptInfo, TableSet};
@@ -26,7 +30,7 @@ use std::marker::Model;
 #[derive(Drop)]
 pub struct EpcReading<'a> {
     info: &'a OptInfo,
-    values: List<Text>,
+    values: List<CowText<'a>>,
 }
 
 impl<'a> Model for EpcReading<'a> {
@@ -79,20 +83,41 @@ impl EpcReading<'_> {
         let kind = kind_at(set, self.info.kind);
         lay_out(alloc, set.ais(), kind, &self.texts())
     }
+
+    /// Appends the link, under the stem, of the identity that the EPC names, as `append_link` of gs_ident does. The identity is
+    /// not made for it. Fails only with `Memory`. The EPC is one of the set.
+    pub fn append_link(
+        &self,
+        alloc: Global,
+        set: &TableSet,
+        stem: &[u8],
+        out: &mut Vec<u8>,
+    ) -> Result<(), Memory>
+        requires { IsOfSet set.now self.now }
+        ensures { (identity : Elements) → IsLaidOut set.now self.now identity → IfOk result (λ _.
+            out.new.items ≡ out.old.items ++ spelled stem.now identity) }
+    {
+        let kind = kind_at(set, self.info.kind);
+        append_laid_out(alloc, set.ais(), kind, &self.texts(), stem, out)
+    }
 }
 
 /// Returns the reading by an option and the values of its items.
-fn reading_by(info: &OptInfo, values: List<Text>) -> EpcReading<'_>
+fn reading_by<'a>(info: &'a OptInfo, values: List<CowText<'a>>) -> EpcReading<'a>
     requires { IfSome (value_at Field.Filter info.now.fields values) IsFilter }
-    ensures { result ≡ epc_of info.now values }
+    ensures { result ≡ epc_of info.now values.entry }
 {
     EpcReading { info, values }
 }
 
 /// Returns the EPC of a reading of symbols in a level.
-fn answer(set: &TableSet, level: LevelName, reading: Reading) -> Result<EpcReading<'_>, EpcFault>
+fn answer<'a>(
+    set: &'a TableSet,
+    level: LevelName,
+    reading: Reading<'a>,
+) -> Result<EpcReading<'a>, EpcFault>
     requires { (symbols : List ℕ) × Reads (options_of level set.now) symbols reading }
-    ensures says { AnswersReading set.now level reading result }
+    ensures says { AnswersReading set.now level reading.entry result }
     ensures of_set { IfOk result (IsOfSet set.now) }
 {
     match reading {
@@ -107,13 +132,15 @@ fn reading_of_digits<'a>(
     alloc: Global,
     set: &'a TableSet,
     text: &[u8],
+    room: &'a mut [u8],
 ) -> Result<EpcReading<'a>, EpcFault>
+    requires { length room.old ≡ most_symbols }
     ensures answer { ReadsHex set.now text.now result }
     ensures of_set { IfOk result (IsOfSet set.now) }
 {
     let level = LevelName::Binary;
     match BitBuf::<64>::from_hex(text) {
-        Ok(bits) => answer(set, level, read_bits(alloc, set.level(level), &bits)),
+        Ok(bits) => answer(set, level, read_bits(alloc, set.level(level), &bits, room)),
         Err(error) => Err(EpcFault::Hex(error)),
     }
 }
@@ -123,7 +150,7 @@ fn reading_of_uri<'a>(
     alloc: Global,
     set: &'a TableSet,
     level: LevelName,
-    text: &[u8],
+    text: &'a [u8],
 ) -> Result<EpcReading<'a>, EpcFault>
     ensures answer { ReadsAs set.now level text.now result }
     ensures of_set { IfOk result (IsOfSet set.now) }
@@ -131,18 +158,21 @@ fn reading_of_uri<'a>(
     answer(set, level, read_text(alloc, set.level(level), text))
 }
 
-/// Reads a text of a level as `read_hex`, `read_tag` and `read_pure` do, with their errors, and copies no field.
+/// Reads a text of a level as `read_hex`, `read_tag` and `read_pure` do, with their errors, and copies no field that the text
+/// spells out. Bits are unpacked to the room, which has 512 symbols.
 pub fn reading_of<'a>(
     alloc: Global,
     set: &'a TableSet,
     level: LevelName,
-    text: &[u8],
+    text: &'a [u8],
+    room: &'a mut [u8],
 ) -> Result<EpcReading<'a>, EpcFault>
+    requires { length room.old ≡ most_symbols }
     ensures answer { ReadsText set.now level text.now result }
     ensures of_set { IfOk result (IsOfSet set.now) }
 {
     match level {
-        LevelName::Binary => reading_of_digits(alloc, set, text),
+        LevelName::Binary => reading_of_digits(alloc, set, text, room),
         LevelName::Tag => reading_of_uri(alloc, set, LevelName::Tag, text),
         LevelName::Pure => reading_of_uri(alloc, set, LevelName::Pure, text),
     }
@@ -153,7 +183,8 @@ fn read_level(alloc: Global, set: &TableSet, level: LevelName, text: &[u8]) -> R
     ensures answer { ReadsText set.now level text.now result }
     ensures of_set { IfOk result (IsOfSet set.now) }
 {
-    let reading = reading_of(alloc, set, level, text)?;
+    let mut room = [0; MOST_SYMBOLS];
+    let reading = reading_of(alloc, set, level, text, &mut room)?;
     Ok(copied(alloc, &reading.epc())?)
 }
 

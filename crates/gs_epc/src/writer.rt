@@ -9,8 +9,8 @@ use crate::candidates::{is_asked, left_out, values_for};
 use crate::epc::{Epc, EpcRef, lent};
 use crate::error::EpcWriteFault;
 use gs_bits::BitBuf;
-use gs_chars::{Memory, Text};
-use gs_grammar::{Opt, Why, WriteFault, write_bits, write_text};
+use gs_chars::{CowText, Memory, Text};
+use gs_grammar::{Opt, Why, WriteFault, append_text, write_bits};
 use gs_tables::{Field, LevelName, TableSet};
 use std::alloc::Global;
 
@@ -18,7 +18,7 @@ use std::alloc::Global;
 fn append_digits(
     alloc: Global,
     option: &Opt,
-    values: &[Text],
+    values: &[CowText<'_>],
     out: &mut Vec<u8>,
 ) -> Result<(), WriteFault>
     requires bit_level { option.now.bit_level ≡ true }
@@ -43,24 +43,17 @@ fn append_digits(
 
 /// Appends the text of an option of a level of texts.
 fn append_uri(
-    alloc: Global,
     level: LevelName,
     option: &Opt,
-    values: &[Text],
+    values: &[CowText<'_>],
     out: &mut Vec<u8>,
 ) -> Result<(), WriteFault>
     requires text_level { option.now.bit_level ≡ false }
     requires one_each { length values.now ≡ length option.now.items }
-    ensures { is_bits level ≡ false → AppendsOption level option.now.items values.now out.old.items out.new.items result }
+    ensures { is_bits level ≡ false
+        → AppendsOption level option.now.items values.now out.old.items out.new.items result }
 {
-    let text = match write_text(alloc, option, values) {
-        Ok(text) => text,
-        Err(error) => return Err(error),
-    };
-    match out.extend_from_slice(text.as_bytes()) {
-        Ok(()) => Ok(()),
-        Err(_) => Err(WriteFault::Memory),
-    }
+    append_text(option, values, out)
 }
 
 /// Appends the text of an option of a level: of bits their hexadecimal digits.
@@ -68,7 +61,7 @@ fn append_option(
     alloc: Global,
     level: LevelName,
     option: &Opt,
-    values: &[Text],
+    values: &[CowText<'_>],
     out: &mut Vec<u8>,
 ) -> Result<(), WriteFault>
     requires of_level { option.now.bit_level ≡ is_bits level }
@@ -78,7 +71,7 @@ fn append_option(
 {
     match level {
         LevelName::Binary => append_digits(alloc, option, values, out),
-        LevelName::Tag | LevelName::Pure => append_uri(alloc, level, option, values, out),
+        LevelName::Tag | LevelName::Pure => append_uri(level, option, values, out),
     }
 }
 
@@ -177,23 +170,6 @@ pub fn append_lent(
 }
 
 /// Writes an EPC by the options of a level, as `append_lent` does.
-pub fn write_lent(
-    alloc: Global,
-    set: &TableSet,
-    level: LevelName,
-    epc: &EpcRef<'_>,
-) -> Result<Text, EpcWriteFault>
-    requires { HasFilterOn level epc.now.filter }
-    ensures { WritesAs set.now level epc.now result }
-{
-    let mut text = Vec::new(alloc);
-    match append_lent(alloc, set, level, epc, &mut text) {
-        Ok(()) => Ok(Text::from_vec(text)),
-        Err(error) => Err(error),
-    }
-}
-
-/// Writes an EPC by the options of a level, as `append_lent` does.
 pub fn write_level(
     alloc: Global,
     set: &TableSet,
@@ -203,7 +179,11 @@ pub fn write_level(
     requires { HasFilterOn level epc.now.filter }
     ensures { WritesAs set.now level epc.now result }
 {
-    write_lent(alloc, set, level, &lent(epc))
+    let mut text = Vec::new(alloc);
+    match append_lent(alloc, set, level, &lent(epc), &mut text) {
+        Ok(()) => Ok(Text::from_vec(text)),
+        Err(error) => Err(error),
+    }
 }
 
 /// Returns the bits of an EPC in upper-case hexadecimal digits (TDS 2.0, section 14). The candidates are the options of bits of

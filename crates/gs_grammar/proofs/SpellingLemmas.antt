@@ -53,6 +53,16 @@ spelled_length v w (one_more d value spelling x p t) =
     let m = length-append spelling x in
     (omega arith, omega arith)
 
+-- a list of as many symbols as it spells characters is their value
+pub spelled_alike : (v w : List ℕ) → SpellsEach v w → length v ≡ length w → v ≡ w
+spelled_alike v w no_more e = refl
+spelled_alike v w (one_more c value spelling x (inl p) t) e =
+    let m = length-append spelling x in
+    let one = ap length p.1 in
+    let rest = spelled_alike value x t (omega arith) in
+    rw (p.1, rest) refl
+spelled_alike v w (one_more c value spelling x (inr q) t) e = absurd (let l = spelled_length value x t in let three = ap length q.1.text in let m = length-append spelling x in omega arith)
+
 -- one more character at the start
 one_in_front : (c used : ℕ) (v rest : List ℕ) → BeginsWithSpelling rest c used → SpellsEach v (drop used rest) → SpellsEach (c ∷ v) rest
 one_in_front c used v rest b s =

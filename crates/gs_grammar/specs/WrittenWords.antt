@@ -82,3 +82,8 @@ IsWriteFault items values Memory = Unit {0}
 abbrev pub IsHoldError : List Item → List (List ℕ) → WriteFault → Type 0
 IsHoldError items values (CannotHold k why) = IsFirstRejection items values k why
 IsHoldError items values Memory = ⊥
+
+-- trusted, own: after an item that does not hold its value the text is unchanged
+abbrev pub LeavesUnlessMemory : List ℕ → List ℕ → WriteFault → Type 0
+LeavesUnlessMemory before now (CannotHold k why) = now ≡ before
+LeavesUnlessMemory before now Memory = Unit {0}

@@ -12,7 +12,7 @@ use crate::numerals::{decimal_number, decimal_number_behind};
 use crate::opt::Opt;
 use crate::text_writer::first_rejection;
 use gs_bits::BitBuf;
-use gs_chars::Text;
+use gs_chars::CowText;
 
 /// Appends the bits of a number, which have room.
 fn push_number<const N: usize>(number: u64, bits: u32, out: &mut BitBuf<N>)
@@ -120,7 +120,7 @@ fn push_bit_word<const N: usize>(item: &Item, value: &[u8], out: &mut BitBuf<N>)
 }
 
 /// Appends the written words of the values, joined.
-fn push_words<const N: usize>(items: &[Item], values: &[Text], out: &mut BitBuf<N>)
+fn push_words<const N: usize>(items: &[Item], values: &[CowText<'_>], out: &mut BitBuf<N>)
     requires one_each { length values.now ≡ length items.now }
     requires bounds { AllPass (is_in_bounds true) items.now }
     requires held { AreHeld items.now values.now }
@@ -139,7 +139,7 @@ fn push_words<const N: usize>(items: &[Item], values: &[Text], out: &mut BitBuf<
 /// longest words.
 pub fn write_bits<const N: usize>(
     option: &Opt,
-    values: &[Text],
+    values: &[CowText<'_>],
     out: &mut BitBuf<N>,
 ) -> Result<(), WriteFault>
     requires bit_level { option.now.bit_level ≡ true }

@@ -3,18 +3,18 @@ ghost use Rattle.gs_chars.specs.Characters.{are_in_set82};
 ghost use Rattle.gs_chars.specs.Escapes.{written_spelling};
 ghost use Rattle.gs_grammar.specs.Items.{is_in_bounds};
 ghost use Rattle.gs_grammar.specs.Words.{written_word};
-ghost use Rattle.gs_grammar.specs.WrittenWords.{why_not, written, AreHeld, IsFirstRejection, IsWriteFault};
+ghost use Rattle.gs_grammar.specs.WrittenWords.{why_not, written, AreHeld, IsFirstRejection, IsWriteFault, LeavesUnlessMemory};
 
 use crate::error::{Why, WriteFault};
 use crate::item::Item;
 use crate::opt::Opt;
 use crate::value_test::holds;
-use gs_chars::{Memory, Text, write_escape};
+use gs_chars::{CowText, Memory, Text, write_escape};
 use std::alloc::Global;
 
 /// Returns the number of the first item that does not hold its value, and why. There are as many values as items. `None` is
 /// returned if and only if each is held.
-pub fn first_rejection(items: &[Item], values: &[Text]) -> Option<(usize, Why)>
+pub fn first_rejection(items: &[Item], values: &[CowText<'_>]) -> Option<(usize, Why)>
     requires { length values.now ≡ length items.now }
     ensures some { IfSome result (λ r. IsFirstRejection items.now values.now r.0 r.1) }
     ensures none { IfNone result (AreHeld items.now values.now) }
@@ -56,26 +56,45 @@ fn push_word(item: &Item, value: &[u8], text: &mut Vec<u8>) -> Result<(), Memory
     Ok(())
 }
 
-/// Returns the written words of the values, joined: one value for each item of an option of a text level. `CannotHold` is
-/// returned if and only if an item does not hold its value, and names the first. The option is one of text, and there are as many
-/// values as items.
-pub fn write_text(alloc: Global, option: &Opt, values: &[Text]) -> Result<Text, WriteFault>
+/// Appends the written words of the values: one value for each item of an option of a text level. `CannotHold` is returned if and
+/// only if an item does not hold its value, and names the first; then the text is unchanged. The option is one of text, and there
+/// are as many values as items.
+pub fn append_text(
+    option: &Opt,
+    values: &[CowText<'_>],
+    text: &mut Vec<u8>,
+) -> Result<(), WriteFault>
+    requires text_level { option.now.bit_level ≡ false }
+    requires one_each { length values.now ≡ length option.now.items }
+    ensures written { OnOk result (text.new.items ≡ text.old.items ++ written option.now.items values.now) }
+    ensures held { IsOk result → AreHeld option.now.items values.now }
+    ensures rejected { IfErr result (λ error. IsWriteFault option.now.items values.now error) }
+    ensures unchanged { IfErr result (LeavesUnlessMemory text.old.items text.new.items) }
+{
+    let items = option.items();
+    if let Some((item, why)) = first_rejection(items, values) {
+        return Err(WriteFault::CannotHold { item, why });
+    }
+    for (number, item) in items.iter().enumerate() {
+        let value = &values[number];
+        if push_word(item, value.as_bytes(), text).is_err() {
+            return Err(WriteFault::Memory);
+        }
+    }
+    Ok(())
+}
+
+/// Returns the written words of the values, as `append_text` appends them.
+pub fn write_text(alloc: Global, option: &Opt, values: &[CowText<'_>]) -> Result<Text, WriteFault>
     requires text_level { option.now.bit_level ≡ false }
     requires one_each { length values.now ≡ length option.now.items }
     ensures written { IfOk result (λ text. text ≡ written option.now.items values.now) }
     ensures held { IsOk result → AreHeld option.now.items values.now }
     ensures rejected { IfErr result (λ error. IsWriteFault option.now.items values.now error) }
 {
-    let items = option.items();
-    if let Some((item, why)) = first_rejection(items, values) {
-        return Err(WriteFault::CannotHold { item, why });
-    }
     let mut text = Vec::new(alloc);
-    for (number, item) in items.iter().enumerate() {
-        let value = &values[number];
-        if push_word(item, value.as_bytes(), &mut text).is_err() {
-            return Err(WriteFault::Memory);
-        }
+    match append_text(option, values, &mut text) {
+        Ok(()) => Ok(Text::from_vec(text)),
+        Err(error) => Err(error),
     }
-    Ok(Text::from_vec(text))
 }

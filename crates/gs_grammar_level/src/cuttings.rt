@@ -11,7 +11,7 @@ ghost use Rattle.gs_grammar_level.specs.Trails.{IsTrail, AreCuts, with_cut};
 
 use crate::trail::Entry;
 use gs_ambig::Auto;
-use gs_chars::{List, Memory, Text};
+use gs_chars::{CowText, List, Memory};
 use gs_grammar::{Item, Opt, read_word};
 use std::alloc::Global;
 
@@ -111,12 +111,12 @@ pub fn width_by(cuts: &[usize], others: &[Item], rest: &[u8]) -> usize
 
 /// Returns the values of a derivation of the symbols by items that begin at these places. Returns `None` if and only if there is
 /// no derivation.
-pub fn read_by_widths(
+pub fn read_by_widths<'a>(
     alloc: Global,
     places: &[usize],
     items: &[Item],
-    symbols: &[u8],
-) -> Result<Option<List<Text>>, Memory>
+    symbols: &'a [u8],
+) -> Result<Option<List<CowText<'a>>>, Memory>
     requires each { All IsItem items.now }
     requires fixed { CutsAreFixed items.now }
     requires places { places.now ≡ starts_of 0 items.now }

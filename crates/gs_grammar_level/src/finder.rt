@@ -6,14 +6,14 @@ use crate::cuttings::{Cutting, read_by_widths};
 use crate::fronts::Group;
 use crate::level::Level;
 use crate::read::{Scratch, read_by_machine};
-use gs_chars::{List, Memory, Text};
+use gs_chars::{CowText, List, Memory};
 use std::alloc::Global;
 
 /// An option that derives a list of symbols, and the values of a derivation.
 #[derive(Drop)]
-pub struct Found {
+pub struct Found<'a> {
     pub option: usize,
-    pub values: List<Text>,
+    pub values: List<CowText<'a>>,
 }
 
 /// Returns whether the literal is in the symbols at this place.
@@ -47,13 +47,13 @@ fn is_probed(level: &Level, option: usize, symbols: &[u8]) -> bool
 }
 
 /// Reads the symbols by the option of this number.
-fn read_option(
+fn read_option<'a>(
     alloc: Global,
     level: &Level,
     option: usize,
-    symbols: &[u8],
+    symbols: &'a [u8],
     scratch: &mut Scratch,
-) -> Result<Option<Found>, Memory>
+) -> Result<Option<Found<'a>>, Memory>
     requires { option < length level.now.options }
     ensures found { IfOk result (λ found. IsFound level.now.options symbols.now found) }
     ensures none { IfOk result (λ found. NoneFound level.now.options option (option + 1) symbols.now found) }
@@ -73,14 +73,14 @@ fn read_option(
 }
 
 /// Reads the symbols by the first option of the group that derives them. The group has the options from this number on.
-fn read_group(
+fn read_group<'a>(
     alloc: Global,
     level: &Level,
     from: usize,
     group: &Group,
-    symbols: &[u8],
+    symbols: &'a [u8],
     scratch: &mut Scratch,
-) -> Result<Option<Found>, Memory>
+) -> Result<Option<Found<'a>>, Memory>
     requires within { group.now.end ≤ length level.now.options }
     requires begin { BeginAll level.now.options from group.now.end group.now.literal }
     ensures found { IfOk result (λ found. IsFound level.now.options symbols.now found) }
@@ -101,7 +101,11 @@ fn read_group(
 }
 
 /// Reads the symbols by the first option of the level that derives them.
-pub fn find(alloc: Global, level: &Level, symbols: &[u8]) -> Result<Option<Found>, Memory>
+pub fn find<'a>(
+    alloc: Global,
+    level: &Level,
+    symbols: &'a [u8],
+) -> Result<Option<Found<'a>>, Memory>
     ensures found { IfOk result (λ found. IsFound level.now.options symbols.now found) }
     ensures none { IfOk result (λ found. NothingFound level.now.options symbols.now found) }
 {

@@ -1,7 +1,8 @@
 ghost use Rattle.gs_grammar.specs.Levels.{item_lists};
 ghost use Rattle.gs_grammar.specs.Ambiguity.{IsUnambiguous};
 ghost use Rattle.gs_grammar_level.specs.Readings.{Reads};
-ghost use Rattle.std.specs.Prelude.{All, IfOk, IfSome, IfNone};
+ghost use Rattle.std.specs.Prelude.{◌≡◌, All, IfOk, IfSome, IfNone, length};
+ghost use Rattle.gs_grammar.specs.Limits.{most_symbols};
 ghost use Rattle.gs_grammar.specs.Items.{IsItem};
 ghost use Rattle.gs_grammar.specs.Derivations.{IsDerived};
 ghost use Rattle.gs_grammar.specs.DerivationsSupport.{HasValues};
@@ -15,12 +16,12 @@ use crate::level::Level;
 use crate::trail::{Entry, follow};
 use gs_ambig::Auto;
 use gs_bits::BitBuf;
-use gs_chars::{List, Memory, Text};
-use gs_grammar::{Item, MOST_SYMBOLS, unpack, value_of};
+use gs_chars::{CowText, List, Memory};
+use gs_grammar::{Item, unpack, value_of};
 use std::alloc::Global;
 
 /// Reads the symbols by the options.
-fn read_symbols(alloc: Global, level: &Level, symbols: &[u8]) -> Reading
+fn read_symbols<'a>(alloc: Global, level: &Level, symbols: &'a [u8]) -> Reading<'a>
     requires { IsUnambiguous (item_lists level.now.options) }
     ensures { Reads (item_lists level.now.options) symbols.now result }
 {
@@ -36,28 +37,37 @@ fn read_symbols(alloc: Global, level: &Level, symbols: &[u8]) -> Reading
 
 /// Reads a text in a level that is not ambiguous. Returns `One`, with the number of an option and its values, if the text has a
 /// derivation, and `Nothing` if it has none. May return `Memory` instead.
-pub fn read_text(alloc: Global, level: &Level, text: &[u8]) -> Reading
+pub fn read_text<'a>(alloc: Global, level: &Level, text: &'a [u8]) -> Reading<'a>
     requires { IsUnambiguous (item_lists level.now.options) }
     ensures { Reads (item_lists level.now.options) text.now result }
 {
     read_symbols(alloc, level, text)
 }
 
-/// Reads bits in a level of bits that is not ambiguous, as `read_text` reads a text.
-pub fn read_bits<const N: usize>(alloc: Global, level: &Level, bits: &BitBuf<N>) -> Reading
-    requires { IsUnambiguous (item_lists level.now.options) }
+/// Reads bits in a level of bits that is not ambiguous, as `read_text` reads a text. They are unpacked to the room, which has
+/// 512 symbols.
+pub fn read_bits<'a, const N: usize>(
+    alloc: Global,
+    level: &Level,
+    bits: &BitBuf<N>,
+    room: &'a mut [u8],
+) -> Reading<'a>
+    requires unambiguous { IsUnambiguous (item_lists level.now.options) }
+    requires room { length room.old ≡ most_symbols }
     ensures { Reads (item_lists level.now.options) bits.now result }
 {
-    let mut symbols = [0; MOST_SYMBOLS];
-    let count = unpack(bits, &mut symbols);
-    read_symbols(alloc, level, &symbols[..count])
+    let count = unpack(bits, room);
+    read_symbols(alloc, level, &room[..count])
 }
 
 /// The meaning of a list of symbols in a level that is not ambiguous.
 #[derive(Drop)]
-pub enum Reading {
+pub enum Reading<'a> {
     /// The list has a derivation, and no other: the number of its option, and the value of each of its items.
-    One { option: usize, values: List<Text> },
+    One {
+        option: usize,
+        values: List<CowText<'a>>,
+    },
     /// The list has no derivation.
     Nothing,
     /// Memory ran out.
@@ -83,13 +93,13 @@ impl Scratch {
 
 /// Returns the values of a derivation of the symbols by the items, whose machine this is. Returns `None` if and only if there is
 /// no derivation.
-pub fn read_by_machine(
+pub fn read_by_machine<'a>(
     alloc: Global,
     machine: &Auto,
     items: &[Item],
-    symbols: &[u8],
+    symbols: &'a [u8],
     scratch: &mut Scratch,
-) -> Result<Option<List<Text>>, Memory>
+) -> Result<Option<List<CowText<'a>>>, Memory>
     requires rules { IsMachine machine.now }
     requires reads { ReadsItems machine.now items.now }
     requires each { All IsItem items.now }
@@ -106,12 +116,12 @@ pub fn read_by_machine(
 }
 
 /// Returns the values of the words between the cuts.
-pub fn values_of(
+pub fn values_of<'a>(
     alloc: Global,
     items: &[Item],
-    symbols: &[u8],
+    symbols: &'a [u8],
     cuts: &[usize],
-) -> Result<List<Text>, Memory>
+) -> Result<List<CowText<'a>>, Memory>
     requires items { All IsItem items.now }
     requires derived { HasCuts items.now symbols.now cuts.now }
     ensures { IfOk result (λ values. HasValues items.now symbols.now values) }

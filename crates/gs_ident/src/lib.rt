@@ -31,5 +31,6 @@ pub use gs_ai::Pair;
 pub use identity::{Identity, is_coded};
 pub use maker::make;
 pub use spelling::{
-    CANONICAL_STEM, append_canonical, append_escaped, append_link, canonical, one_link_each, spell,
+    CANONICAL_STEM, append_canonical, append_element, append_escaped, append_link, canonical,
+    one_link_each, spell,
 };

@@ -59,16 +59,38 @@ pub fn append_escaped(out: &mut Vec<u8>, value: &[u8]) -> Result<(), Memory>
     append_pieces(out, value)
 }
 
-/// Appends the byte `before`, the pair's code, the byte `between` and the value with its escapes.
+/// Appends the byte `before`, the code, the byte `between`, and the value with its escapes, as links have an element. Fails only
+/// with `Memory`; `out` then begins with its old contents.
+pub fn append_element(
+    out: &mut Vec<u8>,
+    before: u8,
+    code: &[u8],
+    value: &[u8],
+    between: u8,
+) -> Result<(), Memory>
+    ensures written { IfOk result (λ _. out.new.items
+        ≡ out.old.items ++ (before ∷ (code.now ++ between ∷ percent_encoded value.now))) }
+    ensures begun { OnErr result (BeginsWith out.new.items out.old.items) }
+{
+    out.push(before)?;
+    out.extend_from_slice(code)?;
+    out.push(between)?;
+    append_escaped(out, value)
+}
+
+/// Appends the pair as `append_element` does.
 fn write_pair(out: &mut Vec<u8>, before: u8, pair: &Pair, between: u8) -> Result<(), Memory>
     ensures written { IfOk result (λ _. out.new.items
         ≡ out.old.items ++ (before ∷ (pair.now.code ++ between ∷ percent_encoded pair.now.value))) }
     ensures begun { OnErr result (BeginsWith out.new.items out.old.items) }
 {
-    out.push(before)?;
-    out.extend_from_slice(pair.code.as_bytes())?;
-    out.push(between)?;
-    append_escaped(out, pair.value.as_bytes())
+    append_element(
+        out,
+        before,
+        pair.code.as_bytes(),
+        pair.value.as_bytes(),
+        between,
+    )
 }
 
 /// Appends each pair as `write_pair` does.

@@ -1,5 +1,5 @@
 -- The filter value of a text is one of 0 to 7.
-use Rattle.std.proofs.Common.{◌≡◌, ℕ, ◌≤◌, ◌+◌, ◌-◌, ◌*◌, Bool, true, false, true≢false, List, [], ◌∷◌, Option, Some, None, refl, sym, subst, arith}
+use Rattle.std.proofs.Common.{◌≡◌, ℕ, ◌≤◌, ◌+◌, ◌-◌, ◌*◌, Bool, true, false, List, [], ◌∷◌, Option, Some, None, sym, subst, arith}
 use Rattle.std.specs.Prelude.{IfSome, Result, Ok, Err}
 use Rattle.std.specs.Option.{option_map}
 use Rattle.gs_ai.specs.declared.pair.Pair.{Pair}
@@ -91,13 +91,3 @@ filter_fits set form text meaning shaped (short few m) = means_fit set form text
 pub kept_fits : (set : TableRows) (keys_only : Bool) (meaning : Meaning) → FitsFilter meaning.filter → FitsFilter (kept set keys_only meaning).filter
 kept_fits set true meaning fits = fits
 kept_fits set false meaning fits = fits
-
--- ---- whether only keys are kept
-
-pub kept_whole : (set : TableRows) (keys_only : Bool) (meaning : Meaning) → keys_only ≡ false → meaning ≡ kept set keys_only meaning
-kept_whole set true meaning e = absurd (true≢false e)
-kept_whole set false meaning e = refl
-
-pub kept_narrow : (set : TableRows) (keys_only : Bool) (meaning given : Meaning) → keys_only ≡ true → given ≡ kept set true meaning → given ≡ kept set keys_only meaning
-kept_narrow set true meaning given e same = same
-kept_narrow set false meaning given e same = absurd (true≢false (sym e))

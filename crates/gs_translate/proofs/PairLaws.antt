@@ -19,9 +19,9 @@ use Rattle.gs_element.proofs.BodyLemmas.{body_shorter}
 use Rattle.gs_element.proofs.BracketLemmas.{bracketed_known}
 use Rattle.gs_element.proofs.JoinLemmas.{answered, no_error, one_error, one_list}
 use Rattle.gs_element.proofs.RawLemmas.{raw_known}
+use Rattle.gs_ident.specs.Elements.{Elements}
 use Rattle.gs_ident.specs.Identities.{identity_of_pairs}
 use Rattle.gs_tables.specs.Tables.{IsShaped, TableRows, row_rejections}
-use Rattle.gs_translate.specs.declared.reader.Meaning.{Meaning}
 use Rattle.gs_translate.specs.declared.reason.Reason.{Reason}
 use Rattle.gs_translate.specs.declared.reason.Reason.TheVariants.{Element, NoKeyPath, NotHttp}
 use Rattle.gs_translate.specs.Meanings.{IsIdentified, OfElement, ReadsBracketed, ReadsRaw, link_reason}
@@ -104,7 +104,7 @@ some_of_pairs set Reads some = then_some Reads (IsIdentified set) some (λ pairs
 -- ---- why none are read
 
 -- a rejection of a reader of element strings is that of the text
-pub elements_rejected : (set : TableRows) (Are : List Pair → Type 0) (IsError : ElementFault → Type 0) (Rejects : RawFault → Type 0) (error : RawFault) → ((f : ElementFault) → Rejects (WrongElement f) → IsError f) → Rejects error → UnlessMemory {X = Meaning} (Err (elements_reason error)) (Then (λ answer. MatchResult answer Are (OfElement IsError)) (IsIdentified set) (Err (elements_reason error)))
+pub elements_rejected : (set : TableRows) (Are : List Pair → Type 0) (IsError : ElementFault → Type 0) (Rejects : RawFault → Type 0) (error : RawFault) → ((f : ElementFault) → Rejects (WrongElement f) → IsError f) → Rejects error → UnlessMemory {X = Elements} (Err (elements_reason error)) (Then (λ answer. MatchResult answer Are (OfElement IsError)) (IsIdentified set) (Err (elements_reason error)))
 elements_rejected set Are IsError Rejects (WrongElement error) f r = rejects (Element error) (error, refl, f error r) refl
 elements_rejected set Are IsError Rejects NoMemory f r = tt
 
@@ -112,7 +112,7 @@ why_said : (set : TableRows) (text : List ℕ) (error : LinkFault) → link_erro
 why_said set text error e = ap (reworded link_reason) (sym (error_said (link_answer set.ais text) error e))
 
 -- a rejection of the reader of links is that of the text
-pub link_rejected : (set : TableRows) (text : List ℕ) (error : LinkFault) → (error ≢ link.Memory → link_error set.ais text ≡ Some error) → UnlessMemory {X = Meaning} (Err (link_reason error)) (Then (ReadsLink set text) (IsIdentified set) (Err (link_reason error)))
+pub link_rejected : (set : TableRows) (text : List ℕ) (error : LinkFault) → (error ≢ link.Memory → link_error set.ais text ≡ Some error) → UnlessMemory {X = Elements} (Err (link_reason error)) (Then (ReadsLink set text) (IsIdentified set) (Err (link_reason error)))
 link_rejected set text link.NotHttp f = rejects NotHttp (why_said set text link.NotHttp (f (λ e. cc))) refl
 link_rejected set text link.NoKeyPath f = rejects NoKeyPath (why_said set text link.NoKeyPath (f (λ e. cc))) refl
 link_rejected set text (link.Element error) f = rejects (Element error) (why_said set text (link.Element error) (f (λ e. cc))) refl

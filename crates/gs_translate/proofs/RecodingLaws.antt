@@ -52,7 +52,7 @@ use Rattle.gs_translate.specs.Recodings.{IsRecoded, form_at, pairs_target, pairs
 use Rattle.gs_translate.specs.Steps.{AppendsText, Reworded, Then, UnlessMemory, goes_on, rejects}
 use Rattle.gs_translate.specs.Targets.{epc_for, has_option, is_option_of, is_serial, kept, key_and_serial, kind_for, length_for, narrowed, with_tag}
 use Rattle.gs_translate.specs.Targets as targets
-use Rattle.gs_translate.specs.Translations.{IsOfLevel, IsSpelling, IsTranslation, write_reason}
+use Rattle.gs_translate.specs.Translations.{IsOfLevel, IsSpelling, IsTranslation, form_of, write_reason}
 use Rattle.gs_translate.proofs.EpcTexts.{means_at, none_read}
 use Rattle.gs_translate.proofs.StepLaws.{appends_map, then_appended, unless_map, unless_rejected}
 
@@ -218,6 +218,12 @@ kept_laid set true epc identity shaped laid = ap (epc_meaning epc) (sym (narrowe
 kept_laid set false epc identity shaped laid = refl
 
 -- ---- translations
+
+-- the target of a level is read in its form
+pub form_read : (name : LevelName) → form_of (target_at name) ≡ form_at name
+form_read level.Binary = refl
+form_read level.Tag = refl
+form_read level.Pure = refl
 
 -- what is appended as the spelling of the EPC of a text is the translation of the text, also if only keys are kept
 pub translated : {Done : Type 0} (set : TableRows) (prefixes : List PrefixEntry) (options : Options) (from : LevelName) (to : Target) (text : List ℕ) (epc : Epc) (before now : List ℕ) (result : Result Done Reason) → IsShaped set → length text ≤ longest_text → ReadsText set from text (Ok epc) → IsOfSet set epc

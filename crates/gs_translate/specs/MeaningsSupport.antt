@@ -1,5 +1,5 @@
 -- Definitions for proofs and private functions, in addition to Meanings.antt.
-use Rattle.std.specs.Prelude.{◌≡◌, ℕ, List, Result}
+use Rattle.std.specs.Prelude.{◌≡◌, ℕ, List, Result, Ok, Err}
 use Rattle.std.specs.Result.{result_map_both}
 use Rattle.gs_ai.specs.declared.pair.Pair.{Pair}
 use Rattle.gs_dlink.specs.Answers.{link_answer}
@@ -30,6 +30,11 @@ epc_reason NoReading = NoEpc NoReading
 -- the pairs that a link names, or why it names none
 abbrev pub ReadsLink : TableRows → List ℕ → Result (List Pair) Reason → Type 0
 ReadsLink set text answer = answer ≡ reworded link_reason (link_answer set.ais text)
+
+-- the meaning of an identity that no EPC names, or the reason
+abbrev pub alone : Result Elements Reason → Result Meaning Reason
+alone (Ok identity) = Ok (identity_meaning identity)
+alone (Err reason) = Err reason
 
 -- the meaning of the identity of pairs, or why they have none
 abbrev pub identified : Result Elements IdentFault → Result Meaning Reason

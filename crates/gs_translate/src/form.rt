@@ -37,7 +37,7 @@ pub enum Target {
     Canon,
 }
 
-/// A form that is written of an identity alone: element strings and links.
+/// A form of an identity alone: element strings and links.
 #[derive(Clone, Copy)]
 pub(crate) enum PairsForm {
     /// Element strings without anything at the start.
@@ -50,7 +50,7 @@ pub(crate) enum PairsForm {
     Canon,
 }
 
-/// What is written in a requested form: an EPC, as a text of a level, or the pairs of an identity.
+/// What is read in a form, or written in a requested one: an EPC, as a text of a level, or the pairs of an identity.
 #[derive(Clone, Copy)]
 pub(crate) enum Written {
     Epc(LevelName),

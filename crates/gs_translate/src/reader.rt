@@ -1,22 +1,24 @@
-ghost use Rattle.std.specs.Prelude.{◌≡◌, IfOk, Ok, true, All};
+ghost use Rattle.std.specs.Prelude.{◌≡◌, IfOk, Ok, All};
 ghost use Rattle.gs_epc.specs.declared.error.EpcFault.TheVariants.{Memory as NoRoom};
 ghost use Rattle.gs_epc.specs.Epcs.{IsOfSet};
 ghost use Rattle.gs_epc.specs.Writes.{ReadsText};
 ghost use Rattle.gs_ident.specs.Identities.{IsMadeWith, IsInOrder};
 ghost use Rattle.gs_translate.specs.declared.reason.Reason.TheVariants.{Epc as NoEpc};
-ghost use Rattle.gs_translate.specs.Meanings.{IsRead, MeansEpc, IsIdentified, ReadsBracketed, ReadsRaw};
+ghost use Rattle.gs_translate.specs.Meanings.{IsIdentified, IsRead, Means, MeansEpc, identity_meaning};
 ghost use Rattle.gs_translate.specs.Steps.{Reworded, Then, UnlessMemory};
-ghost use Rattle.gs_translate.specs.Targets.{kept};
-ghost use Rattle.gs_translate.specs.MeaningsSupport.{ReadsLink};
+ghost use Rattle.gs_translate.specs.MeaningsSupport.{alone};
+ghost use Rattle.gs_translate.specs.Recodings.{pairs_target};
+ghost use Rattle.gs_translate.specs.Translations.{form_of};
+ghost use Rattle.gs_translate.specs.declared.form.Form.{Form};
 
-use crate::form::Form;
+use crate::form::{Form, PairsForm};
 use crate::reason::Reason;
-use crate::translator::narrowed;
 use gs_ai::Pair;
 use gs_chars::{LONGEST_TEXT, Memory, Text};
 use gs_dlink::read_link;
 use gs_element::{read_bracketed, read_raw};
 use gs_epc::{EpcReading, reading_of};
+use gs_grammar::MOST_SYMBOLS;
 use gs_ident::{IdentFault, Identity, make};
 use gs_tables::{LevelName, TableSet};
 use std::alloc::Global;
@@ -48,7 +50,8 @@ fn level_meaning(
         (Then (Reworded NoRoom NoEpc (ReadsText set.now level text.now)) (MeansEpc set.now) result) }
     ensures with_table { IfOk result (λ meaning. IsMadeWith set.now.ais meaning.identity) }
 {
-    let reading = reading_of(alloc, set, level, text)?;
+    let mut room = [0; MOST_SYMBOLS];
+    let reading = reading_of(alloc, set, level, text, &mut room)?;
     Ok(meaning_of(alloc, set, &reading)?)
 }
 
@@ -68,9 +71,9 @@ pub fn read(alloc: Global, set: &TableSet, form: Form, text: &[u8]) -> Result<Me
         Form::Hex => level_meaning(alloc, set, LevelName::Binary, text),
         Form::Tag => level_meaning(alloc, set, LevelName::Tag, text),
         Form::Pure => level_meaning(alloc, set, LevelName::Pure, text),
-        Form::Raw => raw_meaning(alloc, set, text),
-        Form::Bracketed => bracketed_meaning(alloc, set, text),
-        Form::Link => link_meaning(alloc, set, text),
+        Form::Raw => pairs_meaning(alloc, set, PairsForm::Raw, text),
+        Form::Bracketed => pairs_meaning(alloc, set, PairsForm::Bracketed, text),
+        Form::Link => pairs_meaning(alloc, set, PairsForm::Link, text),
     }
 }
 
@@ -98,75 +101,86 @@ impl Drop for Meaning {
     }
 }
 
-impl Meaning {
-    /// Returns the meaning with only the key, and its serial if that is a separate element. Copies no pair.
-    pub(crate) fn narrow(self, set: &TableSet) -> Meaning
-        requires { IsMadeWith set.now.ais self.identity }
-        ensures narrowed { result ≡ kept set.now true self }
-        ensures with_table { IsMadeWith set.now.ais result.identity }
-    {
-        let Meaning {
-            identity,
-            gcp,
-            filter,
-            encoding,
-        } = self;
-        Meaning {
-            identity: narrowed(set, identity),
-            gcp,
-            filter,
-            encoding,
-        }
+/// Returns the meaning of an identity that no EPC names.
+pub(crate) fn meaning_alone(alloc: Global, identity: Identity) -> Meaning
+    ensures { result ≡ identity_meaning identity }
+{
+    Meaning {
+        identity,
+        gcp: None,
+        filter: None,
+        encoding: Text::new(alloc),
     }
 }
 
-/// Returns the meaning of pairs: their identity, and nothing else. Returns `Ident` if and only if they have none, with the
-/// reason.
-fn meaning_of_pairs(alloc: Global, set: &TableSet, pairs: Vec<Pair>) -> Result<Meaning, Reason>
+/// Returns the identity of pairs. Returns `Ident` if and only if they have none, with the reason.
+fn identity_of(alloc: Global, set: &TableSet, pairs: Vec<Pair>) -> Result<Identity, Reason>
     requires { All (IsInOrder set.now.ais) pairs.items }
-    ensures meaning { UnlessMemory result (IsIdentified set.now pairs.items result) }
-    ensures with_table { IfOk result (λ meaning. IsMadeWith set.now.ais meaning.identity) }
+    ensures named { UnlessMemory result (IsIdentified set.now pairs.items (alone result)) }
+    ensures with_table { IfOk result (IsMadeWith set.now.ais) }
 {
     match make(alloc, set.ais(), pairs) {
-        Ok(identity) => Ok(Meaning {
-            identity,
-            gcp: None,
-            filter: None,
-            encoding: Text::new(alloc),
-        }),
+        Ok(identity) => Ok(identity),
         Err(IdentFault::Memory) => Err(Reason::Memory),
         Err(error) => Err(Reason::Ident(error)),
     }
 }
 
-/// Returns the meaning of an element string as a barcode scanner transmits it.
-pub(crate) fn raw_meaning(alloc: Global, set: &TableSet, text: &[u8]) -> Result<Meaning, Reason>
-    ensures meaning { UnlessMemory result (Then (ReadsRaw set.now text.now) (IsIdentified set.now) result) }
-    ensures with_table { IfOk result (λ meaning. IsMadeWith set.now.ais meaning.identity) }
+/// Returns the identity that an element string names as a barcode scanner transmits it.
+fn raw_identity(alloc: Global, set: &TableSet, text: &[u8]) -> Result<Identity, Reason>
+    ensures named { UnlessMemory result (Means set.now Form.Raw text.now (alone result)) }
+    ensures with_table { IfOk result (IsMadeWith set.now.ais) }
 {
     let pairs = read_raw(alloc, set.ais(), text)?;
-    meaning_of_pairs(alloc, set, pairs)
+    identity_of(alloc, set, pairs)
 }
 
-/// Returns the meaning of a bracketed element string (human readable interpretation).
-pub(crate) fn bracketed_meaning(
-    alloc: Global,
-    set: &TableSet,
-    text: &[u8],
-) -> Result<Meaning, Reason>
-    ensures meaning { UnlessMemory result
-        (Then (ReadsBracketed set.now text.now) (IsIdentified set.now) result) }
-    ensures with_table { IfOk result (λ meaning. IsMadeWith set.now.ais meaning.identity) }
+/// Returns the identity that a bracketed element string (human readable interpretation) names.
+fn bracketed_identity(alloc: Global, set: &TableSet, text: &[u8]) -> Result<Identity, Reason>
+    ensures named { UnlessMemory result (Means set.now Form.Bracketed text.now (alone result)) }
+    ensures with_table { IfOk result (IsMadeWith set.now.ais) }
 {
     let pairs = read_bracketed(alloc, set.ais(), text)?;
-    meaning_of_pairs(alloc, set, pairs)
+    identity_of(alloc, set, pairs)
 }
 
-/// Returns the meaning of a link.
-pub(crate) fn link_meaning(alloc: Global, set: &TableSet, text: &[u8]) -> Result<Meaning, Reason>
-    ensures meaning { UnlessMemory result (Then (ReadsLink set.now text.now) (IsIdentified set.now) result) }
-    ensures with_table { IfOk result (λ meaning. IsMadeWith set.now.ais meaning.identity) }
+/// Returns the identity that a link names.
+fn link_identity(alloc: Global, set: &TableSet, text: &[u8]) -> Result<Identity, Reason>
+    ensures named { UnlessMemory result (Means set.now Form.Link text.now (alone result)) }
+    ensures with_table { IfOk result (IsMadeWith set.now.ais) }
 {
     let pairs = read_link(alloc, set.ais(), text)?;
-    meaning_of_pairs(alloc, set, pairs)
+    identity_of(alloc, set, pairs)
+}
+
+/// Returns the identity that an element string or a link names, or why it names none, as `read` does for a text of at most 2,048
+/// bytes. A canonical link is a link.
+pub(crate) fn identity_in(
+    alloc: Global,
+    set: &TableSet,
+    form: PairsForm,
+    text: &[u8],
+) -> Result<Identity, Reason>
+    ensures named { UnlessMemory result
+        (Means set.now (form_of (pairs_target form)) text.now (alone result)) }
+    ensures with_table { IfOk result (IsMadeWith set.now.ais) }
+{
+    match form {
+        PairsForm::Raw => raw_identity(alloc, set, text),
+        PairsForm::Bracketed => bracketed_identity(alloc, set, text),
+        PairsForm::Link | PairsForm::Canon => link_identity(alloc, set, text),
+    }
+}
+
+/// Returns the meaning of an element string or a link.
+fn pairs_meaning(
+    alloc: Global,
+    set: &TableSet,
+    form: PairsForm,
+    text: &[u8],
+) -> Result<Meaning, Reason>
+    ensures meaning { UnlessMemory result (Means set.now (form_of (pairs_target form)) text.now result) }
+    ensures with_table { IfOk result (λ meaning. IsMadeWith set.now.ais meaning.identity) }
+{
+    Ok(meaning_alone(alloc, identity_in(alloc, set, form, text)?))
 }

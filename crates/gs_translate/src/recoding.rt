@@ -1,13 +1,13 @@
-ghost use Rattle.std.specs.Prelude.{◌≡◌, ◌++◌, IfOk, IfSome, List};
+ghost use Rattle.std.specs.Prelude.{◌≡◌, ◌++◌, IfOk, List};
 ghost use Rattle.gs_epc.specs.Epcs.{IsOfSet};
 ghost use Rattle.gs_epc.specs.Layout.{IsLaidOut};
 ghost use Rattle.gs_ident.specs.Elements.{Elements};
 ghost use Rattle.gs_prefix.specs.declared.entry.PrefixEntry.{PrefixEntry};
 ghost use Rattle.gs_translate.specs.Meanings.{epc_meaning};
-ghost use Rattle.gs_translate.specs.Recodings.{IsRecoded, form_at, pairs_text};
+ghost use Rattle.gs_translate.specs.Recodings.{IsRecoded, form_at, pairs_text, written_target};
 ghost use Rattle.gs_translate.specs.Steps.{AppendsText, UnlessMemory};
 ghost use Rattle.gs_translate.specs.Targets.{FitsFilter};
-ghost use Rattle.gs_translate.specs.Translations.{AreInOrder, IsSpelling, IsTranslation};
+ghost use Rattle.gs_translate.specs.Translations.{AreInOrder, IsSpelling, IsTranslation, form_of};
 
 use crate::form::{Form, Options, PairsForm, Target, Written};
 use crate::reason::Reason;
@@ -15,18 +15,22 @@ use crate::spelling::{append_epc, append_pairs, written_as};
 use crate::tag_fields::retagged;
 use gs_chars::{LONGEST_TEXT, Memory};
 use gs_epc::{EpcReading, reading_of};
+use gs_grammar::MOST_SYMBOLS;
+use gs_ident::CANONICAL_STEM;
 use gs_tables::{LevelName, TableSet};
 use std::alloc::Global;
 
-/// Returns the level of the texts of a form, if they are of EPCs.
-pub(crate) fn form_level(form: Form) -> Option<LevelName>
-    ensures { IfSome result (λ level. form ≡ form_at level) }
+/// Returns what texts of a form are read as.
+pub(crate) fn read_as(form: Form) -> Written
+    ensures { form ≡ form_of (written_target result) }
 {
     match form {
-        Form::Hex => Some(LevelName::Binary),
-        Form::Tag => Some(LevelName::Tag),
-        Form::Pure => Some(LevelName::Pure),
-        Form::Raw | Form::Bracketed | Form::Link => None,
+        Form::Hex => Written::Epc(LevelName::Binary),
+        Form::Tag => Written::Epc(LevelName::Tag),
+        Form::Pure => Written::Epc(LevelName::Pure),
+        Form::Raw => Written::Pairs(PairsForm::Raw),
+        Form::Bracketed => Written::Pairs(PairsForm::Bracketed),
+        Form::Link => Written::Pairs(PairsForm::Link),
     }
 }
 
@@ -63,8 +67,14 @@ fn append_laid_out(
     ensures { (identity : Elements) → IsLaidOut set.now reading.now identity → IfOk result (λ _.
         out.new.items ≡ out.old.items ++ pairs_text options.now to identity) }
 {
-    let identity = reading.identity(alloc, set)?;
-    append_pairs(set, options, to, &identity, out)
+    match to {
+        PairsForm::Canon => reading.append_link(alloc, set, CANONICAL_STEM.as_bytes(), out),
+        PairsForm::Link => reading.append_link(alloc, set, options.stem.as_bytes(), out),
+        PairsForm::Raw | PairsForm::Bracketed => {
+            let identity = reading.identity(alloc, set)?;
+            append_pairs(set, options, to, &identity, out)
+        }
+    }
 }
 
 /// Appends the spelling of an EPC in the requested form, or gives the first reason why there is none. For another EPC its identity
@@ -114,6 +124,7 @@ pub(crate) fn append_of_level(
     if text.len() > LONGEST_TEXT {
         return Err(Reason::Long);
     }
-    let reading = reading_of(alloc, set, from, text)?;
+    let mut room = [0; MOST_SYMBOLS];
+    let reading = reading_of(alloc, set, from, text, &mut room)?;
     append_reading(alloc, set, options, to, &reading, out)
 }

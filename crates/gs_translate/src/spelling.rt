@@ -3,13 +3,14 @@ ghost use Rattle.gs_epc.specs.declared.error.EpcWriteFault.TheVariants as write;
 ghost use Rattle.gs_epc.specs.Candidates.{HasFilterOn};
 ghost use Rattle.gs_epc.specs.Writes.{WritesAs};
 ghost use Rattle.gs_ident.specs.Identities.{IsMadeWith};
+ghost use Rattle.gs_translate.specs.Meanings.{identity_meaning};
 ghost use Rattle.gs_translate.specs.Recodings.{pairs_text, written_target};
 ghost use Rattle.gs_translate.specs.Steps.{AppendsText, Reworded, UnlessMemory};
 ghost use Rattle.gs_translate.specs.Targets.{FitsFilter};
 ghost use Rattle.gs_translate.specs.Translations.{AreInOrder, IsOfLevel, IsSpelling, write_reason};
 
 use crate::form::{Options, PairsForm, Target, Written};
-use crate::reader::Meaning;
+use crate::reader::{Meaning, meaning_alone};
 use crate::reason::Reason;
 use crate::tag_fields::epc_for;
 use gs_chars::Memory;
@@ -92,25 +93,28 @@ pub(crate) fn append_pairs(
     }
 }
 
-/// Appends the one spelling of a meaning in the requested form, or returns the first reason why there is none. For a link or an
-/// element string it takes no fields apart.
+/// Appends the one spelling of an identity that no EPC names in the requested form, or returns the first reason why there is
+/// none. For a link or an element string it takes no fields apart.
 pub(crate) fn append_spelling(
     alloc: Global,
     set: &TableSet,
     prefixes: &PrefixList,
     options: &Options,
     to: Target,
-    meaning: &Meaning,
+    identity: Identity,
     out: &mut Vec<u8>,
 ) -> Result<(), Reason>
     requires options { AreInOrder options.now }
-    requires filter { FitsFilter meaning.now.filter }
-    requires with_table { IsMadeWith set.now.ais meaning.now.identity }
+    requires with_table { IsMadeWith set.now.ais identity }
     ensures { UnlessMemory result (AppendsText
-        (IsSpelling set.now prefixes.now options.now to meaning.now) out.old.items out.new.items result) }
+        (IsSpelling set.now prefixes.now options.now to (identity_meaning identity))
+        out.old.items out.new.items result) }
 {
     match written_as(to) {
-        Written::Epc(level) => append_meaning(alloc, set, prefixes, options, level, meaning, out),
-        Written::Pairs(form) => Ok(append_pairs(set, options, form, &meaning.identity, out)?),
+        Written::Epc(level) => {
+            let meaning = meaning_alone(alloc, identity);
+            append_meaning(alloc, set, prefixes, options, level, &meaning, out)
+        }
+        Written::Pairs(form) => Ok(append_pairs(set, options, form, &identity, out)?),
     }
 }

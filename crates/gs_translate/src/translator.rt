@@ -1,16 +1,18 @@
 ghost use Rattle.std.specs.Prelude.{◌≡◌, [], IfOk, find};
 ghost use Rattle.gs_translate.specs.Steps.{AppendsText, UnlessMemory};
-ghost use Rattle.gs_translate.specs.Translations.{IsTranslated, AreInOrder, IsTranslation};
+ghost use Rattle.gs_translate.specs.Meanings.{identity_meaning};
+ghost use Rattle.gs_translate.specs.Recodings.{pairs_target};
+ghost use Rattle.gs_translate.specs.Translations.{IsTranslated, AreInOrder, IsTranslation, form_of};
 ghost use Rattle.std.specs.Option.{option_copied};
 ghost use Rattle.gs_ident.specs.Identities.{IsMadeWith};
-ghost use Rattle.gs_translate.specs.Targets.{has_key, key_and_serial, narrowed};
+ghost use Rattle.gs_translate.specs.Targets.{has_key, kept, key_and_serial, narrowed};
 
-use crate::form::{Form, Options, Target};
-use crate::reader::read;
+use crate::form::{Form, Options, PairsForm, Target, Written};
+use crate::reader::identity_in;
 use crate::reason::Reason;
-use crate::recoding::{append_of_level, form_level};
+use crate::recoding::{append_of_level, read_as};
 use crate::spelling::append_spelling;
-use gs_chars::{Memory, Text};
+use gs_chars::{LONGEST_TEXT, Memory, Text};
 use gs_ident::{Identity, Pair};
 use gs_prefix::PrefixList;
 use gs_tables::{Kind, SerialAt, TableSet};
@@ -63,41 +65,40 @@ impl Translator<'_> {
         ensures { UnlessMemory result (AppendsText
             (IsTranslated self.now text.now) out.old.items out.new.items result) }
     {
-        match form_level(self.from) {
-            Some(from) => {
+        match read_as(self.from) {
+            Written::Epc(from) => {
                 append_of_level(alloc, self.set, self.options, from, self.to, text, out)
             }
-            None => self.append_named(alloc, text, out),
+            Written::Pairs(from) => self.append_named(alloc, from, text, out),
         }
     }
 
-    /// Appends the translation of a text by the identity that it names, or gives why it is rejected.
-    fn append_named(&self, alloc: Global, text: &[u8], out: &mut Vec<u8>) -> Result<(), Reason>
+    /// Appends the translation of an element string or a link by the identity that it names, or gives why it is rejected.
+    fn append_named(
+        &self,
+        alloc: Global,
+        from: PairsForm,
+        text: &[u8],
+        out: &mut Vec<u8>,
+    ) -> Result<(), Reason>
+        requires { self.now.from ≡ form_of (pairs_target from) }
         ensures { UnlessMemory result (AppendsText
             (IsTranslated self.now text.now) out.old.items out.new.items result) }
     {
         // only for the proof: the rows satisfy the rules of tables
         let _ = self.set.ais();
-        let meaning = read(alloc, self.set, self.from, text)?;
-        if !self.options.keys_only {
-            return append_spelling(
-                alloc,
-                self.set,
-                self.prefixes,
-                self.options,
-                self.to,
-                &meaning,
-                out,
-            );
+        if text.len() > LONGEST_TEXT {
+            return Err(Reason::Long);
         }
-        let meaning = meaning.narrow(self.set);
+        let named = identity_in(alloc, self.set, from, text)?;
+        let identity = kept(self.set, self.options.keys_only, named);
         append_spelling(
             alloc,
             self.set,
             self.prefixes,
             self.options,
             self.to,
-            &meaning,
+            identity,
             out,
         )
     }
@@ -164,8 +165,21 @@ fn kind_of<'a>(set: &'a TableSet, key: &Pair) -> Option<&'a Kind>
     set.kinds().iter().find(|kind| key.code == kind.key)
 }
 
+/// Returns the identity, with only its key kept if only keys are.
+fn kept(set: &TableSet, keys_only: bool, identity: Identity) -> Identity
+    requires { IsMadeWith set.now.ais identity }
+    ensures kept { identity_meaning result ≡ kept set.now keys_only (identity_meaning identity) }
+    ensures with_table { IsMadeWith set.now.ais result }
+{
+    if keys_only {
+        narrowed(set, identity)
+    } else {
+        identity
+    }
+}
+
 /// Returns the identity with only its key kept, by the kind of the key.
-pub(crate) fn narrowed(set: &TableSet, identity: Identity) -> Identity
+fn narrowed(set: &TableSet, identity: Identity) -> Identity
     requires { IsMadeWith set.now.ais identity }
     ensures narrowed { result ≡ narrowed set.now identity }
     ensures with_table { IsMadeWith set.now.ais result }

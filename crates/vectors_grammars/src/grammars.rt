@@ -10,7 +10,7 @@ ghost use Rattle.gs_grammar.specs.Levels.{AreOfKind, OptionForm};
 
 use crate::bits::{add_bits, buffer};
 use gs_bits::BitBuf;
-use gs_chars::Text;
+use gs_chars::{CowText, Memory, Text};
 use gs_grammar::{Item, Opt, OptFault, WriteFault, holds, read_option, write_bits, write_text};
 use std::alloc::Global;
 use vectors_cases::{Done, Line, Rejection, behind, bytes_at, item_of, named, push};
@@ -156,6 +156,17 @@ fn add_error(line: &mut Line, error: WriteFault) {
     }
 }
 
+/// Returns the values, lent.
+fn lent<'a>(alloc: Global, values: &'a [Text]) -> Result<Vec<CowText<'a>>, Memory>
+    ensures { IfOk result (λ lent. lent.items ≡ values.now) }
+{
+    let mut lent = Vec::with_capacity(alloc, values.len())?;
+    for value in values {
+        lent.push(CowText::lent(value.as_bytes()))?;
+    }
+    Ok(lent)
+}
+
 fn text_written(alloc: Global, line: &mut Line, words: &[Text]) -> Done {
     let (items, values) = halves(words)?;
     let option = option_of(alloc, false, items)?;
@@ -169,7 +180,8 @@ fn add_text(alloc: Global, line: &mut Line, option: &Opt, values: &[Text]) -> Do
     if values.len() != option.items().len() {
         return Err(Rejection::NoCase);
     }
-    match write_text(alloc, option, values) {
+    let values = lent(alloc, values)?;
+    match write_text(alloc, option, values.as_slice()) {
         Ok(text) => line.text(text),
         Err(error) => add_error(line, error),
     }
@@ -189,8 +201,9 @@ fn add_bits_of(alloc: Global, line: &mut Line, option: &Opt, values: &[Text]) ->
     if values.len() != option.items().len() || option.size() > 512 {
         return Err(Rejection::NoCase);
     }
+    let values = lent(alloc, values)?;
     let mut bits = BitBuf::<64>::new();
-    match write_bits(option, values, &mut bits) {
+    match write_bits(option, values.as_slice(), &mut bits) {
         Ok(()) => add_bits(alloc, line, &bits),
         Err(error) => add_error(line, error),
     }

@@ -10,6 +10,7 @@
 use crate::bits::buffer;
 use crate::grammars::{is_bits, options_of};
 use gs_chars::{Memory, Text};
+use gs_grammar::MOST_SYMBOLS;
 use gs_grammar_level::{Level, Reading, Shared, read_bits, read_text};
 use std::alloc::Global;
 use vectors_cases::{Done, Line, Rejection, behind, bytes_at, named};
@@ -49,11 +50,13 @@ fn level_of(alloc: Global, bit_level: bool, words: &[Text]) -> Result<Level, Rej
 }
 
 /// Writes a reading.
-fn add_reading(line: &mut Line, reading: Reading) {
+fn add_reading(line: &mut Line, reading: Reading<'_>) {
     match reading {
         Reading::One { option, values } => {
             line.debug(option);
-            line.texts(values.items());
+            for value in values.items() {
+                line.bytes(value.as_bytes());
+            }
         }
         Reading::Nothing => line.plain("Nothing"),
         Reading::Memory => line.want_memory(),
@@ -108,7 +111,10 @@ fn bits_read(alloc: Global, line: &mut Line, digits: &[u8], words: &[Text]) -> D
     match level.first_share(alloc) {
         Ok(Some(pair)) => add_pair(line, pair),
         Err(Memory) => line.want_memory(),
-        Ok(None) => add_reading(line, read_bits(alloc, &level, &bits)),
+        Ok(None) => {
+            let mut room = [0; MOST_SYMBOLS];
+            add_reading(line, read_bits(alloc, &level, &bits, &mut room));
+        }
     }
     Ok(())
 }

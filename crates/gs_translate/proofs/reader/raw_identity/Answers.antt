@@ -4,14 +4,14 @@ use Rattle.gs_element.specs.Raw.{IsRaw, IsRawError}
 use Rattle.gs_translate.specs.Steps.{goes_on}
 use Rattle.gs_translate.proofs.PairLaws.{elements_rejected}
 use Rattle.gs_translate.proofs.StepLaws.{unless_map}
-use Rattle.gs_translate.proofs.reader.raw_meaning.Goals as goal
+use Rattle.gs_translate.proofs.reader.raw_identity.Goals as goal
 
-pub returns-clause-meaning : goal.returns-clause-meaning
-returns-clause-meaning c =
-    unless_map c.meaning_of_pairs.result (λ identified. goes_on c.in_ok-pairs.pairs.items (rw c.ais.ensures.rows at c.in_ok-pairs.ensures.read) identified) c.meaning_of_pairs.ensures.meaning
+pub returns-clause-named : goal.returns-clause-named
+returns-clause-named c =
+    unless_map c.identity_of.result (λ named. goes_on c.in_ok-pairs.pairs.items (rw c.ais.ensures.rows at c.in_ok-pairs.ensures.read) named) c.identity_of.ensures.named
 
-pub returns-in_err-pairs-clause-meaning : goal.returns-in_err-pairs-clause-meaning
-returns-in_err-pairs-clause-meaning c =
+pub returns-in_err-pairs-clause-named : goal.returns-in_err-pairs-clause-named
+returns-in_err-pairs-clause-named c =
     let p = err_from_is_err_and c.from_residual.result c.from_residual.ensures.1 in
     let table = c.args.set.now.ais in
     let text = c.args.text.now in

@@ -1,8 +1,8 @@
-use Rattle.std.proofs.Common.{◌≡◌, ◌<◌, Result, Ok, Err, false, true, length, ap, ◌∙◌, arith}
+use Rattle.std.proofs.Common.{◌≡◌, ◌<◌, Result, Ok, Err, false, true, length, ap, arith}
 use Rattle.std.specs.Result.{OnOk, is_err}
 use Rattle.gs_chars.specs.declared.memory.Memory.{Memory}
 use Rattle.gs_grammar.proofs.WritingLemmas.{bounds_at, held_at, word_step, words_end}
-use Rattle.gs_grammar.proofs.text_writer.write_text.Goals as goal
+use Rattle.gs_grammar.proofs.text_writer.append_text.Goals as goal
 
 pub push_word-requires-clause-item : goal.push_word-requires-clause-item
 push_word-requires-clause-item c =
@@ -32,7 +32,7 @@ loop-number-preserved c =
 
 pub returns-clause-written : goal.returns-clause-written
 returns-clause-written c =
-    c.from_vec.ensures ∙ rw c.items-items.ensures.items at (words_end _ _ _ _ _ c.loop-number-test.false c.loop-number.invariant)
+    rw c.items-items.ensures.items at (words_end _ _ _ _ _ c.loop-number-test.false c.loop-number.invariant)
 
 pub returns-clause-held : goal.returns-clause-held
 returns-clause-held c = λ ok. rw c.items-items.ensures.items at c.in_default.ensures.none
