@@ -1,5 +1,5 @@
 -- Which values items hold: those for which there is no reason against are those that have a word.
-use Rattle.std.proofs.Common.{◌≡◌, ◌↔◌, ℕ, ◌<◌, ◌≤◌, ◌+◌, ◌-◌, ◌*◌, ◌^◌, ◌&&◌, ◌||◌, Bool, true, false, not, List, [], ◌∷◌, ◌++◌, length, zero, suc, get_or, ◌/◌, ◌%◌, Some, None, Result, Ok, Err, IsOk, MatchResult, refl, sym, ◌∙◌, ap, arith, leb, eqb, decimal, inr, replicate, length-append}
+use Rattle.std.proofs.Common.{◌≡◌, ◌↔◌, ℕ, ◌<◌, ◌≤◌, ◌+◌, ◌-◌, ◌*◌, ◌^◌, ◌&&◌, ◌||◌, ◌⊎◌, Bool, true, false, not, List, [], ◌∷◌, ◌++◌, length, zero, suc, get_or, ◌/◌, ◌%◌, Some, None, Result, Ok, Err, IsOk, MatchResult, refl, sym, ◌∙◌, ap, arith, leb, ltb, eqb, decimal, inl, inr, replicate, length-append}
 use Rattle.std.specs.List.{flat_map}
 use Rattle.std.proofs.lemmas.Bool.{leb-true}
 use Rattle.std.proofs.lemmas.Bool.Decides.{nat_tests}
@@ -19,6 +19,7 @@ use Rattle.gs_grammar.specs.declared.error.Why.{Why}
 use Rattle.gs_grammar.specs.declared.error.Why.TheVariants.{Char, Length, Zero, Large}
 use Rattle.gs_grammar.specs.Items.{is_between}
 use Rattle.gs_grammar.specs.ItemsSupport.{greatest_of}
+use Rattle.gs_grammar.specs.Numerals.{NoNumeral}
 use Rattle.gs_grammar.specs.Words.{Word, SpellsEach, no_more, one_more, decimal_value, written_word}
 use Rattle.gs_grammar.specs.WrittenWords.{first_reason, has_leading_zero, why_not}
 use Rattle.gs_grammar.proofs.Numbers.{numeral_is, value_decimal, digits_of_decimal, leading_zero}
@@ -147,17 +148,53 @@ held_word (Fill a b) value i h =
 count_is : (value : List ℕ) (n : ℕ) → length value ≡ n → not (eqb (length value) n) ≡ false
 count_is value n h = not_true (eqb (length value) n) (grind (arith, nat_tests))
 
-numeral_reasons : (value : List ℕ) (number : ℕ) (large : Bool) → number < 2 ^ 64 → value ≡ decimal number → (decimal_value value ≡ number → large ≡ true → ⊥) → first_reason (not (are_digits value)) (eqb (length value) 0) (has_leading_zero value) large ≡ None
-numeral_reasons value number large small e f =
+-- a numeral is of digits, not empty, and without a leading zero
+pub record IsPlain (value : List ℕ) (number : ℕ) : Type 0 where
+  pub char : not (are_digits value) ≡ false
+  pub size : eqb (length value) 0 ≡ false
+  pub zero : has_leading_zero value ≡ false
+  pub is : decimal_value value ≡ number
+
+pub numeral_plain : (value : List ℕ) (number : ℕ) → number < 2 ^ 64 → value ≡ decimal number → IsPlain value number
+numeral_plain value number small e =
     let digits : are_digits value ≡ true = ap are_digits e ∙ digits_of_decimal number small in
     let some = decimal_nonempty number small in
     let l = ap length e in
-    let v : decimal_value value ≡ number = ap decimal_value e ∙ value_decimal number small in
-    reason_none (not (are_digits value)) (eqb (length value) 0) (has_leading_zero value) large
-    (not_true (are_digits value) digits)
-    (false_from (eqb (length value) 0) (λ t. let z : length value ≡ 0 = grind (arith, nat_tests) in omega arith))
-    (false_from (has_leading_zero value) (λ t. leading_zero value (has_leading_zero value) refl t number small e))
-    (false_from large (f v))
+    record {
+      char = not_true (are_digits value) digits;
+      size = false_from (eqb (length value) 0) (λ t. let z : length value ≡ 0 = grind (arith, nat_tests) in omega arith);
+      zero = false_from (has_leading_zero value) (λ t. leading_zero value (has_leading_zero value) refl t number small e);
+      is = ap decimal_value e ∙ value_decimal number small;
+    }
+
+plain_reason : (value : List ℕ) (number greatest bits : ℕ) (large : Bool) → IsPlain value number → (leb (suc greatest) number || leb (2 ^ bits) number) ≡ large → why_not (Num bits greatest) value ≡ first_reason false false false large
+plain_reason value number greatest bits large p e = rw (p.char, p.size, p.zero, p.is, e) refl
+
+pub plain_held : (value : List ℕ) (number greatest bits : ℕ) → IsPlain value number → number ≤ greatest → true ≡ ltb number (2 ^ bits) → why_not (Num bits greatest) value ≡ None
+plain_held value number greatest bits p small fits = plain_reason value number greatest bits false p (grind (arith, nat_tests))
+
+pub plain_large : (value : List ℕ) (number greatest bits : ℕ) → IsPlain value number → greatest < number ⊎ (false ≡ ltb number (2 ^ bits)) → why_not (Num bits greatest) value ≡ Some Large
+plain_large value number greatest bits p (inl above) = plain_reason value number greatest bits true p (grind (arith, nat_tests))
+plain_large value number greatest bits p (inr full) = plain_reason value number greatest bits true p (grind (arith, nat_tests))
+
+numeral_reasons : (value : List ℕ) (number : ℕ) (large : Bool) → number < 2 ^ 64 → value ≡ decimal number → (decimal_value value ≡ number → large ≡ true → ⊥) → first_reason (not (are_digits value)) (eqb (length value) 0) (has_leading_zero value) large ≡ None
+numeral_reasons value number large small e f =
+    let p = numeral_plain value number small e in
+    reason_none (not (are_digits value)) (eqb (length value) 0) (has_leading_zero value) large p.char p.size p.zero (false_from large (f p.is))
+
+same_reason : (a b c d : Bool) → (a ≡ false → b ≡ false → c ≡ false → d ≡ false → ⊥) → first_reason a b c true ≡ first_reason a b c d
+same_reason true b c d h = refl
+same_reason false true c d h = refl
+same_reason false false true d h = refl
+same_reason false false false true h = refl
+same_reason false false false false h = absurd (h refl refl refl refl)
+
+-- against what is no numeral there is a reason, if none other that it is too large
+pub no_numeral : (value : List ℕ) (greatest bits : ℕ) → greatest < 2 ^ 64 → NoNumeral value → first_reason (not (are_digits value)) (eqb (length value) 0) (has_leading_zero value) true ≡ why_not (Num bits greatest) value
+no_numeral value greatest bits g none =
+    same_reason (not (are_digits value)) (eqb (length value) 0) (has_leading_zero value) (leb (suc greatest) (decimal_value value) || leb (2 ^ bits) (decimal_value value)) (λ c s z l.
+    let t = numeral_text value greatest g (record { char = c; size = s; zero = z; large = (or_parts (leb (suc greatest) (decimal_value value)) (leb (2 ^ bits) (decimal_value value)) l).0 }) in
+    none (decimal_value value) (let m = t.0 in omega arith) t.1)
 
 above_or_full : (number greatest bits value : ℕ) → number ≤ greatest → number < 2 ^ bits → value ≡ number → (leb (suc greatest) value || leb (2 ^ bits) value) ≡ true → ⊥
 above_or_full number greatest bits value s f e t = grind (arith, nat_tests)

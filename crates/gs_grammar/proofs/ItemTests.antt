@@ -1,5 +1,5 @@
 -- The reader's tests of a list of symbols decide whether it is a word of an item, and the value of the word.
-use Rattle.std.proofs.Common.{◌≡◌, ◌↔◌, ℕ, ◌<◌, ◌≤◌, ◌-◌, ◌^◌, ◌∷◌, ◌&&◌, ◌⊎◌, Bool, true, false, IsTrue, nat_eq, Option, Some, None, IfSome, IfNone, List, length, take, refl, sym, ◌∙◌, ap, arith, leb, decimal, inl, inr}
+use Rattle.std.proofs.Common.{◌≡◌, ◌↔◌, ℕ, ◌<◌, ◌≤◌, ◌^◌, ◌∷◌, ◌&&◌, ◌⊎◌, Bool, true, false, IsTrue, nat_eq, Option, Some, None, IfSome, IfNone, List, length, take, refl, sym, ◌∙◌, ap, arith, leb, decimal, inl, inr}
 use Rattle.std.proofs.lemmas.Bool.{leb-true, le-leb}
 use Rattle.std.proofs.lemmas.List.{length-take-le}
 use Rattle.std.proofs.lemmas.Bool.Decides.{nat_tests}
@@ -159,11 +159,7 @@ numpad_value item bits n number w out i e p =
 pub num_writes : (item : Item) (bits greatest : ℕ) (w : List ℕ) → item ≡ Num bits greatest → IsWord item w → (number : ℕ) × WritesNumber bits number w
 num_writes item bits greatest w i h = let k : IsWord (Num bits greatest) w = rw i at h in (k.1.0, k.1.1.1)
 
--- an item that is a number in bits, of either kind
-abbrev pub IsBits : Item → ℕ → Type 0
-IsBits item bits = ((n : ℕ) × (item ≡ NumPad bits n)) ⊎ ((greatest : ℕ) × (item ≡ Num bits greatest))
-
--- or of digits after a 1
+-- an item that is a number in bits, of any kind
 abbrev pub IsNumber : Item → ℕ → Type 0
 IsNumber item bits = ((n : ℕ) × (item ≡ NumPad bits n)) ⊎ (((greatest : ℕ) × (item ≡ Num bits greatest)) ⊎ ((hi : ℕ) × (item ≡ NumStr bits hi)))
 

@@ -9,8 +9,7 @@ use Rattle.std.proofs.lemmas.Str.Parse.{IsNumeralModel, numerals_by_weight, digi
 use Rattle.std.proofs.lemmas.Fmt.{digits_value-decimal, digits_decimal, decimal-digits_value, length-decimal-le, decimal_nonempty, first_decimal, decimal_digit}
 use Rattle.gs_chars.specs.Characters.{are_digits, is_digit}
 use Rattle.gs_grammar.specs.Words.{decimal_value}
-use Rattle.gs_grammar.specs.Numerals.{WritesSmall}
-use Rattle.gs_grammar.specs.NumeralsSupport.{IsPadded}
+use Rattle.gs_grammar.specs.NumeralsSupport.{IsPadded, WritesSmall, number_behind}
 
 pub own : IsNumeralModel (λ ds. are_digits ds ≡ true) decimal_value
 own = numerals_by_weight _ (search rules) decimal_value (search rules)
@@ -263,11 +262,11 @@ numeral_is symbols number empty zero_first e f z g d v small =
     grind (arith, nat_tests) in
     numeral_whole symbols number some alone d v small
 
-pub numeral_gives : (symbols : List ℕ) (result : Option ℕ) (empty zero_first : Bool) → empty ≡ eqb (length symbols) 0 → empty ≡ false → zero_first ≡ (leb 2 (length symbols) && eqb (get_or symbols 0 0) 48) → zero_first ≡ false → SomeIff result (WritesSmall symbols) (decimal_value symbols) → IfSome result (λ number. symbols ≡ decimal number)
-numeral_gives symbols (Some number) empty zero_first e f z g h = numeral_is symbols number empty zero_first e f z g h.0.0 h.1 (let s = h.0.1 in let v = h.1 in omega arith)
+pub numeral_gives : (symbols : List ℕ) (result : Option ℕ) (empty zero_first : Bool) → empty ≡ eqb (length symbols) 0 → empty ≡ false → zero_first ≡ (leb 2 (length symbols) && eqb (get_or symbols 0 0) 48) → zero_first ≡ false → SomeIff result (WritesSmall 0 symbols) (number_behind 0 symbols) → IfSome result (λ number. symbols ≡ decimal number)
+numeral_gives symbols (Some number) empty zero_first e f z g h = numeral_is symbols number empty zero_first e f z g h.0.0 (let v = h.1 in omega arith) (let s = h.0.1 in let v = h.1 in omega arith)
 numeral_gives symbols None empty zero_first e f z g h = tt
 
-pub numeral_lacks : (symbols : List ℕ) (result : Option ℕ) → SomeIff result (WritesSmall symbols) (decimal_value symbols) → IfNone result ((number : ℕ) → number < 2 ^ 64 → symbols ≡ decimal number → ⊥)
+pub numeral_lacks : (symbols : List ℕ) (result : Option ℕ) → SomeIff result (WritesSmall 0 symbols) (number_behind 0 symbols) → IfNone result ((number : ℕ) → number < 2 ^ 64 → symbols ≡ decimal number → ⊥)
 numeral_lacks symbols (Some number) h = tt
 numeral_lacks symbols None h = λ number small e.
     h (ap are_digits e ∙ digits_of_decimal number small, let v = ap decimal_value e ∙ value_decimal number small in omega arith)

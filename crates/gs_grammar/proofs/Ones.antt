@@ -1,5 +1,5 @@
 -- Numbers whose digits are a 1 and others after it.
-use Rattle.std.proofs.Common.{◌≡◌, ℕ, ◌<◌, ◌≤◌, ◌+◌, ◌-◌, ◌*◌, ◌^◌, ◌⊎◌, IsTrue, List, ◌∷◌, length, inl, inr, refl, ◌∙◌, ap, suc, arith, decimal}
+use Rattle.std.proofs.Common.{◌≡◌, ℕ, ◌<◌, ◌≤◌, ◌+◌, ◌-◌, ◌*◌, ◌^◌, IsTrue, List, ◌∷◌, length, inl, inr, refl, ◌∙◌, ap, suc, arith, decimal}
 use Rattle.std.proofs.Math.Nat.{pow-le-pow_right, pow-succ', one-le-pow}
 use Rattle.std.proofs.lemmas.Bool.{cases_lt, cases_eq}
 use Rattle.gs_chars.specs.Characters.{are_digits}

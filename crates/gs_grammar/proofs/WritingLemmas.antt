@@ -1,18 +1,20 @@
 -- The written values of an option, word by word.
-use Rattle.std.proofs.Common.{◌≡◌, ℕ, ◌<◌, ◌≤◌, ◌+◌, ◌-◌, ◌*◌, ◌^◌, suc, Bool, true, List, [], ◌∷◌, ◌++◌, length, get_or, drop, replicate, Some, None, refl, sym, ◌∙◌, ap, subst, arith, All, inl, inr, length-append}
-use Rattle.std.specs.List.{AllPass, flat_map, list_all, position, slice_get}
+use Rattle.std.proofs.Common.{◌≡◌, ℕ, ◌↔◌, ◌<◌, ◌≤◌, ◌+◌, ◌-◌, ◌*◌, ◌^◌, zero, suc, Bool, true, false, IsTrue, List, [], ◌∷◌, ◌++◌, length, get_or, take, drop, replicate, Some, None, refl, sym, ◌∙◌, ap, arith, All, inl, inr, length-append}
+use Rattle.std.specs.Int.{from_bool}
+use Rattle.std.specs.List.{flat_map, list_all, position, slice_get}
 use Rattle.std.proofs.Math.Pow.{pow_mono}
 use Rattle.std.proofs.lemmas.Bool.{cases_eq, ltb-true}
-use Rattle.std.proofs.lemmas.List.{drop_more, drop_all, append_assoc, append-nil, length-drop, length-replicate}
+use Rattle.std.proofs.lemmas.List.{drop_more, drop_all, take_more, take-append-le, length-take-le, length-take, append_assoc, append-nil, length-drop, length-replicate}
 use Rattle.std.proofs.lemmas.List.Elements.{All-cons, All-nil, All-head, All-tail}
 use Rattle.gs_chars.specs.Characters.{are_in_set82, is_in_set82}
 use Rattle.gs_chars.proofs.TruthsAndLists.{and_parts, read_at}
 use Rattle.gs_bits.specs.Bits.{AreBits, bits_of, number_of}
 use Rattle.gs_bits.specs.BitLaws.{bits_of-number_of}
 use Rattle.gs_grammar.specs.declared.item.Item.{Item}
-use Rattle.gs_grammar.specs.declared.item.Item.TheVariants.{Lit, NumPad, Num, Ascii7}
+use Rattle.gs_grammar.specs.declared.item.Item.TheVariants.{Lit, NumPad, Num, NumStr, Ascii7}
 use Rattle.gs_grammar.specs.declared.error.Why.{Why}
 use Rattle.gs_grammar.specs.Items.{is_bad, is_between, is_in_bounds, is_symbol, IsItem, size_of, size_of_all}
+use Rattle.gs_grammar.specs.ItemsSupport.{number_of_value, IsIfSmall}
 use Rattle.gs_grammar.specs.Words.{decimal_value, written_word}
 use Rattle.gs_grammar.specs.Derivations.{no_item, one_item, Derives, OneDerivation}
 use Rattle.gs_grammar.specs.Ambiguity.{IsUnambiguous}
@@ -21,7 +23,7 @@ use Rattle.gs_grammar.proofs.OneReading.{only_derivation}
 use Rattle.gs_grammar.proofs.HoldLemmas.{held_word, packed_length}
 use Rattle.gs_grammar.proofs.Packs.{set82_bounds}
 use Rattle.gs_grammar.proofs.WordLaws.{none_bad, of_level, word_length, greatest_small, numpad_bounds, num_bounds}
-use Rattle.gs_grammar.proofs.ItemTests.{IsBits}
+use Rattle.gs_grammar.proofs.ItemTests.{IsNumber, bits_width}
 use Rattle.gs_grammar.proofs.Numbers.{value_decimal}
 
 -- one more piece of a text
@@ -62,6 +64,26 @@ zeros_end t all count place l e =
     let none : replicate (count - place) 0 ≡ [] = same_zeros (count - place) 0 n in
     sym (append-nil t) ∙ ap (λ r. t ++ r) (sym none) ∙ e
 
+-- the first bits of a buffer, one by one
+
+bit_is : (value : Bool) (bit : ℕ) → bit < 2 → IsTrue value ↔ (bit ≡ 1) → from_bool value ≡ bit
+bit_is true bit l h = sym (h.0 refl)
+bit_is false zero l h = refl
+bit_is false (suc zero) l h = let f : false ≡ true = h.1 refl in cc
+bit_is false (suc (suc bit)) l h = absurd (omega arith)
+
+pub first_step : (t bits : List ℕ) (place : ℕ) (value : Bool) → t ≡ take place bits → place < length bits → AreBits bits → IsTrue value ↔ (get_or bits place 0 ≡ 1) → t ++ bits_of 1 (from_bool value) ≡ take (place + 1) bits
+first_step t bits place value e l b h =
+    let bit = bit_is value (get_or bits place 0) (b place 0 l) h in
+    let one = one_bit (get_or bits place 0) (b place 0 l) in
+    rw (e, bit, one) (sym (take_more bits place 0 l))
+
+pub first_room : (t bits : List ℕ) (place total : ℕ) → t ≡ take place bits → place < length bits → length bits ≤ total → length t + 1 ≤ total
+first_room t bits place total e l r =
+    let m = ap length e in
+    let n = length-take-le place bits (omega arith) in
+    omega arith
+
 -- items that hold their values, one by one
 
 pub held_step : (items : List Item) (values : List (List ℕ)) (k : ℕ) (item : Item) (value : List ℕ) → AreHeldBefore items values k → k < length items → k < length values → item ≡ get_or items k item → value ≡ get_or values k value → why_not item value ≡ None → AreHeldBefore items values (k + 1)
@@ -77,9 +99,6 @@ held_step items values k item value h l m e f n j other v b p q = elim (cases_eq
 
 pub rejected_at : (items : List Item) (values : List (List ℕ)) (k : ℕ) (item : Item) (value : List ℕ) (why : Why) → AreHeldBefore items values k → k < length items → k < length values → item ≡ get_or items k item → value ≡ get_or values k value → why_not item value ≡ Some why → IsFirstRejection items values k why
 rejected_at items values k item value why h l m e f r = record { item = item; value = value; item_at = read_at items k item l e; value_at = read_at values k value m f; reason = r; before = h }
-
-pub held_at : (items : List Item) (values : List (List ℕ)) (k : ℕ) (item : Item) (value : List ℕ) → AreHeld items values → k < length items → k < length values → item ≡ get_or items k item → value ≡ get_or values k value → why_not item value ≡ None
-held_at items values k item value h l m e f = h k item value l (read_at items k item l e) (read_at values k value m f)
 
 pub held_all : (items : List Item) (values : List (List ℕ)) (k : ℕ) → AreHeldBefore items values k → length items ≤ k → AreHeld items values
 held_all items values k h l j item value b p q = h j item value (omega arith) p q
@@ -97,6 +116,14 @@ word_step items values k item value t all l m e f h =
     let v : drop k values ≡ value ∷ drop (k + 1) values = drop_more values k value m ∙ ap (λ (x : List ℕ). x ∷ drop (k + 1) values) (sym f) in
     let more : written (drop k items) (drop k values) ≡ written_word item value ++ written (drop (k + 1) items) (drop (k + 1) values) = rw (i, v) refl in
     append_assoc t (written_word item value) (written (drop (k + 1) items) (drop (k + 1) values)) ∙ ap (λ r. t ++ r) (sym more) ∙ h
+
+-- what is written keeps the front
+pub front_step : (first t w : List ℕ) → take (length first) t ≡ first → take (length first) (t ++ w) ≡ first
+front_step first t w e =
+    let m : length (take (length first) t) ≡ length first = ap length e in
+    let n = length-take (length first) t in
+    let within : length first ≤ length t = omega arith in
+    take-append-le (length first) t w within ∙ e
 
 pub words_end : (items : List Item) (values : List (List ℕ)) (k : ℕ) (t all : List ℕ) → length items ≤ k → t ++ written (drop k items) (drop k values) ≡ all → t ≡ all
 words_end items values k t all l h =
@@ -164,19 +191,36 @@ num_held bits greatest value b h =
     let value_is : decimal_value value ≡ w.0 = ap decimal_value w.1.0.text ∙ value_decimal w.0 (omega arith) in
     (m.1, omega arith)
 
+numstr_held : (bits hi : ℕ) (value : List ℕ) → is_in_bounds true (NumStr bits hi) ≡ true → why_not (NumStr bits hi) value ≡ None → (bits ≤ 64) × (decimal_value (49 ∷ value) < 2 ^ bits)
+numstr_held bits hi value b h =
+    let g = of_level true (NumStr bits hi) b in
+    let w = held_word (NumStr bits hi) value (greatest_small (NumStr bits hi) g) h in
+    (bits_width (NumStr bits hi) bits (inr (inr (hi, refl))) g, w.2.fits)
+
 -- a number in bits that an item holds has room in them
-pub bits_held : (item : Item) (bits : ℕ) (value : List ℕ) → IsBits item bits → is_in_bounds true item ≡ true → why_not item value ≡ None → (bits ≤ 64) × (decimal_value value < 2 ^ bits)
-bits_held item bits value (inl i) b h = numpad_held bits i.0 value (rw i.1 at b) (rw i.1 at h)
-bits_held item bits value (inr i) b h = num_held bits i.0 value (rw i.1 at b) (rw i.1 at h)
+number_held : (item : Item) (bits : ℕ) (value : List ℕ) → IsNumber item bits → is_in_bounds true item ≡ true → why_not item value ≡ None → (bits ≤ 64) × (number_of_value item value < 2 ^ bits)
+number_held item bits value (inl i) b h = rw i.1 (numpad_held bits i.0 value (rw i.1 at b) (rw i.1 at h))
+number_held item bits value (inr (inl i)) b h = rw i.1 (num_held bits i.0 value (rw i.1 at b) (rw i.1 at h))
+number_held item bits value (inr (inr i)) b h = rw i.1 (numstr_held bits i.0 value (rw i.1 at b) (rw i.1 at h))
 
--- of either kind the written word is the number of the value in these bits
-pub bits_written : (item : Item) (bits : ℕ) (value : List ℕ) → IsBits item bits → written_word item value ≡ bits_of bits (decimal_value value)
-bits_written item bits value (inl i) = ap (λ (x : Item). written_word x value) i.1
-bits_written item bits value (inr i) = ap (λ (x : Item). written_word x value) i.1
+number_written : (item : Item) (bits : ℕ) (value : List ℕ) → IsNumber item bits → written_word item value ≡ bits_of bits (number_of_value item value)
+number_written item bits value (inl i) = rw i.1 refl
+number_written item bits value (inr (inl i)) = rw i.1 refl
+number_written item bits value (inr (inr i)) = rw i.1 refl
 
-pub bits_size : (item : Item) (bits : ℕ) → IsBits item bits → size_of item ≡ bits
+-- of each kind the written word is the number of the value in these bits
+pub bits_held : (item : Item) (bits number : ℕ) (value : List ℕ) → IsNumber item bits → is_in_bounds true item ≡ true → why_not item value ≡ None → IsIfSmall number (number_of_value item value) → (bits ≤ 64) × (number < 2 ^ bits) × (written_word item value ≡ bits_of bits number)
+bits_held item bits number value i b h s =
+    let held = number_held item bits value i b h in
+    let fits = held.1 in
+    let power : 2 ^ bits ≤ 2 ^ 64 = pow_mono held.0 in
+    let same : number ≡ number_of_value item value = s (omega arith) in
+    (held.0, rw same fits, rw same (number_written item bits value i))
+
+pub bits_size : (item : Item) (bits : ℕ) → IsNumber item bits → size_of item ≡ bits
 bits_size item bits (inl i) = ap size_of i.1
-bits_size item bits (inr i) = ap size_of i.1
+bits_size item bits (inr (inl i)) = ap size_of i.1
+bits_size item bits (inr (inr i)) = ap size_of i.1
 
 pub ascii_held : (item : Item) (lo hi bits : ℕ) (value : List ℕ) → item ≡ Ascii7 lo hi bits → is_in_bounds true item ≡ true → why_not item value ≡ None → All (λ c. c < 128) value × (7 * length value ≤ bits)
 ascii_held item lo hi bits value i b h =
@@ -236,12 +280,6 @@ room_step items k item value out total l e b h r =
     let w = written_size true item value b h in
     let a = length-append out (written_word item value) in
     omega arith
-
-pub all_bounds : (bit_level : Bool) (items : List Item) → bit_level ≡ true → position (is_bad bit_level) items ≡ None → AllPass (is_in_bounds true) items
-all_bounds bit_level items e h k d l = rw e at (none_bad bit_level items h k d l)
-
-pub bound_at : (items : List Item) (k : ℕ) (item : Item) → AllPass (is_in_bounds true) items → k < length items → item ≡ get_or items k item → is_in_bounds true item ≡ true
-bound_at items k item h l e = subst (λ (x : Item). is_in_bounds true x ≡ true) (sym e) (h k item l)
 
 pub written_read : (level : List (List Item)) (option : ℕ) (items : List Item) (values : List (List ℕ)) → IsUnambiguous level → slice_get level option ≡ Some items → All IsItem items → length values ≡ length items → AreHeld items values → OneDerivation level (written items values) option values
 written_read level option items values clear at i l h =

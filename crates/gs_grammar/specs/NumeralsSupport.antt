@@ -8,6 +8,10 @@ use Rattle.gs_grammar.specs.Words.{decimal_value}
 abbrev pub number_behind : ℕ → List ℕ → ℕ
 number_behind front digits = front * 10 ^ length digits + decimal_value digits
 
+-- the symbols are digits, which write a number below 2 to the 64 after another
+abbrev pub WritesSmall : ℕ → List ℕ → Type 0
+WritesSmall front symbols = IsTrue (are_digits symbols) × (number_behind front symbols < 2 ^ 64)
+
 -- these are n digits that write the number
 pub record IsPadded (n number : ℕ) (digits : List ℕ) : Type 0 where
   pub count : length digits ≡ n

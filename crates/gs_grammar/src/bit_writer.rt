@@ -1,16 +1,14 @@
-ghost use Rattle.std.specs.Prelude.{◌≡◌, ◌∷◌, ◌++◌, ◌+◌, ◌*◌, ◌^◌, ◌<◌, ◌≤◌, All, IsOk, IfErr, OnOk, OnErr, None, true, length, replicate, flat_map};
-ghost use Rattle.std.specs.List.{AllPass};
+ghost use Rattle.std.specs.Prelude.{◌≡◌, ◌++◌, ◌+◌, ◌*◌, ◌^◌, ◌<◌, ◌≤◌, All, IsOk, IfErr, OnOk, OnErr, true, length, replicate, take, flat_map};
 ghost use Rattle.gs_bits.specs.Bits.{AreBits, bits_of};
 ghost use Rattle.gs_grammar.specs.Items.{is_in_bounds, size_of, size_of_all};
-ghost use Rattle.gs_grammar.specs.Words.{written_word, decimal_value};
-ghost use Rattle.gs_grammar.specs.WrittenWords.{why_not, written, AreHeld, IsHoldError};
+ghost use Rattle.gs_grammar.specs.Words.{written_word};
+ghost use Rattle.gs_grammar.specs.WrittenWords.{why_not, written, AreHeld, GivesReason, IsHoldError};
 
 use crate::bit_words::number_in_bits;
-use crate::error::WriteFault;
+use crate::error::{Why, WriteFault};
 use crate::item::Item;
-use crate::numerals::{decimal_number, decimal_number_behind};
 use crate::opt::Opt;
-use crate::text_writer::first_rejection;
+use crate::value_test::judged;
 use gs_bits::BitBuf;
 use gs_chars::CowText;
 
@@ -73,43 +71,20 @@ fn push_characters<const N: usize>(value: &[u8], out: &mut BitBuf<N>)
     }
 }
 
-/// Appends the number that digits write, which is below 2 to the 64.
-fn push_decimal<const N: usize>(digits: &[u8], bits: u8, out: &mut BitBuf<N>)
-    requires width { bits ≤ 64 }
-    requires fits { decimal_value digits.now < 2 ^ bits }
-    requires room { length out.old + bits ≤ 8 * N }
-    ensures { out.new ≡ out.old ++ bits_of bits (decimal_value digits.now) }
-{
-    match decimal_number(digits) {
-        Some(number) => push_number(number, u32::from(bits), out),
-        None => unreachable!(),
-    }
-}
-
-/// Appends the number that a 1 and the digits after it write, which is below 2 to the 64.
-fn push_behind_one<const N: usize>(digits: &[u8], bits: u8, out: &mut BitBuf<N>)
-    requires width { bits ≤ 64 }
-    requires fits { decimal_value (49 ∷ digits.now) < 2 ^ bits }
-    requires room { length out.old + bits ≤ 8 * N }
-    ensures { out.new ≡ out.old ++ bits_of bits (decimal_value (49 ∷ digits.now)) }
-{
-    match decimal_number_behind(1, digits) {
-        Some(number) => push_number(number, u32::from(bits), out),
-        None => unreachable!(),
-    }
-}
-
-/// Appends the written word of a value.
-fn push_bit_word<const N: usize>(item: &Item, value: &[u8], out: &mut BitBuf<N>)
+/// Appends the written word of a value, or returns the first reason why the item has none.
+fn push_bit_word<const N: usize>(item: &Item, value: &[u8], out: &mut BitBuf<N>) -> Result<(), Why>
     requires item { is_in_bounds true item.now ≡ true }
-    requires held { why_not item.now value.now ≡ None }
     requires room { length out.old + size_of item.now ≤ 8 * N }
-    ensures { out.new ≡ out.old ++ written_word item.now value.now }
+    ensures reason { GivesReason result (why_not item.now value.now) }
+    ensures written { OnOk result (out.new ≡ out.old ++ written_word item.now value.now) }
+    ensures unchanged { OnErr result (out.new ≡ out.old) }
 {
+    let number = judged(item, value)?;
     match item {
         Item::Lit(literal) => push_literal(literal.as_bytes(), out),
-        Item::NumPad { bits, .. } | Item::Num { bits, .. } => push_decimal(value, *bits, out),
-        Item::NumStr { bits, .. } => push_behind_one(value, *bits, out),
+        Item::NumPad { bits, .. } | Item::Num { bits, .. } | Item::NumStr { bits, .. } => {
+            push_number(number, u32::from(*bits), out)
+        }
         Item::Ascii7 { bits, .. } => {
             push_characters(value, out);
             push_zeros(usize::from(*bits) - 7 * value.len(), out);
@@ -117,20 +92,19 @@ fn push_bit_word<const N: usize>(item: &Item, value: &[u8], out: &mut BitBuf<N>)
         Item::Fill { b, .. } => push_zeros(usize::from(*b), out),
         _ => unreachable!(),
     }
+    Ok(())
 }
 
-/// Appends the written words of the values, joined.
-fn push_words<const N: usize>(items: &[Item], values: &[CowText<'_>], out: &mut BitBuf<N>)
-    requires one_each { length values.now ≡ length items.now }
-    requires bounds { AllPass (is_in_bounds true) items.now }
-    requires held { AreHeld items.now values.now }
-    requires room { length out.old + size_of_all items.now ≤ 8 * N }
-    ensures { out.new ≡ out.old ++ written items.now values.now }
+/// Returns the first bits of a buffer, all if it has no more.
+fn first_bits<const N: usize>(bits: &BitBuf<N>, most: usize) -> BitBuf<N>
+    ensures { result ≡ take most bits.now }
 {
-    for (number, item) in items.iter().enumerate() {
-        let value = &values[number];
-        push_bit_word(item, value.as_bytes(), out);
+    let count = bits.len().min(most);
+    let mut first = BitBuf::new();
+    for place in 0..count {
+        push_number(u64::from(bits.get(place)), 1, &mut first);
     }
+    first
 }
 
 /// Appends the written words of the values to the bits: one value for each item of an option of a bit level. `CannotHold` is
@@ -150,10 +124,13 @@ pub fn write_bits<const N: usize>(
     ensures rejected { IfErr result (λ error. IsHoldError option.now.items values.now error) }
     ensures unchanged { OnErr result (out.new ≡ out.old) }
 {
-    let items = option.items();
-    if let Some((item, why)) = first_rejection(items, values) {
-        return Err(WriteFault::CannotHold { item, why });
+    let before = out.len();
+    for (number, item) in option.items().iter().enumerate() {
+        let value = values[number].as_bytes();
+        if let Err(why) = push_bit_word(item, value, out) {
+            *out = first_bits(out, before);
+            return Err(WriteFault::CannotHold { item: number, why });
+        }
     }
-    push_words(items, values, out);
     Ok(())
 }

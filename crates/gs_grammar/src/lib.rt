@@ -1,7 +1,8 @@
 //! The grammar of options: items, the words of their values, and the texts and bits that options write.
 //!
 //! - `Item` is a literal, digits, a number, a text with escapes, or one of these in bits; `Opt` is a list of items.
-//! - `write_text` and `write_bits` write values by an option, and `append_text` appends them; `holds` says whether an item holds a value, or why not.
+//! - `write_text` and `write_bits` write values by an option, and `append_text` appends them; `holds` says whether an item
+//!   holds a value, or why not.
 //! - `read_option` says whether bits are written by an option, and gives its numbers.
 //!
 //! # Example

@@ -1,8 +1,7 @@
-ghost use Rattle.std.specs.Prelude.{◌≡◌, ◌↔◌, ◌^◌, ◌*◌, ◌+◌, ℕ, ◌<◌, ◌≤◌, List, IsTrue, IfSome, IfNone, IfOk, SomeIff, length, decimal, nat_lt};
-ghost use Rattle.gs_grammar.specs.Numerals.{NoNumeral, WritesSmall};
-ghost use Rattle.gs_grammar.specs.NumeralsSupport.{IsPadded, number_behind};
+ghost use Rattle.std.specs.Prelude.{◌≡◌, ◌↔◌, ◌^◌, ◌*◌, ◌+◌, ℕ, ◌<◌, ◌≤◌, IsTrue, IfSome, IfNone, IfOk, SomeIff, length, decimal, nat_lt};
+ghost use Rattle.gs_grammar.specs.Numerals.{NoNumeral};
+ghost use Rattle.gs_grammar.specs.NumeralsSupport.{IsPadded, WritesSmall, number_behind};
 ghost use Rattle.gs_grammar.specs.Languages.{IsOneBehind};
-ghost use Rattle.gs_grammar.specs.Words.{decimal_value};
 ghost use Rattle.gs_grammar.specs.WrittenWords.{has_leading_zero};
 
 use crate::bit_words::WideNumber;
@@ -64,26 +63,6 @@ pub fn digits_behind_one(number: u64, most: u8) -> Option<u8>
     Some(count as u8)
 }
 
-/// Returns the number that a number and decimal digits after it write. `None` is returned if and only if it is not below 2 to the
-/// 64.
-pub fn decimal_number_behind(front: u64, digits: &[u8]) -> Option<u64>
-    ensures { SomeIff result (number_behind front digits.now < 2 ^ 64) (number_behind front digits.now) }
-{
-    let mut number = front;
-    for digit in digits {
-        let shifted = number.checked_mul(10)?;
-        number = shifted.checked_add(u64::from(digit.saturating_sub(b'0')))?;
-    }
-    Some(number)
-}
-
-/// Returns the number that decimal digits write. `None` is returned if and only if it is not below 2 to the 64.
-pub fn decimal_number(digits: &[u8]) -> Option<u64>
-    ensures { SomeIff result (decimal_value digits.now < 2 ^ 64) (decimal_value digits.now) }
-{
-    decimal_number_behind(0, digits)
-}
-
 /// Returns the number that a digit's number and decimal digits after it write. `None` is returned if and only if it is not below
 /// 2 to the 256.
 fn wide_number_behind(front: u8, digits: &[u8]) -> Option<WideNumber>
@@ -106,12 +85,12 @@ pub fn fits_wide_bits(front: u8, digits: &[u8], bits: u8) -> bool
     }
 }
 
-/// Returns the number that the symbols write. `None` is returned if and only if one of them is not a digit, or the number is not
-/// below 2 to the 64.
-fn number_of_digits(symbols: &[u8]) -> Option<u64>
-    ensures { SomeIff result (WritesSmall symbols.now) (decimal_value symbols.now) }
+/// Returns the number that a digit's number and the digits after it write. `None` is returned if and only if a symbol is not a
+/// digit, or the number is not below 2 to the 64.
+pub fn number_of_digits(front: u8, symbols: &[u8]) -> Option<u64>
+    ensures { SomeIff result (WritesSmall front symbols.now) (number_behind front symbols.now) }
 {
-    let mut number: u64 = 0;
+    let mut number = u64::from(front);
     for symbol in symbols {
         if !CharSet::Digits.holds(*symbol) {
             return None;
@@ -134,7 +113,7 @@ pub fn numeral(symbols: &[u8]) -> Option<u64>
     if has_leading_zero(symbols) {
         return None;
     }
-    number_of_digits(symbols)
+    number_of_digits(0, symbols)
 }
 
 /// Returns the n digits of a number, leading zeros. n is at most 18, and the number has no more digits.

@@ -1,32 +1,16 @@
-ghost use Rattle.std.specs.Prelude.{◌≡◌, ◌++◌, IsTrue, IsOk, IfOk, IfErr, IfSome, IfNone, OnOk, None, true, false, length, flat_map};
+ghost use Rattle.std.specs.Prelude.{◌≡◌, ◌++◌, IsTrue, IsOk, IfOk, IfErr, OnOk, None, true, false, length, flat_map};
 ghost use Rattle.gs_chars.specs.Characters.{are_in_set82};
 ghost use Rattle.gs_chars.specs.Escapes.{written_spelling};
 ghost use Rattle.gs_grammar.specs.Items.{is_in_bounds};
 ghost use Rattle.gs_grammar.specs.Words.{written_word};
-ghost use Rattle.gs_grammar.specs.WrittenWords.{why_not, written, AreHeld, IsFirstRejection, IsWriteFault, LeavesUnlessMemory};
+ghost use Rattle.gs_grammar.specs.WrittenWords.{why_not, written, AreHeld, IsWriteFault, LeavesUnlessMemory};
 
-use crate::error::{Why, WriteFault};
+use crate::error::WriteFault;
 use crate::item::Item;
 use crate::opt::Opt;
 use crate::value_test::holds;
 use gs_chars::{CowText, Memory, Text, write_escape};
 use std::alloc::Global;
-
-/// Returns the number of the first item that does not hold its value, and why. There are as many values as items. `None` is
-/// returned if and only if each is held.
-pub fn first_rejection(items: &[Item], values: &[CowText<'_>]) -> Option<(usize, Why)>
-    requires { length values.now ≡ length items.now }
-    ensures some { IfSome result (λ r. IsFirstRejection items.now values.now r.0 r.1) }
-    ensures none { IfNone result (AreHeld items.now values.now) }
-{
-    for (number, item) in items.iter().enumerate() {
-        let value = &values[number];
-        if let Err(why) = holds(item, value.as_bytes()) {
-            return Some((number, why));
-        }
-    }
-    None
-}
 
 /// Appends the written spelling of each character.
 fn push_spellings(value: &[u8], text: &mut Vec<u8>) -> Result<(), Memory>
@@ -71,13 +55,14 @@ pub fn append_text(
     ensures rejected { IfErr result (λ error. IsWriteFault option.now.items values.now error) }
     ensures unchanged { IfErr result (LeavesUnlessMemory text.old.items text.new.items) }
 {
-    let items = option.items();
-    if let Some((item, why)) = first_rejection(items, values) {
-        return Err(WriteFault::CannotHold { item, why });
-    }
-    for (number, item) in items.iter().enumerate() {
-        let value = &values[number];
-        if push_word(item, value.as_bytes(), text).is_err() {
+    let before = text.len();
+    for (number, item) in option.items().iter().enumerate() {
+        let value = values[number].as_bytes();
+        if let Err(why) = holds(item, value) {
+            text.truncate(before);
+            return Err(WriteFault::CannotHold { item: number, why });
+        }
+        if push_word(item, value, text).is_err() {
             return Err(WriteFault::Memory);
         }
     }

@@ -1,20 +1,22 @@
-ghost use Rattle.std.specs.Prelude.{◌≡◌, ◌==◌, ◌∷◌, ◌↔◌, ◌*◌, ◌^◌, ◌&&◌, ◌||◌, ◌<◌, ℕ, List, Bool, false, length, nat_lt, nat_le};
-ghost use Rattle.std.specs.Prelude.{IsOk, Some, None, not};
-ghost use Rattle.gs_chars.specs.Characters.{are_digits, are_in_set82};
+ghost use Rattle.std.specs.Prelude.{◌≡◌, ◌==◌, ◌↔◌, ◌*◌, ◌^◌, ◌&&◌, ◌<◌, ℕ, List, false, length, nat_le};
+ghost use Rattle.std.specs.Prelude.{IsOk, IfOk, Some, is_none};
+ghost use Rattle.gs_chars.specs.Characters.{are_in_set82};
+ghost use Rattle.gs_grammar.specs.declared.item.Item.TheVariants.{Num};
 ghost use Rattle.gs_grammar.specs.Items.{is_between};
-ghost use Rattle.gs_grammar.specs.ItemsSupport.{greatest_of};
+ghost use Rattle.gs_grammar.specs.ItemsSupport.{greatest_of, number_of_value, IsIfSmall, IsJudged, digits_reason};
 ghost use Rattle.gs_grammar.specs.NumeralsSupport.{number_behind};
 ghost use Rattle.gs_grammar.specs.Words.{Word, decimal_value};
-ghost use Rattle.gs_grammar.specs.WrittenWords.{GivesReason, first_reason, has_leading_zero, is_too_large, why_not};
+ghost use Rattle.gs_grammar.specs.WrittenWords.{GivesReason, first_reason, why_not};
 
 use crate::error::Why;
 use crate::item::{Item, fits_bits, is_within};
-use crate::numerals::{decimal_number, decimal_number_behind, fits_wide_bits, has_leading_zero};
+use crate::numerals::{fits_wide_bits, has_leading_zero, number_of_digits, numeral};
 use gs_chars::{CharSet, are_digits};
 
-/// Returns the first reason that applies.
-fn judge(char: bool, size: bool, zero: bool, large: bool) -> Result<(), Why>
-    ensures { GivesReason result (first_reason char size zero large) }
+/// Returns the number, or the first reason that applies. A number that is too large is `None`.
+fn judge(char: bool, size: bool, zero: bool, number: Option<u64>) -> Result<u64, Why>
+    ensures reason { IsJudged result (first_reason char size zero (is_none number)) }
+    ensures number { IfOk result (λ judged. number ≡ Some judged) }
 {
     if char {
         return Err(Why::Char);
@@ -25,14 +27,15 @@ fn judge(char: bool, size: bool, zero: bool, large: bool) -> Result<(), Why>
     if zero {
         return Err(Why::Zero);
     }
-    if large { Err(Why::Large) } else { Ok(()) }
+    number.ok_or(Why::Large)
 }
 
-/// Returns the first reason that applies to a text: a character of it, or its length.
-fn judge_text(char: bool, size: bool) -> Result<(), Why>
-    ensures { GivesReason result (first_reason char size false false) }
+/// Returns 0, or the first reason that applies to a text: a character of it, or its length.
+fn judge_text(char: bool, size: bool) -> Result<u64, Why>
+    ensures reason { IsJudged result (first_reason char size false false) }
+    ensures number { IfOk result (λ number. number ≡ 0) }
 {
-    judge(char, size, false, false)
+    judge(char, size, false, Some(0))
 }
 
 /// Returns whether each character is one of the set of 82.
@@ -44,50 +47,6 @@ fn all_in_set82(value: &[u8]) -> bool
         .all(|character| CharSet::Set82.holds(*character))
 }
 
-/// Returns whether the number that the characters write is above the greatest.
-fn is_above(value: &[u8], greatest: u64) -> bool
-    ensures { result ≡ nat_lt greatest (decimal_value value.now) }
-{
-    match decimal_number(value) {
-        Some(number) => greatest < number,
-        None => true,
-    }
-}
-
-/// Returns whether the number that a digit's number and the characters after it write has no room in this many bits.
-fn exceeds(front: u8, value: &[u8], bits: u8) -> bool
-    ensures { result ≡ nat_le (2 ^ bits) (number_behind front value.now) }
-{
-    match decimal_number_behind(u64::from(front), value) {
-        Some(number) => !fits_bits(number, bits),
-        None => bits <= 64 || !fits_wide_bits(front, value, bits),
-    }
-}
-
-/// Returns whether the number that the characters write has no room in this many bits.
-fn is_too_wide(value: &[u8], bits: u8) -> bool
-    ensures { result ≡ nat_le (2 ^ bits) (decimal_value value.now) }
-{
-    exceeds(0, value, bits)
-}
-
-/// Returns whether the number that a 1 and the characters after it write has no room in this many bits.
-fn is_too_wide_behind_one(value: &[u8], bits: u8) -> bool
-    ensures { result ≡ nat_le (2 ^ bits) (decimal_value (49 ∷ value.now)) }
-{
-    exceeds(1, value, bits)
-}
-
-/// Returns whether the number that the characters write is above the greatest, or has no room in this many bits.
-fn is_too_large(value: &[u8], greatest: u64, bits: u8) -> bool
-    ensures { result ≡ is_too_large bits greatest value.now }
-{
-    match decimal_number(value) {
-        Some(number) => greatest < number || !fits_bits(number, bits),
-        None => true,
-    }
-}
-
 /// Returns whether the number of characters is within the two bounds, and 7 bits of each have room.
 fn is_packable(lo: u8, hi: u8, bits: u16, count: usize) -> bool
     ensures { result ≡ (is_between lo hi count && nat_le (7 * count) bits) }
@@ -95,24 +54,48 @@ fn is_packable(lo: u8, hi: u8, bits: u16, count: usize) -> bool
     is_within(usize::from(lo), usize::from(hi), count) && count <= usize::from(bits / 7)
 }
 
-/// Returns the first reason why the characters do not write a number without leading zeros that is small enough.
-fn judge_number(value: &[u8], large: bool) -> Result<(), Why>
-    ensures { GivesReason result
-        (first_reason (not (are_digits value.now)) (length value.now == 0)
-        (has_leading_zero value.now) large) }
+/// Returns the number that a digit's number and the characters after it write, or the first reason against it: a character, the
+/// size, or that it has no room in this many bits. A number that is not below 2 to the 64 is given as 0.
+fn judge_digits(front: u8, value: &[u8], size: bool, bits: u8) -> Result<u64, Why>
+    ensures reason { IsJudged result (digits_reason front value.now size bits) }
+    ensures number { IfOk result (λ number. IsIfSmall number (number_behind front value.now)) }
 {
-    judge(
-        !are_digits(value),
-        value.len() == 0,
-        has_leading_zero(value),
-        large,
-    )
+    match number_of_digits(front, value) {
+        Some(number) => {
+            let room = fits_bits(number, bits);
+            judge(false, size, false, room.then_some(number))
+        }
+        None => {
+            let room = bits > 64 && fits_wide_bits(front, value, bits);
+            judge(!are_digits(value), size, false, room.then_some(0))
+        }
+    }
 }
 
-/// Returns the first reason why the item has no word for the value. The greatest number of an item has at most 64 bits.
-fn reason_against(item: &Item, value: &[u8]) -> Result<(), Why>
+/// Returns the number that the characters write, or the first reason why they do not write a number without leading zeros that
+/// is at most the greatest and has room in this many bits.
+fn judge_number(value: &[u8], greatest: u64, bits: u8) -> Result<u64, Why>
+    ensures reason { IsJudged result (why_not (Num bits greatest) value.now) }
+    ensures number { IfOk result (λ number. number ≡ decimal_value value.now) }
+{
+    match numeral(value) {
+        Some(number) if number <= greatest && fits_bits(number, bits) => Ok(number),
+        Some(_) => Err(Why::Large),
+        None => judge(
+            !are_digits(value),
+            value.len() == 0,
+            has_leading_zero(value),
+            None,
+        ),
+    }
+}
+
+/// Returns the number of the word that an item has for the value, or the first reason why it has none. The number of a word
+/// without one is 0. The greatest number of an item has at most 64 bits.
+pub fn judged(item: &Item, value: &[u8]) -> Result<u64, Why>
     ensures greatest { greatest_of item.now < 2 ^ 64 }
-    ensures reason { GivesReason result (why_not item.now value.now) }
+    ensures reason { IsJudged result (why_not item.now value.now) }
+    ensures number { IfOk result (λ number. IsIfSmall number (number_of_value item.now value.now)) }
 {
     let count = value.len();
     match item {
@@ -121,22 +104,19 @@ fn reason_against(item: &Item, value: &[u8]) -> Result<(), Why>
             !are_digits(value),
             !is_within(usize::from(*lo), usize::from(*hi), count),
         ),
-        Item::Int { max } => judge_number(value, is_above(value, *max)),
+        Item::Int { max } => judge_number(value, *max, 64),
         Item::Esc { lo, hi } => judge_text(
             !all_in_set82(value),
             !is_within(usize::from(*lo), usize::from(*hi), count),
         ),
-        Item::NumPad { bits, n } => judge(
-            !are_digits(value),
-            count != usize::from(*n),
-            false,
-            is_too_wide(value, *bits),
-        ),
-        Item::Num { bits, max } => judge_number(value, is_too_large(value, *max, *bits)),
-        Item::NumStr { bits, hi } => judge_text(
-            !are_digits(value),
-            !is_within(1, usize::from(*hi), count) || is_too_wide_behind_one(value, *bits),
-        ),
+        Item::NumPad { bits, n } => judge_digits(0, value, count != usize::from(*n), *bits),
+        Item::Num { bits, max } => judge_number(value, *max, *bits),
+        Item::NumStr { bits, hi } => {
+            match judge_digits(1, value, !is_within(1, usize::from(*hi), count), *bits) {
+                Err(Why::Large) => Err(Why::Length),
+                judged => judged,
+            }
+        }
         Item::Ascii7 { lo, hi, bits } => judge_text(
             !all_in_set82(value),
             !is_packable(*lo, *hi, *bits, count),
@@ -151,5 +131,6 @@ pub fn holds(item: &Item, value: &[u8]) -> Result<(), Why>
     ensures reason { GivesReason result (why_not item.now value.now) }
     ensures word { IsOk result ↔ ((w : List ℕ) × Word item.now value.now w) }
 {
-    reason_against(item, value)
+    judged(item, value)?;
+    Ok(())
 }

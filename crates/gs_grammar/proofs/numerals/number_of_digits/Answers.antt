@@ -1,6 +1,6 @@
 use Rattle.std.proofs.Common.{arith, refl, true, rules, ◌≡◌, ◌≤◌, ◌^◌, ◌+◌, ◌*◌, ◌-◌, get_or}
 use Rattle.gs_chars.specs.Characters.{is_digit}
-use Rattle.gs_grammar.proofs.Numbers.{too_great, after_zero, digits_more, digits_whole, value_more, value_whole}
+use Rattle.gs_grammar.proofs.Numbers.{too_great, after_is, digits_more, digits_whole, value_more, value_whole}
 use Rattle.gs_grammar.proofs.numerals.number_of_digits.Goals as goal
 
 pub returns-in_err-shifted : goal.returns-in_err-shifted
@@ -16,7 +16,7 @@ returns-in_err-number c =
     rw c.from_residual-in_err-number.ensures (λ h. too_great _ _ _ _ _ c.loop-symbol-test.true c.loop-symbol.invariant.value large h.1)
 
 pub loop-symbol-init : goal.loop-symbol-init
-loop-symbol-init c = record { digits = refl; value = after_zero _; small = omega arith }
+loop-symbol-init c = record { digits = refl; value = rw c.from-number.ensures (after_is _ _); small = omega arith }
 
 pub loop-symbol-preserved : goal.loop-symbol-preserved
 loop-symbol-preserved c =

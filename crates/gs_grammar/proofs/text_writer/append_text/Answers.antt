@@ -1,22 +1,17 @@
-use Rattle.std.proofs.Common.{◌≡◌, ◌<◌, Result, Ok, Err, false, true, length, ap, arith}
+use Rattle.std.proofs.Common.{◌≡◌, ◌<◌, Result, Ok, Err, false, true, length, refl, arith}
 use Rattle.std.specs.Result.{OnOk, is_err}
+use Rattle.std.proofs.lemmas.List.{take_all}
 use Rattle.gs_chars.specs.declared.memory.Memory.{Memory}
-use Rattle.gs_grammar.proofs.WritingLemmas.{bounds_at, held_at, word_step, words_end}
+use Rattle.gs_grammar.proofs.WritingLemmas.{bounds_at, front_step, held_step, held_all, rejected_at, word_step, words_end}
 use Rattle.gs_grammar.proofs.text_writer.append_text.Goals as goal
 
 pub push_word-requires-clause-item : goal.push_word-requires-clause-item
 push_word-requires-clause-item c =
-    let none = rw (← c.items-items.ensures.items) at c.items-items.ensures.in_bounds.none_bad in
-    bounds_at _ _ _ _ _ c.requires.text_level none c.loop-number-test.true c.index-items-number.is
+    let same = c.items-item-items.ensures.items in
+    bounds_at _ _ _ _ _ c.requires.text_level c.items-item-items.ensures.in_bounds.none_bad (rw same at c.loop-number-test.true) (rw same at c.item-item.is)
 
-pub push_word-requires-clause-held : goal.push_word-requires-clause-held
-push_word-requires-clause-held c =
-    let n = c.requires.one_each in
-    let m = c.items-items.ensures.items in
-    let t = c.loop-number-test.true in
-    let l = ap length m in
-    let within : c.loop-number.number < length c.args.values.now = omega arith in
-    rw c.as_bytes.ensures (held_at _ _ _ _ _ c.in_default.ensures.none t within c.index-items-number.is c.index-values-number.is)
+pub loop-number-init : goal.loop-number-init
+loop-number-init c = record { held = λ k item value l p q. absurd (omega arith); whole = refl; front = take_all _ _ (omega arith) }
 
 went_well : {P : Type 0} (r : Result (Unit {0}) Memory) → OnOk r P → false ≡ is_err r → P
 went_well (Ok x) h e = h
@@ -24,18 +19,36 @@ went_well (Err x) h e = absurd (let f : false ≡ true = e in cc)
 
 pub loop-number-preserved : goal.loop-number-preserved
 loop-number-preserved c =
+    let same = c.items-item-items.ensures.items in
+    let t = rw same at c.loop-number-test.true in
     let n = c.requires.one_each in
-    let m = ap length c.items-items.ensures.items in
-    let t = c.loop-number-test.true in
     let within : c.loop-number.number < length c.args.values.now = omega arith in
-    rw (went_well c.push_word.result c.push_word.ensures c.if-is_err.ensures.value, c.as_bytes.ensures) (word_step _ _ _ _ _ _ _ t within c.index-items-number.is c.index-values-number.is c.loop-number.invariant)
+    let item = rw same at c.item-item.is in
+    let value = c.index-values-number.is in
+    let bytes = c.as_bytes-value.ensures in
+    let pushed = went_well c.push_word.result c.push_word.ensures c.if-is_err.ensures.value in
+    record {
+      held = held_step _ _ _ _ _ c.loop-number.invariant.held t within item value (rw bytes at c.in_default.ensures.reason);
+      whole = rw (pushed, bytes) (word_step _ _ _ _ _ _ _ t within item value c.loop-number.invariant.whole);
+      front = rw pushed (front_step _ _ _ c.loop-number.invariant.front);
+    }
+
+pub returns-in-Err-clause-unchanged : goal.returns-in-Err-clause-unchanged
+returns-in-Err-clause-unchanged c =
+    let count : c.len-before.result ≡ length c.args.text.now.items = let n = c.len-before.ensures in omega arith in
+    rw (c.truncate.ensures.items, count) c.loop-number.invariant.front
+
+pub returns-in-Err-clause-rejected : goal.returns-in-Err-clause-rejected
+returns-in-Err-clause-rejected c =
+    let same = c.items-item-items.ensures.items in
+    let t = rw same at c.loop-number-test.true in
+    let n = c.requires.one_each in
+    let within : c.loop-number.number < length c.args.values.now = omega arith in
+    let reason = rw c.as_bytes-value.ensures at c.in-Err.ensures.reason in
+    rejected_at _ _ _ _ _ _ c.loop-number.invariant.held t within (rw same at c.item-item.is) c.index-values-number.is reason
 
 pub returns-clause-written : goal.returns-clause-written
-returns-clause-written c =
-    rw c.items-items.ensures.items at (words_end _ _ _ _ _ c.loop-number-test.false c.loop-number.invariant)
+returns-clause-written c = words_end _ _ _ _ _ (rw c.items-item-items.ensures.items at c.loop-number-test.false) c.loop-number.invariant.whole
 
 pub returns-clause-held : goal.returns-clause-held
-returns-clause-held c = λ ok. rw c.items-items.ensures.items at c.in_default.ensures.none
-
-pub returns-in-Some-clause-rejected : goal.returns-in-Some-clause-rejected
-returns-in-Some-clause-rejected c = rw c.items-items.ensures.items at c.in-Some.ensures.some
+returns-clause-held c = λ ok. held_all _ _ _ c.loop-number.invariant.held (rw c.items-item-items.ensures.items at c.loop-number-test.false)
