@@ -9,4 +9,5 @@ pub mod JudgedLevels
 pub mod JudgedAnswers
 pub mod OneAnswer
 pub mod OptionLemmas
+pub mod PlaceLemmas
 pub mod MigratedSets

@@ -63,6 +63,12 @@ abbrev pub serial_at : List ℕ → SerialAt
 serial_at [] = Nowhere
 serial_at (c ∷ cs) = if bytes_eq (c ∷ cs) (codes "tail") then Tail else Ai (c ∷ cs)
 
+-- trusted, own: the row of the serial's code, if the serial is a separate element
+abbrev pub serial_row : List AiRow → SerialAt → Option AiRow
+serial_row ais (Ai code) = find (has_code code) ais
+serial_row ais Nowhere = None
+serial_row ais Tail = None
+
 -- trusted, TDS 2.0, section 6.3: the room of the serial, if there is one
 abbrev pub serial_room : List AiRow → KeyForm → SerialAt → Option Room
 serial_room ais form Nowhere = None

@@ -7,6 +7,7 @@ pub mod Forms
 pub mod KeptRules
 pub mod Numbers
 pub mod NumbersSupport
+pub mod PlacesSupport
 pub mod Rules
 pub mod RulesSupport
 pub mod Tables

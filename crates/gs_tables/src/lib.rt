@@ -3,7 +3,8 @@
 //! - `TableSet::load` reads a table document (JSON), or gives its first rejection; `builtin` makes the set of the built-in rows.
 //! - `migrate` makes the text of a document as one of version 2, which loads to the same set; `migrated_text` that of a document
 //!   that is known to load.
-//! - `TableSet::ais`, `kinds`, `level`, `info` and `candidates` lend the parts of a set.
+//! - `TableSet::ais`, `kinds`, `level`, `info` and `candidates` lend the parts of a set, `key_row` and `serial_row` the rows of a
+//!   kind.
 //! - `KeyForm`, `Room`, `are_characters` and `characters_of` describe the form of a key's values and of its serial. `keeps_gcp`,
 //!   `keeps_rest`, `keeps_serial` and `size_within_limit` test an option's items, and `is_of_key` and `lists` a key's row.
 //!   gs_class uses them too, with `split_items`, which separates items from their fields.
@@ -31,6 +32,7 @@
 mod builtin_set;
 mod field_items;
 mod form;
+mod kind_places;
 mod kind_rules;
 mod kinds_levels;
 mod laws;

@@ -1,11 +1,15 @@
-ghost use Rattle.std.specs.Prelude.{◌≡◌, map};
+ghost use Rattle.std.specs.Prelude.{◌≡◌, ◌<◌, find, length, map, slice_get};
+ghost use Rattle.std.specs.Option.{option_and_then, option_copied};
 ghost use Rattle.gs_tables.specs.Judgements.{IsClear, IsLoaded, Judged};
 ghost use Rattle.gs_tables.specs.Tables.{level_rows, IsShaped, IsAnswer, row_rejections, set_of};
 ghost use Rattle.gs_tables.specs.Numbers.{numbers_of};
 ghost use Rattle.gs_tables.specs.Shapes.{LoadAnswer};
+ghost use Rattle.gs_tables.specs.Forms.{serial_row};
 ghost use Rattle.gs_ai.specs.Tables.{table_errors};
+ghost use Rattle.gs_ai.specs.Values.{has_code};
 ghost use Rattle.gs_tables_document.specs.declared.error.LoadFault.TheVariants.{Ai};
 
+use crate::kind_places::{KindPlaces, places_of};
 use crate::level_tables::{LevelTable, LevelTables, OptionRows};
 use crate::rules::{check_limits, check_version, judged_parts};
 use gs_ai::{AiFault, AiRow, AiTable};
@@ -20,6 +24,7 @@ use std::marker::Model;
 pub struct TableSet {
     ais: AiTable,
     kinds: List<Kind>,
+    places: List<KindPlaces>,
     levels: LevelTables,
 }
 
@@ -29,21 +34,25 @@ impl Drop for TableSet {
         let TableSet {
             ais: _,
             kinds: _,
+            places: _,
             levels: _,
         } = self;
     }
 }
 
 impl Model for TableSet {
+    ghost use Rattle.std.specs.Prelude.{◌≡◌, map};
     ghost use Rattle.gs_tables.specs.Judgements.{IsLoaded};
     ghost use Rattle.gs_tables.specs.Tables.{TableRows};
     ghost use Rattle.gs_tables.specs.TablesSupport.{set_with};
+    ghost use Rattle.gs_tables.specs.PlacesSupport.{places_of};
 
     ghost Value = { TableRows };
 
     ghost view = { λ a. set_with a.ais a.kinds a.levels.binary a.levels.tag a.levels.pure };
 
-    ghost invariant = { λ a. IsLoaded (set_with a.ais a.kinds a.levels.binary a.levels.tag a.levels.pure) };
+    ghost invariant = { λ a. IsLoaded (set_with a.ais a.kinds a.levels.binary a.levels.tag a.levels.pure)
+        × (a.places ≡ map (places_of a.ais) a.kinds) };
 }
 
 impl TableSet {
@@ -79,7 +88,13 @@ impl TableSet {
         let options = OptionRows { binary, tag, pure };
         let ais = make_ais(alloc, ais)?;
         let (kinds, levels) = judged_parts(alloc, &ais, kinds, options)?;
-        Ok(TableSet { ais, kinds, levels })
+        let places = places_of(alloc, &ais, kinds.items())?;
+        Ok(TableSet {
+            ais,
+            kinds,
+            places,
+            levels,
+        })
     }
 
     /// Returns the application identifiers.
@@ -96,6 +111,25 @@ impl TableSet {
         ensures shaped { IsShaped self.now }
     {
         self.kinds.items()
+    }
+
+    /// Returns the row of the key of a kind, which is given by its index. Takes no search.
+    pub fn key_row(&self, kind: usize) -> Option<&AiRow>
+        requires { kind < length self.now.kinds }
+        ensures { option_copied result
+            ≡ option_and_then (λ k. find (has_code k.key) self.now.ais) (slice_get self.now.kinds kind) }
+    {
+        self.ais.rows().get(self.places.items()[kind].key)
+    }
+
+    /// Returns the row of the serial of a kind, which is given by its index, if the serial is a separate element. Takes no
+    /// search.
+    pub fn serial_row(&self, kind: usize) -> Option<&AiRow>
+        requires { kind < length self.now.kinds }
+        ensures { option_copied result
+            ≡ option_and_then (λ k. serial_row self.now.ais k.serial) (slice_get self.now.kinds kind) }
+    {
+        self.ais.rows().get(self.places.items()[kind].serial)
     }
 
     /// Returns the options of a level, in their order. The level is not ambiguous.

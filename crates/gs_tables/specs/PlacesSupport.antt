@@ -1,0 +1,22 @@
+-- Definitions for proofs and private functions: the places of the rows of kinds.
+use Rattle.std.specs.Prelude.{ℕ, List, length, position, unwrap_or}
+use Rattle.gs_ai.specs.declared.row.AiRow.{AiRow}
+use Rattle.gs_ai.specs.Values.{has_code}
+use Rattle.gs_tables_document.specs.declared.document.Kind.{Kind}
+use Rattle.gs_tables_document.specs.declared.document.SerialAt.{SerialAt}
+use Rattle.gs_tables_document.specs.declared.document.SerialAt.TheVariants.{Nowhere, Tail, Ai}
+use Rattle.gs_tables.specs.declared.kind_places.KindPlaces.{KindPlaces}
+
+-- the place of the row of a code, or that behind the last
+abbrev pub place_of : List AiRow → List ℕ → ℕ
+place_of ais code = unwrap_or (position (has_code code) ais) (length ais)
+
+-- the place of the row of a serial, or that behind the last
+abbrev pub serial_place : List AiRow → SerialAt → ℕ
+serial_place ais (Ai code) = place_of ais code
+serial_place ais Nowhere = length ais
+serial_place ais Tail = length ais
+
+-- the places of the rows of a kind
+abbrev pub places_of : List AiRow → Kind → KindPlaces
+places_of ais kind = record { key = place_of ais kind.key; serial = serial_place ais kind.serial }
