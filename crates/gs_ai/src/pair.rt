@@ -1,25 +1,25 @@
 ghost use Rattle.std.specs.Prelude.{◌≡◌, IfOk};
 
-use gs_chars::{Memory, Text};
+use gs_chars::{CowText, Memory, Text};
 use std::alloc::Global;
 
-/// An application identifier and its value.
+/// An application identifier and its value, each lent or its own.
 #[derive(Drop)]
-pub struct Pair {
+pub struct Pair<'a> {
     /// The digits of the application identifier.
-    pub code: Text,
+    pub code: CowText<'a>,
     /// The value as in an element string.
-    pub value: Text,
+    pub value: CowText<'a>,
 }
 
-impl Pair {
-    /// Returns a pair of the same code and value. Fails only with `Memory`.
-    pub fn copy(&self, alloc: Global) -> Result<Pair, Memory>
+impl Pair<'_> {
+    /// Returns a pair of the same code and value that lends none. Fails only with `Memory`.
+    pub fn copy(&self, alloc: Global) -> Result<Pair<'static>, Memory>
         ensures { IfOk result (λ pair. pair ≡ self.now) }
     {
         Ok(Pair {
-            code: Text::from_bytes(alloc, self.code.as_bytes())?,
-            value: Text::from_bytes(alloc, self.value.as_bytes())?,
+            code: CowText::from(Text::from_bytes(alloc, self.code.as_bytes())?),
+            value: CowText::from(Text::from_bytes(alloc, self.value.as_bytes())?),
         })
     }
 }

@@ -1,5 +1,5 @@
 -- Definitions for proofs and private functions, in addition to Values.antt.
-use Rattle.std.specs.Prelude.{ℕ, ◌-◌, if◌then◌else◌, List, Option, Some, None}
+use Rattle.std.specs.Prelude.{ℕ, if◌then◌else◌, List, Option, Some, None}
 use Rattle.percent_encoding.specs.Percent.{percent_decode}
 use Rattle.gs_dlink.specs.declared.value.WrittenPair.{WrittenPair}
 use Rattle.gs_dlink.specs.Uris.{Written}

@@ -18,7 +18,11 @@ use std::alloc::Global;
 /// Returns the pairs that a link names: those of its key path, then those of its query (GS1 Digital Link URI Syntax, section 3).
 /// The first error is the answer: `NotHttp`, `NoKeyPath`, then pair by pair `Unknown`, `Escape` and the errors of the value, at
 /// the place of the pair's code in the text. May return `Memory` instead.
-pub fn read_link(alloc: Global, table: &AiTable, uri: &[u8]) -> Result<Vec<Pair>, LinkFault>
+pub fn read_link<'a>(
+    alloc: Global,
+    table: &AiTable,
+    uri: &'a [u8],
+) -> Result<Vec<Pair<'a>>, LinkFault>
     ensures pairs { IfOk result (λ pairs. IsLink table.now uri.now pairs.items) }
     ensures in_order { IfOk result (λ pairs. All (IsInOrder table.now) pairs.items) }
     ensures error { IfErr result (λ e. e ≢ LinkFault.Memory → link_error table.now uri.now ≡ Some e) }
@@ -31,7 +35,11 @@ pub fn read_link(alloc: Global, table: &AiTable, uri: &[u8]) -> Result<Vec<Pair>
 }
 
 /// Returns the same for the target of a request: a path with its query (RFC 9112, section 3.2.1). It never answers `NotHttp`.
-pub fn read_target(alloc: Global, table: &AiTable, target: &[u8]) -> Result<Vec<Pair>, LinkFault>
+pub fn read_target<'a>(
+    alloc: Global,
+    table: &AiTable,
+    target: &'a [u8],
+) -> Result<Vec<Pair<'a>>, LinkFault>
     ensures pairs { IfOk result (λ pairs. IsTarget table.now target.now pairs.items) }
     ensures in_order { IfOk result (λ pairs. All (IsInOrder table.now) pairs.items) }
     ensures error { IfErr result (λ e. e ≢ LinkFault.Memory
@@ -86,7 +94,12 @@ fn is_rooted(path: &[u8]) -> bool
 
 /// Returns the pairs of a path with its query that are at a place in the whole text, or the first error.
 #[tactic(auto, unfolding(crate::specs::Answers::target_answer))]
-fn read_at(alloc: Global, table: &AiTable, at: usize, text: &[u8]) -> Result<List<Pair>, LinkFault>
+fn read_at<'a>(
+    alloc: Global,
+    table: &AiTable,
+    at: usize,
+    text: &'a [u8],
+) -> Result<List<Pair<'a>>, LinkFault>
     requires { at + length text.now < 2 ^ 63 }
     ensures { OrMemory result (target_answer table.now at text.now) }
 {
@@ -104,11 +117,11 @@ fn read_at(alloc: Global, table: &AiTable, at: usize, text: &[u8]) -> Result<Lis
 }
 
 /// Returns the pairs that are written so, or the first error of one.
-fn read_pairs(
+fn read_pairs<'a>(
     alloc: Global,
     table: &AiTable,
-    written: &[WrittenPair<'_>],
-) -> Result<List<Pair>, LinkFault>
+    written: &[WrittenPair<'a>],
+) -> Result<List<Pair<'a>>, LinkFault>
     requires { All (IsPlaced table.now) written.now }
     ensures { OrMemory result (written_answer table.now (map written_of written.now)) }
 {

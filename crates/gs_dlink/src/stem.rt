@@ -44,7 +44,7 @@ pub fn stem_ok(stem: &[u8]) -> bool
 
 /// Returns the link of the identity under the stem (GS1 Digital Link URI Syntax, section 4). Fails only with `Memory`. `stem_ok`
 /// allows the stem.
-pub fn write_link(alloc: Global, stem: &[u8], identity: &Identity) -> Result<Text, Memory>
+pub fn write_link(alloc: Global, stem: &[u8], identity: &Identity<'_>) -> Result<Text, Memory>
     requires { stem_ok stem.now ≡ true }
     ensures { IfOk result (λ text. text ≡ spelled stem.now identity.now) }
 {
@@ -53,7 +53,7 @@ pub fn write_link(alloc: Global, stem: &[u8], identity: &Identity) -> Result<Tex
 
 /// Appends the link of the identity under the stem, as `write_link` returns it. Fails only with `Memory`; `out` then begins with
 /// its old contents. `stem_ok` allows the stem.
-pub fn append_link(out: &mut Vec<u8>, stem: &[u8], identity: &Identity) -> Result<(), Memory>
+pub fn append_link(out: &mut Vec<u8>, stem: &[u8], identity: &Identity<'_>) -> Result<(), Memory>
     requires { stem_ok stem.now ≡ true }
     ensures written { IfOk result (λ _. out.new.items ≡ out.old.items ++ spelled stem.now identity.now) }
     ensures begun { OnErr result (BeginsWith out.new.items out.old.items) }

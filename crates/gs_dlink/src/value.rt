@@ -6,7 +6,7 @@ ghost use Rattle.gs_dlink.specs.ValuesSupport.{unescaped, written_of};
 
 use crate::error::LinkFault;
 use gs_ai::{AiTable, ElementFault, ElementWhy, Pair, ValueFault};
-use gs_chars::{Memory, Text, are_digits, place_of};
+use gs_chars::{CowText, Memory, Text, are_digits, place_of};
 use percent_encoding::percent_decode;
 use std::alloc::Global;
 
@@ -40,29 +40,30 @@ pub fn decoded(alloc: Global, text: &[u8]) -> Result<Text, Memory>
     Ok(Text::from_vec(out))
 }
 
-/// Returns the value that the text spells. `None` is returned if and only if a percent sign begins no escape.
-fn unescaped(alloc: Global, text: &[u8]) -> Result<Option<Text>, Memory>
+/// Returns the value that the text spells, lent if it has no escapes. `None` is returned if and only if a percent sign begins no
+/// escape.
+fn unescaped(alloc: Global, text: &[u8]) -> Result<Option<CowText<'_>>, Memory>
     ensures { IfOk result (λ value. value ≡ unescaped text.now) }
 {
     if place_of(text, b'%') == text.len() {
-        return Ok(Some(Text::from_bytes(alloc, text)?));
+        return Ok(Some(CowText::lent(text)));
     }
     if !are_escapes(text) {
         return Ok(None);
     }
-    Ok(Some(decoded(alloc, text)?))
+    Ok(Some(CowText::from(decoded(alloc, text)?)))
 }
 
 /// Returns the value with leading zeros up to 14 digits, if it is a short GTIN and its row allows one.
-fn padded(alloc: Global, short: bool, value: Text) -> Result<Text, Memory>
-    ensures { IfOk result (λ out. out ≡ padded short value) }
+fn padded<'a>(alloc: Global, short: bool, value: CowText<'a>) -> Result<CowText<'a>, Memory>
+    ensures { IfOk result (λ out. out ≡ padded short value.entry) }
 {
     if !short || !is_short_gtin(value.as_bytes()) {
         return Ok(value);
     }
     let mut out = Text::from_bytes(alloc, &ZEROS[..14 - value.as_bytes().len()])?;
     out.extend_from_slice(value.as_bytes())?;
-    Ok(out)
+    Ok(CowText::from(out))
 }
 
 /// Returns the error of a pair at the place of its code.
@@ -76,11 +77,11 @@ fn error_of(written: &WrittenPair<'_>, why: ElementWhy) -> LinkFault
 }
 
 /// Returns the pair that is written so, or its first error: `Unknown`, `Escape`, an error of the value.
-pub(crate) fn read_pair(
+pub(crate) fn read_pair<'a>(
     alloc: Global,
     table: &AiTable,
-    written: &WrittenPair<'_>,
-) -> Result<Pair, LinkFault>
+    written: &WrittenPair<'a>,
+) -> Result<Pair<'a>, LinkFault>
     requires { IsPlaced table.now written.now }
     ensures { OrMemory result (pair_answer table.now (written_of written.now)) }
 {
@@ -94,7 +95,7 @@ pub(crate) fn read_pair(
     let value = padded(alloc, row.short, value)?;
     match table.row_value_ok(place, value.as_bytes()) {
         Ok(()) => Ok(Pair {
-            code: Text::from_bytes(alloc, written.code)?,
+            code: CowText::lent(written.code),
             value,
         }),
         Err(error) => Err(error_of(written, ElementWhy::Value(error))),

@@ -58,7 +58,7 @@ backslash_outside = refl
 no_backslash : (c : ℕ) → is_in_set82 c ≡ true → (c == 92) ≡ false
 no_backslash c h = false_from (c == 92) (λ e. let same : c ≡ 92 = grind (arith, nat_tests) in true≢false (sym h ∙ ap is_in_set82 same ∙ backslash_outside))
 
-value_none : (after : List ℕ) → is_cut after ≡ true → value_before after ≡ []
+pub value_none : (after : List ℕ) → is_cut after ≡ true → value_before after ≡ []
 value_none [] cut = refl
 value_none (c ∷ []) cut = rw cut refl
 value_none (c ∷ d ∷ after) cut = rw cut refl

@@ -1,5 +1,5 @@
 -- Definitions for proofs and private functions, in addition to Raw.antt.
-use Rattle.std.specs.Prelude.{◌≡◌, ℕ, ◌-◌, ◌==◌, List, [], ◌∷◌, length, drop, find, Some, None, if◌then◌else◌}
+use Rattle.std.specs.Prelude.{◌≡◌, ℕ, ◌==◌, List, [], ◌∷◌, length, drop, find, Some, None, if◌then◌else◌}
 use Rattle.gs_ai.specs.declared.row.AiRow.{AiRow}
 use Rattle.gs_ai.specs.Tables.{begins}
 use Rattle.gs_ai.specs.Values.{value_error}

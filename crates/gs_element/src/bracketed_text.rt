@@ -11,7 +11,7 @@ ghost use Rattle.gs_element.specs.BracketedSupport.{is_escape};
 use crate::errors::{RawFault, error_at};
 use crate::raw::push_pair;
 use gs_ai::{AiTable, ElementWhy, Pair};
-use gs_chars::{Memory, Text, count_digits};
+use gs_chars::{CowText, Memory, Text, count_digits};
 use memchr::memchr2;
 use std::alloc::Global;
 
@@ -20,8 +20,12 @@ use std::alloc::Global;
 ///
 /// The error is the one at the smallest place: `Bracket` if `(` is missing, or if digits and `)` do not follow it. At the place
 /// of the code's first digit it is `Unknown` if no row has the code, or the error of the value. May return `Memory` instead.
-/// Reads the text from left to right, and allocates only for the pairs.
-pub fn read_bracketed(alloc: Global, table: &AiTable, text: &[u8]) -> Result<Vec<Pair>, RawFault>
+/// Reads the text from left to right. The pairs are lent by it, but for a value with a backslash before a bracket.
+pub fn read_bracketed<'a>(
+    alloc: Global,
+    table: &AiTable,
+    text: &'a [u8],
+) -> Result<Vec<Pair<'a>>, RawFault>
     ensures read { IfOk result (λ pairs. IsBracketed table.now text.now pairs.items) }
     ensures in_order { IfOk result (λ pairs. All (IsInOrder table.now) pairs.items) }
     ensures rejected { IfErr result (IsBracketedRejection table.now text.now) }
@@ -35,13 +39,12 @@ pub fn read_bracketed(alloc: Global, table: &AiTable, text: &[u8]) -> Result<Vec
         let Some((code, after)) = code_front(rest) else {
             return Err(error_at(at, ElementWhy::Bracket));
         };
-        let mut value = Text::new(alloc);
-        let behind = read_value(after, &mut value)?;
-        if let Err(error) = table.value_ok(code, value.as_bytes()) {
+        let read = read_value(alloc, after)?;
+        if let Err(error) = table.value_ok(code, read.value.as_bytes()) {
             return Err(error_at(at + 1, ElementWhy::Value(error)));
         }
-        push_pair(alloc, &mut pairs, code, value)?;
-        rest = behind;
+        push_pair(&mut pairs, code, read.value)?;
+        rest = read.rest;
     }
     Ok(pairs)
 }
@@ -122,18 +125,54 @@ fn plain_len(text: &[u8]) -> usize
     memchr2(b'(', b'\\', text).unwrap_or(text.len())
 }
 
+/// Returns whether the text ends, or goes on with an opening bracket.
+fn is_cut(text: &[u8]) -> bool
+    ensures { result ≡ is_cut text.now }
+{
+    match text {
+        [first, ..] => *first == b'(',
+        [] => true,
+    }
+}
+
 /// Appends the value up to the next opening bracket without a backslash before it, or the end, and returns the rest.
-pub fn read_value<'a>(text: &'a [u8], value: &mut Text) -> Result<&'a [u8], Memory>
+fn append_value<'a>(text: &'a [u8], value: &mut Text) -> Result<&'a [u8], Memory>
     ensures value { IfOk result (λ _. value.new ≡ value.old ++ value_before text.now) }
     ensures rest { IfOk result (λ rest. text.now ≡ written_value (value_before text.now) ++ rest.now) }
     ensures cut { IfOk result (λ rest. is_cut rest.now ≡ true) }
 {
-    // most values have no backslash, so they are copied whole
-    let (plain, mut rest) = text.split_at(plain_len(text));
-    value.extend_from_slice(plain)?;
+    let mut rest = text;
     while let Some(next) = next_character(rest) {
         value.push(next.character)?;
         rest = next.rest;
     }
     Ok(rest)
+}
+
+/// A value at the start of a text, and the text after it.
+#[derive(Drop)]
+struct Value<'a> {
+    value: CowText<'a>,
+    rest: &'a [u8],
+}
+
+/// Returns the value up to the next opening bracket without a backslash before it, or the end. It is lent if it has no backslash.
+fn read_value(alloc: Global, text: &[u8]) -> Result<Value<'_>, Memory>
+    ensures value { IfOk result (λ read. read.value ≡ value_before text.now) }
+    ensures rest { IfOk result (λ read. text.now ≡ written_value (value_before text.now) ++ read.rest.now) }
+    ensures cut { IfOk result (λ read. is_cut read.rest.now ≡ true) }
+{
+    let (plain, behind) = text.split_at(plain_len(text));
+    if is_cut(behind) {
+        return Ok(Value {
+            value: CowText::lent(plain),
+            rest: behind,
+        });
+    }
+    let mut value = Text::from_bytes(alloc, plain)?;
+    let rest = append_value(behind, &mut value)?;
+    Ok(Value {
+        value: CowText::from(value),
+        rest,
+    })
 }

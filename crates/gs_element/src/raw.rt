@@ -8,7 +8,7 @@ ghost use Rattle.gs_element.specs.RawSupport.{without_separator, IsCutFrom};
 
 use crate::errors::{RawFault, error_at};
 use gs_ai::{AiTable, ElementWhy, Pair, ValueFault};
-use gs_chars::{Memory, Text};
+use gs_chars::{CowText, Memory};
 use std::alloc::Global;
 
 /// The FNC1, as readers transmit it.
@@ -105,8 +105,13 @@ fn cut_element<'a>(table: &AiTable, text: &'a [u8]) -> Result<Cut<'a>, ValueFaul
 /// may follow any other (GS1 General Specifications, section 7.8). An empty text has no pairs.
 ///
 /// Returns the first error from the left, at the place of the code: `Unknown` if no code begins the rest, otherwise that of the
-/// value. May return `Memory` instead. Scans the text once, from left to right, and allocates only the pairs.
-pub fn read_raw(alloc: Global, table: &AiTable, text: &[u8]) -> Result<Vec<Pair>, RawFault>
+/// value. May return `Memory` instead. Scans the text once, from left to right, and allocates only the list of the pairs, which
+/// it lends.
+pub fn read_raw<'a>(
+    alloc: Global,
+    table: &AiTable,
+    text: &'a [u8],
+) -> Result<Vec<Pair<'a>>, RawFault>
     ensures read { IfOk result (λ pairs. IsRaw table.now text.now pairs.items) }
     ensures in_order { IfOk result (λ pairs. All (IsInOrder table.now) pairs.items) }
     ensures rejected { IfErr result (IsRawRejection table.now text.now) }
@@ -118,8 +123,7 @@ pub fn read_raw(alloc: Global, table: &AiTable, text: &[u8]) -> Result<Vec<Pair>
     while !rest.is_empty() {
         match cut_element(table, rest) {
             Ok(cut) => {
-                let value = Text::from_bytes(alloc, cut.value)?;
-                push_pair(alloc, &mut pairs, cut.code, value)?;
+                push_pair(&mut pairs, cut.code, CowText::lent(cut.value))?;
                 rest = cut.rest;
             }
             Err(error) => {
@@ -132,16 +136,14 @@ pub fn read_raw(alloc: Global, table: &AiTable, text: &[u8]) -> Result<Vec<Pair>
 }
 
 /// Adds the pair of this code and this value.
-pub fn push_pair(
-    alloc: Global,
-    pairs: &mut Vec<Pair>,
-    code: &[u8],
-    value: Text,
+pub fn push_pair<'a>(
+    pairs: &mut Vec<Pair<'a>>,
+    code: &'a [u8],
+    value: CowText<'a>,
 ) -> Result<(), Memory>
     ensures { IfOk result (λ _. pairs.new.items ≡ pairs.old.items
-        ++ record { code = code.now; value = value } ∷ []) }
+        ++ record { code = code.now; value = value.entry } ∷ []) }
 {
-    let code = Text::from_bytes(alloc, code)?;
-    pairs.push(Pair { code, value })?;
-    Ok(())
+    let code = CowText::lent(code);
+    Ok(pairs.push(Pair { code, value })?)
 }

@@ -13,7 +13,7 @@ use gs_ident::Identity;
 use std::alloc::Global;
 
 /// Returns whether the code has no predefined length.
-fn is_open(table: &AiTable, pair: &Pair) -> bool
+fn is_open(table: &AiTable, pair: &Pair<'_>) -> bool
     requires { IsInOrder table.now pair.now }
     ensures { result ≡ is_none (predefined_length pair.now.code) }
 {
@@ -42,7 +42,7 @@ fn write_elements(
     table: &AiTable,
     out: &mut Vec<u8>,
     unclosed: bool,
-    pairs: &[Pair],
+    pairs: &[Pair<'_>],
 ) -> Result<bool, Memory>
     requires { All (IsInOrder table.now) pairs.now }
     ensures written { IfOk result (λ _. out.new.items ≡ out.old.items ++ raw_behind unclosed pairs.now) }
@@ -61,7 +61,7 @@ fn write_elements(
 
 /// Appends the element string of the identity, as `write_raw` returns it. Fails only with `Memory`; `out` then begins with its old
 /// contents. `make` of gs_ident made the identity with this table.
-pub fn append_raw(out: &mut Vec<u8>, table: &AiTable, identity: &Identity) -> Result<(), Memory>
+pub fn append_raw(out: &mut Vec<u8>, table: &AiTable, identity: &Identity<'_>) -> Result<(), Memory>
     requires { IsMadeWith table.now identity.now }
     ensures written { IfOk result (λ _. out.new.items ≡ out.old.items ++ raw_text (pairs_of identity.now)) }
     ensures begun { OnErr result (BeginsWith out.new.items out.old.items) }
@@ -78,7 +78,7 @@ pub fn append_raw(out: &mut Vec<u8>, table: &AiTable, identity: &Identity) -> Re
 /// Returns the element string of the identity, in the order of its pairs: code and value of each, and an FNC1 (the byte 29) after
 /// each element without predefined length, except the last (GS1 General Specifications, section 7.8). It has no symbology
 /// identifier. Fails only with `Memory`. `make` of gs_ident made the identity with this table.
-pub fn write_raw(alloc: Global, table: &AiTable, identity: &Identity) -> Result<Text, Memory>
+pub fn write_raw(alloc: Global, table: &AiTable, identity: &Identity<'_>) -> Result<Text, Memory>
     requires { IsMadeWith table.now identity.now }
     ensures { IfOk result (λ text. text ≡ raw_text (pairs_of identity.now)) }
 {
@@ -114,7 +114,7 @@ fn write_value(out: &mut Vec<u8>, value: &[u8]) -> Result<(), Memory>
 }
 
 /// Appends the code of the pair in brackets, and its value.
-fn write_pair(out: &mut Vec<u8>, pair: &Pair) -> Result<(), Memory>
+fn write_pair(out: &mut Vec<u8>, pair: &Pair<'_>) -> Result<(), Memory>
     ensures written { IfOk result (λ _. out.new.items ≡ out.old.items ++ bracketed_element pair.now) }
     ensures begun { OnErr result (BeginsWith out.new.items out.old.items) }
 {
@@ -125,7 +125,7 @@ fn write_pair(out: &mut Vec<u8>, pair: &Pair) -> Result<(), Memory>
 }
 
 /// Appends each pair.
-fn write_pairs(out: &mut Vec<u8>, pairs: &[Pair]) -> Result<(), Memory>
+fn write_pairs(out: &mut Vec<u8>, pairs: &[Pair<'_>]) -> Result<(), Memory>
     ensures written { IfOk result (λ _. out.new.items ≡ out.old.items ++ bracketed_text pairs.now) }
     ensures begun { OnErr result (BeginsWith out.new.items out.old.items) }
 {
@@ -137,7 +137,7 @@ fn write_pairs(out: &mut Vec<u8>, pairs: &[Pair]) -> Result<(), Memory>
 
 /// Appends the element string of the identity in the printed form, as `write_bracketed` returns it. Fails only with `Memory`;
 /// `out` then begins with its old contents.
-pub fn append_bracketed(out: &mut Vec<u8>, identity: &Identity) -> Result<(), Memory>
+pub fn append_bracketed(out: &mut Vec<u8>, identity: &Identity<'_>) -> Result<(), Memory>
     ensures written { IfOk result (λ _.
         out.new.items ≡ out.old.items ++ bracketed_text (pairs_of identity.now)) }
     ensures begun { OnErr result (BeginsWith out.new.items out.old.items) }
@@ -149,7 +149,7 @@ pub fn append_bracketed(out: &mut Vec<u8>, identity: &Identity) -> Result<(), Me
 
 /// Returns the element string of the identity in the printed form, in the order of its pairs: each code in brackets, and its
 /// value with `\(` for an opening bracket. Fails only with `Memory`.
-pub fn write_bracketed(alloc: Global, identity: &Identity) -> Result<Text, Memory>
+pub fn write_bracketed(alloc: Global, identity: &Identity<'_>) -> Result<Text, Memory>
     ensures { IfOk result (λ text. text ≡ bracketed_text (pairs_of identity.now)) }
 {
     let mut out = Vec::with_capacity(alloc, identity.room())?;

@@ -11,15 +11,16 @@ use gs_chars::{List, Memory};
 use std::alloc::Global;
 use std::marker::Model;
 
-/// The identity of an element string or a link: the pair of its key, the pairs that qualify the key, and all other pairs.
-pub struct Identity {
-    key: Pair,
-    qualifiers: List<Pair>,
-    attributes: List<Pair>,
+/// The identity of an element string or a link: the pair of its key, the pairs that qualify the key, and all other pairs. It lends
+/// its pairs from the text that they were read from, or owns them.
+pub struct Identity<'a> {
+    key: Pair<'a>,
+    qualifiers: List<Pair<'a>>,
+    attributes: List<Pair<'a>>,
 }
 
 // by hand, so that a function that drops an identity calls this: a derived drop is written out at each of its exits
-impl Drop for Identity {
+impl Drop for Identity<'_> {
     fn drop(self) {
         let Identity {
             key: _,
@@ -29,7 +30,7 @@ impl Drop for Identity {
     }
 }
 
-impl Model for Identity {
+impl<'a> Model for Identity<'a> {
     ghost use Rattle.gs_ident.specs.Elements.{Elements};
 
     ghost Value = { Elements };
@@ -37,10 +38,15 @@ impl Model for Identity {
     ghost view = { λ a. record { key = a.key; qualifiers = a.qualifiers; attributes = a.attributes } };
 }
 
-impl Identity {
-    /// Returns the identity of these pairs.
-    pub(crate) fn from_pairs(key: Pair, qualifiers: Vec<Pair>, attributes: Vec<Pair>) -> Identity
-        ensures { result ≡ elements_with key qualifiers.items attributes.items }
+impl<'a> Identity<'a> {
+    /// Returns the identity of these pairs: the key, its qualifiers in the order of the key's path, and the attributes.
+    pub fn from_pairs(
+        key: Pair<'a>,
+        qualifiers: Vec<Pair<'a>>,
+        attributes: Vec<Pair<'a>>,
+    ) -> Identity<'a>
+        ensures { result
+            ≡ elements_with key.entry qualifiers.entry.items attributes.entry.items }
     {
         Identity {
             key,
@@ -55,12 +61,12 @@ impl Identity {
     pub fn of_key(
         alloc: Global,
         table: &AiTable,
-        key: Pair,
-        qualifier: Option<Pair>,
-    ) -> Result<Identity, Memory>
+        key: Pair<'a>,
+        qualifier: Option<Pair<'a>>,
+    ) -> Result<Identity<'a>, Memory>
         requires { IsQualifiedKey table.now key qualifier }
         ensures made { IfOk result (λ identity.
-            identity_of_pairs table.now (key ∷ pairs_in qualifier) ≡ Ok identity) }
+            identity_of_pairs table.now (key.entry ∷ pairs_in qualifier.entry) ≡ Ok identity) }
         ensures with_table { IfOk result (λ identity. IsMadeWith table.now identity) }
     {
         // only for the proof: the rows satisfy the rules
@@ -69,9 +75,9 @@ impl Identity {
         Ok(Identity::from_pairs(key, qualifiers, Vec::new(alloc)))
     }
 
-    /// Returns the identity of the key and the first `k` qualifiers. Fails only with `Memory`. `k`, how many qualifiers are kept,
-    /// is at most their number.
-    pub fn prefix(&self, alloc: Global, k: usize) -> Result<Identity, Memory>
+    /// Returns the identity of the key and the first `k` qualifiers, which lends none. Fails only with `Memory`. `k`, how many
+    /// qualifiers are kept, is at most their number.
+    pub fn prefix(&self, alloc: Global, k: usize) -> Result<Identity<'static>, Memory>
         requires { k ≤ length self.now.qualifiers }
         ensures { IfOk result (λ identity. identity ≡ first_qualifiers k self.now) }
     {
@@ -80,9 +86,19 @@ impl Identity {
         Ok(Identity::from_pairs(key, qualifiers, Vec::new(alloc)))
     }
 
+    /// Returns an identity of the same pairs that lends none. Fails only with `Memory`.
+    pub fn copy(&self, alloc: Global) -> Result<Identity<'static>, Memory>
+        ensures { IfOk result (λ identity. identity ≡ self.now) }
+    {
+        let key = self.key().copy(alloc)?;
+        let qualifiers = copies(alloc, self.qualifiers())?;
+        let attributes = copies(alloc, self.attributes())?;
+        Ok(Identity::from_pairs(key, qualifiers, attributes))
+    }
+
     /// Returns only the key. Drops all other pairs and copies none.
-    pub fn key_alone(self) -> Identity
-        ensures { result ≡ key_alone self }
+    pub fn key_alone(self) -> Identity<'a>
+        ensures { result ≡ key_alone self.entry }
     {
         let Identity {
             key,
@@ -97,8 +113,8 @@ impl Identity {
     }
 
     /// Returns the key with its qualifier of the code, if it has one. Drops all other pairs and copies none.
-    pub fn with_qualifier(self, code: &[u8]) -> Identity
-        ensures { result ≡ with_qualifier code.now self }
+    pub fn with_qualifier(self, code: &[u8]) -> Identity<'a>
+        ensures { result ≡ with_qualifier code.now self.entry }
     {
         let Identity {
             key,
@@ -113,21 +129,21 @@ impl Identity {
     }
 
     /// Returns the pair of the key.
-    pub fn key(&self) -> &Pair
+    pub fn key(&self) -> &Pair<'a>
         ensures { result.now ≡ self.now.key }
     {
         &self.key
     }
 
     /// Returns the pairs that qualify the key, in the order of the key's path.
-    pub fn qualifiers(&self) -> &[Pair]
+    pub fn qualifiers(&self) -> &[Pair<'a>]
         ensures { result.now ≡ self.now.qualifiers }
     {
         self.qualifiers.items()
     }
 
     /// Returns all other pairs.
-    pub fn attributes(&self) -> &[Pair]
+    pub fn attributes(&self) -> &[Pair<'a>]
         ensures { result.now ≡ self.now.attributes }
     {
         self.attributes.items()
@@ -135,8 +151,12 @@ impl Identity {
 }
 
 /// Returns the pair, if there is one that counts.
-fn counted_pairs(alloc: Global, table: &AiTable, pair: Option<Pair>) -> Result<Vec<Pair>, Memory>
-    ensures { IfOk result (λ pairs. pairs.items ≡ counted table.now (pairs_in pair)) }
+fn counted_pairs<'a>(
+    alloc: Global,
+    table: &AiTable,
+    pair: Option<Pair<'a>>,
+) -> Result<Vec<Pair<'a>>, Memory>
+    ensures { IfOk result (λ pairs. pairs.items ≡ counted table.now (pairs_in pair.entry)) }
 {
     let Some(pair) = pair else {
         return Ok(Vec::new(alloc));
@@ -150,21 +170,21 @@ fn counted_pairs(alloc: Global, table: &AiTable, pair: Option<Pair>) -> Result<V
 }
 
 /// Returns whether the pair has the code.
-pub fn is_coded(code: &[u8], pair: &Pair) -> bool
+pub fn is_coded(code: &[u8], pair: &Pair<'_>) -> bool
     ensures { result ≡ is_coded code.now pair.now }
 {
     code == pair.code.as_bytes()
 }
 
 /// Drops the pairs that have another code.
-fn keep_coded(pairs: &mut Vec<Pair>, code: &[u8])
+fn keep_coded(pairs: &mut Vec<Pair<'_>>, code: &[u8])
     ensures { pairs.new.items ≡ filter (is_coded code.now) pairs.old.items }
 {
     pairs.retain(|pair| is_coded(code, pair));
 }
 
 /// Copies of the pairs.
-fn copies(alloc: Global, pairs: &[Pair]) -> Result<Vec<Pair>, Memory>
+fn copies(alloc: Global, pairs: &[Pair<'_>]) -> Result<Vec<Pair<'static>>, Memory>
     ensures { IfOk result (λ list. list.items ≡ pairs.now) }
 {
     let mut list = Vec::with_capacity(alloc, pairs.len())?;
@@ -175,7 +195,7 @@ fn copies(alloc: Global, pairs: &[Pair]) -> Result<Vec<Pair>, Memory>
 }
 
 /// Returns the number of bytes of a pair, and two for the separators of its code.
-fn pair_room(pair: &Pair) -> usize
+fn pair_room(pair: &Pair<'_>) -> usize
     ensures { result ≡ min (room_of_pair pair.now) (2 ^ 64 - 1) }
 {
     let code = pair.code.as_bytes().len();
@@ -184,7 +204,7 @@ fn pair_room(pair: &Pair) -> usize
 }
 
 /// Returns the number of bytes of pairs after others, whose number is given.
-fn add_room(before: usize, pairs: &[Pair]) -> usize
+fn add_room(before: usize, pairs: &[Pair<'_>]) -> usize
     ensures { result ≡ min (before + room_of_pairs pairs.now) (2 ^ 64 - 1) }
 {
     let mut room = before;
@@ -194,7 +214,7 @@ fn add_room(before: usize, pairs: &[Pair]) -> usize
     room
 }
 
-impl Identity {
+impl Identity<'_> {
     /// Returns the number of bytes of the codes and values of the pairs, with two more for each pair: the memory that is taken
     /// for a text of them. It is 2 to the 64 less 1 if they are more.
     pub fn room(&self) -> usize

@@ -15,7 +15,7 @@ use crate::pairs::{
     find_contradiction, is_none_text, keep_others, move_listed, sort_pairs, stands_for_none,
 };
 use gs_ai::{AiRow, AiTable, Pair};
-use gs_chars::Text;
+use gs_chars::{Memory, Text};
 use std::alloc::Global;
 
 /// Returns the codes that the row lists as qualifiers. The row is one of the table.
@@ -30,15 +30,15 @@ fn listed_codes(table: &AiTable, row: usize) -> &[Text]
 
 /// Makes the identity of the first key and of the pairs around it, which agree. The pairs are moved. Fails only with `Memory`.
 #[tactic(auto, unfolding(crate::specs::Identities::elements_of))]
-fn elements_of(
+fn elements_of<'a>(
     alloc: Global,
     table: &AiTable,
-    pairs: Vec<Pair>,
+    pairs: Vec<Pair<'a>>,
     first: KeyPlace,
-) -> Result<Identity, IdentFault>
+) -> Result<Identity<'a>, IdentFault>
     requires agree { Agree pairs.items }
     requires first { HasFirstKey table.now pairs.items first }
-    ensures elements { IfOk result (HasElements table.now pairs.items first.pair) }
+    ensures elements { IfOk result (HasElements table.now pairs.entry.items first.pair) }
     ensures memory { IfErr result (λ error. error ≡ IdentFault.Memory) }
 {
     let mut others = pairs;
@@ -51,14 +51,14 @@ fn elements_of(
 }
 
 /// Drops the pairs whose value means none.
-fn keep_counted(table: &AiTable, pairs: &mut Vec<Pair>)
+fn keep_counted(table: &AiTable, pairs: &mut Vec<Pair<'_>>)
     ensures { pairs.new.items ≡ counted table.now pairs.old.items }
 {
     pairs.retain(|pair| !stands_for_none(table, pair));
 }
 
 /// Returns the keys among the pairs that count, and drops the others. Usually there are no others.
-fn keys_of_counted(table: &AiTable, pairs: &mut Vec<Pair>) -> Keys
+fn keys_of_counted(table: &AiTable, pairs: &mut Vec<Pair<'_>>) -> Keys
     ensures counted { pairs.new.items ≡ counted table.now pairs.old.items }
     ensures keys { AreKeys table.now pairs.new.items result }
 {
@@ -70,25 +70,32 @@ fn keys_of_counted(table: &AiTable, pairs: &mut Vec<Pair>) -> Keys
     keys_among(table, pairs.as_slice())
 }
 
+/// Returns a copy of the code of a pair.
+fn code_of(alloc: Global, pair: &Pair<'_>) -> Result<Text, Memory>
+    ensures { IfOk result (λ code. code ≡ pair.now.code) }
+{
+    Text::from_bytes(alloc, pair.code.as_bytes())
+}
+
 /// Returns the key of pairs that agree and have no other key. Each of them counts, and `keys` are the keys among them by the
 /// table.
 fn only_key(
     alloc: Global,
     table: &AiTable,
-    pairs: &[Pair],
+    pairs: &[Pair<'_>],
     keys: Keys,
 ) -> Result<KeyPlace, IdentFault>
     requires { AreKeys table.now pairs.now keys }
     ensures { IsOnlyKey table.now pairs.now result }
 {
     if let Some(pair) = find_contradiction(pairs) {
-        return Err(IdentFault::Repeat(pair.code.copy(alloc)?));
+        return Err(IdentFault::Repeat(code_of(alloc, pair)?));
     }
     let Some(first) = keys.first else {
         return Err(IdentFault::NoKey);
     };
     match keys.other {
-        Some(other) => Err(IdentFault::TwoKeys(pairs[other].code.copy(alloc)?)),
+        Some(other) => Err(IdentFault::TwoKeys(code_of(alloc, &pairs[other])?)),
         None => Ok(first),
     }
 }
@@ -98,12 +105,16 @@ fn only_key(
 ///
 /// Returns the first error that applies: `Repeat` with the code of the first pair whose code occurred before with another value,
 /// `NoKey`, `TwoKeys` with the code of the second key. May return `Memory` instead.
-pub fn make(alloc: Global, table: &AiTable, pairs: Vec<Pair>) -> Result<Identity, IdentFault>
+pub fn make<'a>(
+    alloc: Global,
+    table: &AiTable,
+    pairs: Vec<Pair<'a>>,
+) -> Result<Identity<'a>, IdentFault>
     requires { All (IsInOrder table.now) pairs.items }
-    ensures made { IfOk result (λ identity. identity_of_pairs table.now pairs.items ≡ Ok identity) }
+    ensures made { IfOk result (λ identity. identity_of_pairs table.now pairs.entry.items ≡ Ok identity) }
     ensures with_table { IfOk result (λ identity. IsMadeWith table.now identity) }
     ensures rejected { IfErr result (λ error. error ≢ IdentFault.Memory
-        → identity_of_pairs table.now pairs.items ≡ Err error) }
+        → identity_of_pairs table.now pairs.entry.items ≡ Err error) }
 {
     let mut counted = pairs;
     let keys = keys_of_counted(table, &mut counted);
@@ -136,7 +147,7 @@ fn or_none_text(before: bool, row: &AiRow, value: &[u8]) -> bool
 }
 
 /// Returns the keys with one pair more, which is at this place after the others and has the row with this index.
-fn with_pair(table: &AiTable, keys: Keys, place: usize, pair: &Pair, row: usize) -> Keys
+fn with_pair(table: &AiTable, keys: Keys, place: usize, pair: &Pair<'_>, row: usize) -> Keys
     requires { IsRowOf table.now pair.now row }
     ensures { (before : List Pair) → length before ≡ place
         → AreKeys table.now before keys → AreKeys table.now (before ++ pair.now ∷ []) result }
@@ -163,7 +174,7 @@ fn with_pair(table: &AiTable, keys: Keys, place: usize, pair: &Pair, row: usize)
 }
 
 /// Returns the keys among the pairs. The row of each is looked up once.
-fn keys_among(table: &AiTable, pairs: &[Pair]) -> Keys
+fn keys_among(table: &AiTable, pairs: &[Pair<'_>]) -> Keys
     ensures { AreKeys table.now pairs.now result }
 {
     let mut keys = Keys {

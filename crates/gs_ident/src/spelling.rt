@@ -79,7 +79,7 @@ pub fn append_element(
 }
 
 /// Appends the pair as `append_element` does.
-fn write_pair(out: &mut Vec<u8>, before: u8, pair: &Pair, between: u8) -> Result<(), Memory>
+fn write_pair(out: &mut Vec<u8>, before: u8, pair: &Pair<'_>, between: u8) -> Result<(), Memory>
     ensures written { IfOk result (λ _. out.new.items
         ≡ out.old.items ++ (before ∷ (pair.now.code ++ between ∷ percent_encoded pair.now.value))) }
     ensures begun { OnErr result (BeginsWith out.new.items out.old.items) }
@@ -94,7 +94,7 @@ fn write_pair(out: &mut Vec<u8>, before: u8, pair: &Pair, between: u8) -> Result
 }
 
 /// Appends each pair as `write_pair` does.
-fn write_pairs(out: &mut Vec<u8>, before: u8, pairs: &[Pair], between: u8) -> Result<(), Memory>
+fn write_pairs(out: &mut Vec<u8>, before: u8, pairs: &[Pair<'_>], between: u8) -> Result<(), Memory>
     ensures written { IfOk result (λ _. out.new.items
         ≡ out.old.items
         ++ flat_map (λ p. before ∷ (p.code ++ between ∷ percent_encoded p.value)) pairs.now) }
@@ -107,7 +107,7 @@ fn write_pairs(out: &mut Vec<u8>, before: u8, pairs: &[Pair], between: u8) -> Re
 }
 
 /// Appends the query of the attributes, or nothing if there are none.
-fn write_query(out: &mut Vec<u8>, pairs: &[Pair]) -> Result<(), Memory>
+fn write_query(out: &mut Vec<u8>, pairs: &[Pair<'_>]) -> Result<(), Memory>
     ensures written { IfOk result (λ _. out.new.items ≡ out.old.items ++ query_of pairs.now) }
     ensures begun { OnErr result (BeginsWith out.new.items out.old.items) }
 {
@@ -119,13 +119,13 @@ fn write_query(out: &mut Vec<u8>, pairs: &[Pair]) -> Result<(), Memory>
 }
 
 /// Returns the number of bytes of a link under the stem without its escapes: the memory that is reserved for it.
-fn room_for(stem: &[u8], identity: &Identity) -> usize {
+fn room_for(stem: &[u8], identity: &Identity<'_>) -> usize {
     stem.len().saturating_add(identity.room())
 }
 
 /// Appends the link of the identity under the stem, as `spell` returns it. Fails only with `Memory`; `out` then begins with its
 /// old contents.
-pub fn append_link(out: &mut Vec<u8>, stem: &[u8], identity: &Identity) -> Result<(), Memory>
+pub fn append_link(out: &mut Vec<u8>, stem: &[u8], identity: &Identity<'_>) -> Result<(), Memory>
     ensures written { IfOk result (λ _. out.new.items ≡ out.old.items ++ spelled stem.now identity.now) }
     ensures begun { OnErr result (BeginsWith out.new.items out.old.items) }
 {
@@ -137,7 +137,7 @@ pub fn append_link(out: &mut Vec<u8>, stem: &[u8], identity: &Identity) -> Resul
 
 /// Returns the link of the identity under the stem: the key's pair and those of the qualifiers as the path, the attributes as
 /// the query (GS1 Digital Link URI Syntax, section 4). Fails only with `Memory`.
-pub fn spell(alloc: Global, stem: &[u8], identity: &Identity) -> Result<Text, Memory>
+pub fn spell(alloc: Global, stem: &[u8], identity: &Identity<'_>) -> Result<Text, Memory>
     ensures { IfOk result (λ text. text ≡ spelled stem.now identity.now) }
 {
     let mut out = Vec::with_capacity(alloc, room_for(stem, identity))?;
@@ -150,7 +150,7 @@ pub const CANONICAL_STEM: &str = "https://id.gs1.org";
 
 /// Appends the canonical link of the identity, as `canonical` returns it. Fails only with `Memory`; `out` then begins with its
 /// old contents.
-pub fn append_canonical(out: &mut Vec<u8>, identity: &Identity) -> Result<(), Memory>
+pub fn append_canonical(out: &mut Vec<u8>, identity: &Identity<'_>) -> Result<(), Memory>
     ensures written { IfOk result (λ _. out.new.items ≡ out.old.items ++ canonical_link identity.now) }
     ensures begun { OnErr result (BeginsWith out.new.items out.old.items) }
 {
@@ -159,7 +159,7 @@ pub fn append_canonical(out: &mut Vec<u8>, identity: &Identity) -> Result<(), Me
 
 /// Returns the canonical link of the identity, which has the stem `CANONICAL_STEM` (GS1 Digital Link URI Syntax, section 5).
 /// Fails only with `Memory`.
-pub fn canonical(alloc: Global, identity: &Identity) -> Result<Text, Memory>
+pub fn canonical(alloc: Global, identity: &Identity<'_>) -> Result<Text, Memory>
     ensures { IfOk result (λ text. text ≡ canonical_link identity.now) }
 {
     spell(alloc, CANONICAL_STEM.as_bytes(), identity)

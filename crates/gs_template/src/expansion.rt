@@ -14,14 +14,14 @@ use gs_ident::{Identity, append_escaped, is_coded};
 use std::alloc::Global;
 
 /// Returns the first pair with a code.
-fn pair_with<'a>(pairs: &'a [Pair], code: &[u8]) -> Option<&'a Pair>
+fn pair_with<'p, 'a>(pairs: &'p [Pair<'a>], code: &[u8]) -> Option<&'p Pair<'a>>
     ensures { option_copied result ≡ find (is_coded code.now) pairs.now }
 {
     pairs.iter().find(|pair| is_coded(code, pair))
 }
 
 /// Returns the value of the first pair with a code, or nothing if there is no such pair.
-fn value_among<'a>(pairs: &'a [Pair], code: &[u8]) -> &'a [u8]
+fn value_among<'a>(pairs: &'a [Pair<'_>], code: &[u8]) -> &'a [u8]
     ensures { result.now ≡ value_of (find (is_coded code.now) pairs.now) }
 {
     match pair_with(pairs, code) {
@@ -31,7 +31,7 @@ fn value_among<'a>(pairs: &'a [Pair], code: &[u8]) -> &'a [u8]
 }
 
 /// Returns the value of an identity under a code, and nothing if it has none.
-fn value_under<'a>(identity: &'a Identity, code: &[u8]) -> &'a [u8]
+fn value_under<'a>(identity: &'a Identity<'_>, code: &[u8]) -> &'a [u8]
     ensures { result.now ≡ value_under identity.now code.now }
 {
     if is_coded(code, identity.key()) {
@@ -56,7 +56,7 @@ fn append_part(
     out: &mut Vec<u8>,
     byte: u8,
     behind: &[u8],
-    identity: &Identity,
+    identity: &Identity<'_>,
 ) -> Result<usize, Memory>
     ensures further { IfOk result (λ further. further ≡ bytes_behind (place_size byte behind.now)) }
     ensures text { IfOk result (λ _. out.new.items
@@ -77,7 +77,7 @@ fn append_part(
 /// A place is empty if the identity has no such element. All other bytes are unchanged (RFC 6570, section 3.2.2). A place is an
 /// opening brace, 2 to 4 digits and a closing brace. No value adds a delimiter, and a template that is valid UTF-8 expands to
 /// valid UTF-8. Fails only with `Memory`.
-pub fn expand(alloc: Global, href: &[u8], identity: &Identity) -> Result<Text, Memory>
+pub fn expand(alloc: Global, href: &[u8], identity: &Identity<'_>) -> Result<Text, Memory>
     ensures text { IfOk result (λ text. text ≡ filled href.now identity.now) }
     ensures delimiters { IfOk result (λ text. filter is_delimiter text ≡ filter is_delimiter href.now) }
     ensures utf8 { IfOk result (λ text. is_utf8 href.now ≡ true → is_utf8 text ≡ true) }

@@ -8,4 +8,4 @@ with_zeros short value judged out counted behind new allowed gtin j k b zeros pu
 
 pub returns : goal.returns
 returns c =
-    with_zeros c.args.short c.args.value c.as_bytes.result.now _ c.as_bytes-2.result.now c.as_bytes-3.result.now _ (cc) (sym c.is_short_gtin.ensures ∙ c.if-not-is_short_gtin.false) c.as_bytes.ensures c.as_bytes-2.ensures c.as_bytes-3.ensures c.in_ok-out.ensures c.in_ok-extend_from_slice.ensures.appended
+    c.from.ensures ∙ with_zeros c.args.short c.args.value c.as_bytes.result.now _ c.as_bytes-2.result.now c.as_bytes-3.result.now _ (cc) (sym c.is_short_gtin.ensures ∙ c.if-not-is_short_gtin.false) c.as_bytes.ensures c.as_bytes-2.ensures c.as_bytes-3.ensures c.in_ok-out.ensures c.in_ok-extend_from_slice.ensures.appended

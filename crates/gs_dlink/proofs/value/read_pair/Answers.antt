@@ -17,14 +17,14 @@ returns-in_default-2 c =
     rw c.error_of-in_default-2.ensures
     (inr (no_escape c.args.table.now pair c.index-rows-place.result found (not_spelled pair.value (rw c.in_default-2.is at c.in_ok-value.ensures))))
 
-pub returns-in-Err : goal.returns-in-Err
-returns-in-Err c =
+pub returns : goal.returns
+returns c =
     rw c.error_of-in-Err.ensures
     (inr (judged c.args.table.now (written_of c.args.written.now) c.in-Some.place c.index-rows-place.result (sym c.in-Some.is ∙ c.requires) (rw c.rows.ensures.rows at c.index-rows-place.is)
     c.in-Some-2.value c.in_ok-value-2.value (Some c.in-Err.error) (rw c.in-Some-2.is at c.in_ok-value.ensures) c.in_ok-value-2.ensures (rw c.as_bytes.ensures at c.in-Err.ensures.error)))
 
-pub returns-in_ok-from_bytes-in-Ok : goal.returns-in_ok-from_bytes-in-Ok
-returns-in_ok-from_bytes-in-Ok c =
-    rw c.in_ok-from_bytes-in-Ok.ensures
+pub returns-in-Ok : goal.returns-in-Ok
+returns-in-Ok c =
+    rw c.lent.ensures
     (inr (judged c.args.table.now (written_of c.args.written.now) c.in-Some.place c.index-rows-place.result (sym c.in-Some.is ∙ c.requires) (rw c.rows.ensures.rows at c.index-rows-place.is)
     c.in-Some-2.value c.in_ok-value-2.value None (rw c.in-Some-2.is at c.in_ok-value.ensures) c.in_ok-value-2.ensures (rw c.as_bytes.ensures at c.in-Ok.ensures.ok)))

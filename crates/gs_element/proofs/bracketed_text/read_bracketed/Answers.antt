@@ -27,7 +27,7 @@ returns-in-Err-clause-rejected c =
     let rows = c.args.table.now in
     let known = bracketed_known rows c.rows.ensures.kept in
     let some = not_empty c.loop-rest.rest.now c.loop-rest-test.ensures in
-    let value = c.as_bytes.ensures ∙ (rw c.new-value.ensures at c.in_ok-behind.ensures.value) in
+    let value = c.as_bytes.ensures ∙ (c.in_ok-read.ensures.value) in
     let own = no_value rows c.loop-rest.rest.now c.in-Some.code.now c.in-Some.after.now c.as_bytes.result.now c.in-Err.error some c.in-Some.ensures value c.in-Err.ensures.error in
     rw c.error_at-in-Err.ensures (first_error (IsBracketedElement rows) (bracketed_error rows) known c.args.text.now c.args.text.now c.loop-rest.pairs.items c.loop-rest.rest.now (record { at = 1; why = Value c.in-Err.error }) _ (omega arith) own (omega arith) refl c.loop-rest.invariant.joined c.loop-rest.invariant.reaches)
 
@@ -35,22 +35,22 @@ pub loop-rest-smaller : goal.loop-rest-smaller
 loop-rest-smaller c =
     let rows = c.args.table.now in
     let kept = c.rows.ensures.kept in
-    let value = c.as_bytes.ensures ∙ (rw c.new-value.ensures at c.in_ok-behind.ensures.value) in
+    let value = c.as_bytes.ensures ∙ (c.in_ok-read.ensures.value) in
     let fits = rw value at c.in_default-value_ok.ensures.ok in
     let pair : Pair = record { code = c.in-Some.code.now; value = value_before c.in-Some.after.now } in
-    let element = cut_is rows kept c.loop-rest.rest.now c.in-Some.code.now (value_before c.in-Some.after.now) c.in-Some.after.now c.in_ok-behind.behind.now (sym c.in-Some.ensures) fits c.in_ok-behind.ensures.rest c.in_ok-behind.ensures.cut in
-    shorter (IsBracketedElement rows) (bracketed_error rows) (bracketed_known rows kept) pair c.loop-rest.rest.now c.in_ok-behind.behind.now element
+    let element = cut_is rows kept c.loop-rest.rest.now c.in-Some.code.now (value_before c.in-Some.after.now) c.in-Some.after.now c.in_ok-read.read.rest.now (sym c.in-Some.ensures) fits c.in_ok-read.ensures.rest c.in_ok-read.ensures.cut in
+    shorter (IsBracketedElement rows) (bracketed_error rows) (bracketed_known rows kept) pair c.loop-rest.rest.now c.in_ok-read.read.rest.now element
 
 pub loop-rest-preserved : goal.loop-rest-preserved
 loop-rest-preserved c =
     let rows = c.args.table.now in
     let kept = c.rows.ensures.kept in
-    let items = rw c.new-value.ensures at c.in_ok-behind.ensures.value in
+    let items = c.in_ok-read.ensures.value in
     let fits = rw (c.as_bytes.ensures ∙ items) at c.in_default-value_ok.ensures.ok in
     let pair : Pair = record { code = c.in-Some.code.now; value = value_before c.in-Some.after.now } in
-    let element = cut_is rows kept c.loop-rest.rest.now c.in-Some.code.now (value_before c.in-Some.after.now) c.in-Some.after.now c.in_ok-behind.behind.now (sym c.in-Some.ensures) fits c.in_ok-behind.ensures.rest c.in_ok-behind.ensures.cut in
-    let greedy = greedy_known rows kept pair c.loop-rest.rest.now c.in_ok-behind.behind.now element in
-    let read = next_read (IsBracketedElement rows) (bracketed_error rows) (bracketed_known rows kept) c.args.text.now c.loop-rest.pairs.items pair c.loop-rest.rest.now c.in_ok-behind.behind.now element greedy c.loop-rest.invariant.joined c.loop-rest.invariant.reaches in
+    let element = cut_is rows kept c.loop-rest.rest.now c.in-Some.code.now (value_before c.in-Some.after.now) c.in-Some.after.now c.in_ok-read.read.rest.now (sym c.in-Some.ensures) fits c.in_ok-read.ensures.rest c.in_ok-read.ensures.cut in
+    let greedy = greedy_known rows kept pair c.loop-rest.rest.now c.in_ok-read.read.rest.now element in
+    let read = next_read (IsBracketedElement rows) (bracketed_error rows) (bracketed_known rows kept) c.args.text.now c.loop-rest.pairs.items pair c.loop-rest.rest.now c.in_ok-read.read.rest.now element greedy c.loop-rest.invariant.joined c.loop-rest.invariant.reaches in
     let pushed = rw items at c.in_ok-push_pair.ensures in
     rw pushed (record { joined = read.joined; reaches = read.reaches })
 

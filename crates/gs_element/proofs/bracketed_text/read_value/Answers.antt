@@ -1,32 +1,53 @@
-use Rattle.std.proofs.Common.{◌≡◌, ℕ, List, [], ◌∷◌, ◌++◌, ap, sym, ◌∙◌, append_assoc, append-nil}
+use Rattle.std.proofs.Common.{◌≡◌, true, ℕ, List, ◌++◌, take, drop, ap, sym, ◌∙◌, append_assoc, append-nil}
+use Rattle.std.specs.List.{position_or_len}
 use Rattle.std.proofs.lemmas.Grind.{flat_map-append}
-use Rattle.gs_element.specs.BracketedTexts.{value_before, written_character, written_value}
-use Rattle.gs_element.proofs.BracketLemmas.{plain_front}
+use Rattle.memchr.specs.Find.{is_byte2}
+use Rattle.gs_element.specs.BracketedTexts.{is_cut, value_before, written_character, written_value}
+use Rattle.gs_element.proofs.BracketLemmas.{plain_front, value_none}
 use Rattle.gs_element.proofs.bracketed_text.read_value.Goals as goal
 
-written_more : (done : List ℕ) (c : ℕ) (behind : List ℕ) → written_value done ++ (written_character c ++ behind) ≡ written_value (done ++ c ∷ []) ++ behind
-written_more done c behind = rw (flat_map-append written_character done (c ∷ []), append-nil (written_character c)) (sym (append_assoc (written_value done) (written_character c) behind))
+-- the characters before the first bracket or backslash
+abbrev front : List ℕ → List ℕ
+front text = take (position_or_len (is_byte2 40 92) text) text
 
-character_more : (start value pushed text left behind done : List ℕ) (c : ℕ) → value ≡ start ++ done → value_before text ≡ done ++ value_before left → text ≡ written_value done ++ left
-    → pushed ≡ value ++ c ∷ [] → value_before left ≡ c ∷ value_before behind → left ≡ written_character c ++ behind
-    → (x : List ℕ) × (pushed ≡ start ++ x) × (value_before text ≡ x ++ value_before behind) × (text ≡ written_value x ++ behind)
-character_more start value pushed text left behind done c so_far before written push next character = (
-  done ++ c ∷ [],
-  push ∙ ap (λ (w : List ℕ). w ++ c ∷ []) so_far ∙ append_assoc start done (c ∷ []),
-  before ∙ ap (λ (w : List ℕ). done ++ w) next ∙ sym (append_assoc done (c ∷ []) (value_before behind)),
-  written ∙ ap (λ (w : List ℕ). written_value done ++ w) character ∙ written_more done c behind,
-)
+-- the text behind them
+abbrev behind_front : List ℕ → List ℕ
+behind_front text = drop (position_or_len (is_byte2 40 92) text) text
 
-pub loop-next-preserved : goal.loop-next-preserved
-loop-next-preserved c =
-    let h = c.loop-next.invariant in
-    character_more c.args.value.now c.loop-next.value _ c.args.text.now c.loop-next.rest.now c.in-Some.next.rest.now h.0 c.in-Some.next.character h.1 h.2 h.3 c.in_ok-push.ensures.appended c.in-Some.ensures.value c.in-Some.ensures.text
+plain_value : (text : List ℕ) → is_cut (behind_front text) ≡ true → front text ≡ value_before text
+plain_value text cut = sym ((plain_front text).0 ∙ ap (λ (x : List ℕ). front text ++ x) (value_none (behind_front text) cut) ∙ append-nil (front text))
 
-pub loop-next-init : goal.loop-next-init
-loop-next-init c =
-    let n = c.plain_len.ensures.len in
-    let front = plain_front c.args.text.now in
-    let split = c.split_at.ensures in
-    let plain = rw n at split.front in
-    let rest = rw n at split.back in
-    (c.split_at.result.0.now, c.in_ok-extend_from_slice.ensures.appended, rw (plain, rest) front.0, rw (plain, rest) front.1)
+plain_rest : (text : List ℕ) → is_cut (behind_front text) ≡ true → text ≡ written_value (value_before text) ++ behind_front text
+plain_rest text cut = (plain_front text).1 ∙ ap (λ (x : List ℕ). written_value x ++ behind_front text) (plain_value text cut)
+
+whole_rest : (text rest : List ℕ) → behind_front text ≡ written_value (value_before (behind_front text)) ++ rest → text ≡ written_value (value_before text) ++ rest
+whole_rest text rest e =
+    let front_of = front text in
+    let last = value_before (behind_front text) in
+    let joined : written_value front_of ++ (written_value last ++ rest) ≡ written_value (front_of ++ last) ++ rest = rw (flat_map-append written_character front_of last) (sym (append_assoc (written_value front_of) (written_value last) rest)) in
+    (plain_front text).1 ∙ ap (λ (x : List ℕ). written_value front_of ++ x) e ∙ joined ∙ ap (λ (x : List ℕ). written_value x ++ rest) (sym (plain_front text).0)
+
+pub returns-then-is_cut : goal.returns-then-is_cut
+returns-then-is_cut c =
+    let text = c.args.text.now in
+    let first : c.split_at.result.0.now ≡ front text = rw c.plain_len.ensures.len at c.split_at.ensures.front in
+    let behind : c.split_at.result.1.now ≡ behind_front text = rw c.plain_len.ensures.len at c.split_at.ensures.back in
+    let cut : is_cut c.split_at.result.1.now ≡ true = sym c.is_cut.ensures ∙ c.if-is_cut.true in
+    let there = rw behind at cut in
+    record {
+      value = c.lent.ensures ∙ first ∙ plain_value text there;
+      rest = plain_rest text there ∙ ap (λ (x : List ℕ). written_value (value_before text) ++ x) (sym behind);
+      cut = cut;
+    }
+
+pub returns-clause-value : goal.returns-clause-value
+returns-clause-value c =
+    let text = c.args.text.now in
+    let first : c.split_at.result.0.now ≡ front text = rw c.plain_len.ensures.len at c.split_at.ensures.front in
+    let behind : c.split_at.result.1.now ≡ behind_front text = rw c.plain_len.ensures.len at c.split_at.ensures.back in
+    c.from.ensures ∙ rw (c.in_ok-value.ensures, first, behind) at c.in_ok-rest.ensures.value ∙ sym (plain_front text).0
+
+pub returns-clause-rest : goal.returns-clause-rest
+returns-clause-rest c =
+    let behind : c.split_at.result.1.now ≡ behind_front c.args.text.now = rw c.plain_len.ensures.len at c.split_at.ensures.back in
+    whole_rest c.args.text.now c.in_ok-rest.rest.now (rw behind at c.in_ok-rest.ensures.rest)

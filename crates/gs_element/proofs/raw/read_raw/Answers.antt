@@ -20,7 +20,7 @@ loop-rest-preserved c =
     let rows = c.args.table.now in
     let kept = c.rows.ensures.kept in
     let known = raw_known rows kept in
-    let pushed = rw c.in_ok-value-in-Ok.ensures at c.in_ok-push_pair-in-Ok.ensures in
+    let pushed = rw c.lent.ensures at c.in_ok-push_pair-in-Ok.ensures in
     let element = cut_is rows kept c.loop-rest.rest.now c.in-Ok.cut.code.now c.in-Ok.cut.value.now c.in-Ok.cut.rest.now c.in-Ok.ensures.cut in
     let greedy = cut_greedy rows kept c.loop-rest.rest.now c.in-Ok.cut.code.now c.in-Ok.cut.value.now c.in-Ok.cut.rest.now c.in-Ok.ensures.cut in
     let read = next_read (IsRawElement rows) (raw_error rows) known (body_of c.args.text.now) c.loop-rest.pairs.items (record { code = c.in-Ok.cut.code.now; value = c.in-Ok.cut.value.now }) c.loop-rest.rest.now c.in-Ok.cut.rest.now element greedy c.loop-rest.invariant.joined c.loop-rest.invariant.reaches in

@@ -1,6 +1,6 @@
 use Rattle.std.proofs.Common.{◌≡◌, ◌++◌, ℕ, List, length}
 use Rattle.gs_element.specs.BracketedTexts.{value_before, written_value}
-use Rattle.gs_element.proofs.bracketed_text.read_value.Given as goal
+use Rattle.gs_element.proofs.bracketed_text.append_value.Given as goal
 
 -- the characters so far, and the value of the rest
 abbrev pub invariant-loop-next : goal.invariant-loop-next
