@@ -1,15 +1,13 @@
 -- The values of fields, by the places of their items.
 use Rattle.std.proofs.Common.{◌≡◌, ℕ, zero, suc, ◌+◌, ◌<◌, ◌≤◌, Bool, true, false, if◌then◌else◌, List, [], ◌∷◌, length, position, Option, Some, None, option_map, slice_get, get_or, refl, sym, ap, ◌∙◌, arith}
-use Rattle.std.specs.Prelude.{IfSome, zip}
+use Rattle.std.specs.Prelude.{zip}
 use Rattle.std.specs.List.{find}
 use Rattle.std.specs.Option.{option_and_then}
 use Rattle.std.proofs.lemmas.Option.{slice_get_past}
-use Rattle.gs_grammar.specs.Words.{decimal_value}
 use Rattle.gs_tables_document.specs.declared.document.Field.{Field}
 use Rattle.gs_tables_document.specs.declared.document.Field.TheVariants.{Filter, Gcp, Rest, Piece, Total, Serial}
 use Rattle.gs_tables.specs.Rules.{is_field}
-use Rattle.gs_epc.specs.Epcs.{filter_of, value_at, value_of}
-use Rattle.gs_epc.specs.Filters.{IsFilter}
+use Rattle.gs_epc.specs.Epcs.{value_at, value_of}
 use Rattle.gs_ai.proofs.Searches.{position-cons, read_at}
 
 -- the value after the first field that passes a test
@@ -63,20 +61,6 @@ pub one_value : (field : Field) (fields : List (Option Field)) (values : List (L
 one_value field fields values k value place low read =
     let here = value_here field fields values k value place low read in
     rw here refl
-
--- ---- the filter
-
-pub no_filter_item : (fields : List (Option Field)) (values : List (List ℕ)) → None ≡ position (is_field Filter) fields → None ≡ filter_of fields values
-no_filter_item fields values none = let e = value_from Filter fields values None none in rw e refl
-
-pub no_filter_value : (fields : List (Option Field)) (values : List (List ℕ)) (k : ℕ) → Some k ≡ position (is_field Filter) fields → length values ≤ k → None ≡ filter_of fields values
-no_filter_value fields values k place past = let e = value_past Filter fields values k place past in rw e refl
-
-pub filter_value : (fields : List (Option Field)) (values : List (List ℕ)) (k : ℕ) (value : List ℕ) → IfSome (value_at Filter fields values) IsFilter → Some k ≡ position (is_field Filter) fields → k < length values → value ≡ get_or values k value → IsFilter value
-filter_value fields values k value all place low read = let e = value_here Filter fields values k value place low read in rw e at all
-
-pub filter_number : (fields : List (Option Field)) (values : List (List ℕ)) (k : ℕ) (value : List ℕ) (number : ℕ) → Some k ≡ position (is_field Filter) fields → k < length values → value ≡ get_or values k value → number ≡ decimal_value value → Some number ≡ filter_of fields values
-filter_number fields values k value number place low read is = let e = value_here Filter fields values k value place low read in rw e (ap Some is)
 
 -- ---- a field by its test
 

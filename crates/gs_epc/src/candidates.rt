@@ -5,7 +5,6 @@ ghost use Rattle.gs_tables.specs.Rules.{is_field};
 ghost use Rattle.gs_epc.specs.Candidates.{HasFilter, HasFilterOn, filter_text, is_asked, is_left_out, left_out, value_for};
 
 use crate::epc::EpcRef;
-use crate::key_parts::joined;
 use gs_chars::{CowText, Memory};
 use gs_tables::{Field, LevelName};
 use std::alloc::Global;
@@ -46,43 +45,28 @@ fn filter_text(level: LevelName, filter: Option<u8>) -> &'static [u8]
     }
 }
 
-/// Returns the rest, joined if it has lead digits.
-fn rest_of<'a>(alloc: Global, epc: &EpcRef<'a>) -> Result<CowText<'a>, Memory>
-    ensures { IfOk result (λ text. text ≡ epc.now.rest) }
-{
-    if epc.lead.is_empty() {
-        return Ok(CowText::lent(epc.behind));
-    }
-    Ok(CowText::from(joined(alloc, epc.lead, epc.behind)?))
-}
-
 /// Returns the value of the items that stand for a field.
-fn value_for<'a>(
-    alloc: Global,
-    epc: &EpcRef<'a>,
-    filter: &'static [u8],
-    field: Option<Field>,
-) -> Result<CowText<'a>, Memory>
+fn value_for<'a>(epc: &'a EpcRef<'_>, filter: &'static [u8], field: Option<Field>) -> CowText<'a>
     ensures { (level : LevelName) → filter.now ≡ filter_text level epc.now.filter
-        → IfOk result (λ value. value ≡ value_for level epc.now field) }
+        → result ≡ value_for level epc.now field }
 {
     let text: &[u8] = match field {
         None => &[],
         Some(Field::Filter) => filter,
         Some(Field::Gcp) => epc.prefix,
-        Some(Field::Rest) => return rest_of(alloc, epc),
+        Some(Field::Rest) => epc.rest.as_bytes(),
         Some(Field::Piece) => epc.piece,
         Some(Field::Total) => epc.total,
         Some(Field::Serial) => epc.serial,
     };
-    Ok(CowText::lent(text))
+    CowText::lent(text)
 }
 
 /// Returns the values of the items that stand for these fields.
 pub(crate) fn values_for<'a>(
     alloc: Global,
     level: LevelName,
-    epc: &EpcRef<'a>,
+    epc: &'a EpcRef<'_>,
     fields: &[Option<Field>],
 ) -> Result<Vec<CowText<'a>>, Memory>
     requires { HasFilterOn level epc.now.filter }
@@ -91,7 +75,7 @@ pub(crate) fn values_for<'a>(
     let filter = filter_text(level, epc.filter);
     let mut values = Vec::with_capacity(alloc, fields.len())?;
     for field in fields {
-        values.push(value_for(alloc, epc, filter, *field)?)?;
+        values.push(value_for(epc, filter, *field))?;
     }
     Ok(values)
 }
@@ -116,21 +100,11 @@ fn is_left_out(field: Field, fields: &[Option<Field>], text: &[u8]) -> bool
     !text.is_empty() && !has_item(field, fields)
 }
 
-/// Returns whether the rest is not empty, and no item stands for it.
-fn leaves_rest(fields: &[Option<Field>], epc: &EpcRef<'_>) -> bool
-    ensures { result ≡ is_left_out Field.Rest fields.now epc.now.rest }
-{
-    if epc.lead.is_empty() {
-        return is_left_out(Field::Rest, fields, epc.behind);
-    }
-    is_left_out(Field::Rest, fields, epc.lead)
-}
-
 /// Returns the first of the rest, the piece, the total and the serial that an option leaves out.
 pub(crate) fn left_out(fields: &[Option<Field>], epc: &EpcRef<'_>) -> Option<Field>
     ensures { result ≡ left_out fields.now epc.now }
 {
-    if leaves_rest(fields, epc) {
+    if is_left_out(Field::Rest, fields, epc.rest.as_bytes()) {
         return Some(Field::Rest);
     }
     if is_left_out(Field::Piece, fields, epc.piece) {

@@ -1,7 +1,6 @@
 ghost use Rattle.std.specs.Prelude.{◌≡◌};
-ghost use Rattle.gs_epc.specs.Layout.{fields_in};
 
-use gs_chars::Text;
+use gs_chars::{CowText, Text};
 use std::marker::Model;
 
 /// The contents of a tag or an EPC URI (TDS 2.0, section 6.3): the fields of an option of a table set.
@@ -27,8 +26,8 @@ pub struct Epc {
     pub serial: Text,
 }
 
-/// The contents of a tag or an EPC URI, each text lent: the fields of `Epc`. The rest is in two parts, so that none is copied
-/// to join them.
+/// The contents of a tag or an EPC URI, each text lent: the fields of `Epc`. The rest owns its text if the value of a key does
+/// not have it in one piece.
 #[derive(Drop)]
 pub struct EpcRef<'a> {
     /// The index of the kind.
@@ -41,10 +40,8 @@ pub struct EpcRef<'a> {
     pub gcp: u8,
     /// The GS1 Company Prefix.
     pub prefix: &'a [u8],
-    /// The lead digits of the rest.
-    pub lead: &'a [u8],
-    /// The rest of the reference after them.
-    pub behind: &'a [u8],
+    /// The reference of the key, with the indicator or extension digit at the start; empty if the company prefix leaves nothing.
+    pub rest: CowText<'a>,
     /// The number of the piece, empty for a kind without pieces.
     pub piece: &'a [u8],
     /// How many pieces there are, empty for a kind without pieces.
@@ -54,7 +51,6 @@ pub struct EpcRef<'a> {
 }
 
 impl<'a> Model for EpcRef<'a> {
-    ghost use Rattle.std.specs.Prelude.{◌++◌};
     ghost use Rattle.gs_epc.specs.declared.epc.Epc.{Epc};
 
     ghost Value = { Epc };
@@ -65,7 +61,7 @@ impl<'a> Model for EpcRef<'a> {
       filter = t.filter;
       gcp = t.gcp;
       prefix = t.prefix.now;
-      rest = t.lead.now ++ t.behind.now;
+      rest = t.rest;
       piece = t.piece.now;
       total = t.total.now;
       serial = t.serial.now;
@@ -82,45 +78,7 @@ pub(crate) fn lent(epc: &Epc) -> EpcRef<'_>
         filter: epc.filter,
         gcp: epc.gcp,
         prefix: epc.prefix.as_bytes(),
-        lead: &[],
-        behind: epc.rest.as_bytes(),
-        piece: epc.piece.as_bytes(),
-        total: epc.total.as_bytes(),
-        serial: epc.serial.as_bytes(),
-    }
-}
-
-/// The lent fields of an EPC's key, each with the text of that in `Epc`.
-#[derive(Drop)]
-pub(crate) struct KeyTexts<'a> {
-    pub(crate) prefix: &'a [u8],
-    pub(crate) rest: &'a [u8],
-    pub(crate) piece: &'a [u8],
-    pub(crate) total: &'a [u8],
-    pub(crate) serial: &'a [u8],
-}
-
-impl<'a> Model for KeyTexts<'a> {
-    ghost use Rattle.gs_epc.specs.Layout.{KeyFields};
-
-    ghost Value = { KeyFields };
-
-    ghost view = { λ t. record {
-      prefix = t.prefix.now;
-      rest = t.rest.now;
-      piece = t.piece.now;
-      total = t.total.now;
-      serial = t.serial.now;
-    } };
-}
-
-/// Returns the fields of an EPC's key.
-pub(crate) fn texts_in(epc: &Epc) -> KeyTexts<'_>
-    ensures { result ≡ fields_in epc.now }
-{
-    KeyTexts {
-        prefix: epc.prefix.as_bytes(),
-        rest: epc.rest.as_bytes(),
+        rest: CowText::lent(epc.rest.as_bytes()),
         piece: epc.piece.as_bytes(),
         total: epc.total.as_bytes(),
         serial: epc.serial.as_bytes(),

@@ -1,14 +1,13 @@
-ghost use Rattle.std.specs.Prelude.{◌≡◌, IfSome, position};
-ghost use Rattle.gs_grammar.specs.Words.{decimal_value};
+ghost use Rattle.std.specs.Prelude.{◌≡◌, [], IfSome, position};
 ghost use Rattle.gs_tables_document.specs.declared.document.Field.{Field};
 ghost use Rattle.gs_tables.specs.Rules.{is_field};
-ghost use Rattle.gs_epc.specs.Epcs.{filter_of, value_at};
-ghost use Rattle.gs_epc.specs.FieldTexts.{texts_of, with_text};
+ghost use Rattle.gs_epc.specs.Epcs.{epc_of, value_at};
+ghost use Rattle.gs_epc.specs.FieldTexts.{filter_number, texts_of, with_text};
 ghost use Rattle.gs_epc.specs.Filters.{IsFilter};
 
-use crate::epc::KeyTexts;
+use crate::epc::EpcRef;
 use gs_chars::CowText;
-use gs_tables::Field;
+use gs_tables::{Field, OptInfo};
 
 /// Returns the place of the first item that stands for a field.
 pub fn place_of(field: Field, fields: &[Option<Field>]) -> Option<usize>
@@ -17,52 +16,60 @@ pub fn place_of(field: Field, fields: &[Option<Field>]) -> Option<usize>
     fields.iter().position(|named| *named == Some(field))
 }
 
-/// Returns the number of a filter value.
-fn filter_number(value: &CowText<'_>) -> u8
-    requires { IsFilter value.now }
-    ensures { result ≡ decimal_value value.now }
+/// Returns the number of a filter value: its one digit.
+fn filter_number(text: &[u8]) -> Option<u8>
+    ensures { result ≡ filter_number text.now }
 {
-    value.as_bytes()[0] - b'0'
-}
-
-/// Returns the number of the filter value, if an item has it.
-pub(crate) fn filter_of(fields: &[Option<Field>], values: &[CowText<'_>]) -> Option<u8>
-    requires { IfSome (value_at Field.Filter fields.now values.now) IsFilter }
-    ensures { result ≡ filter_of fields.now values.now }
-{
-    let value = values.get(place_of(Field::Filter, fields)?)?;
-    Some(filter_number(value))
+    match text {
+        [digit, ..] => Some(digit.saturating_sub(b'0')),
+        [] => None,
+    }
 }
 
 /// Puts the value of an item instead of its field.
-fn put_text<'a>(texts: &mut KeyTexts<'a>, field: Option<Field>, text: &'a [u8])
-    ensures { texts.new ≡ with_text field text.now texts.old }
+fn put_text<'a>(epc: &mut EpcRef<'a>, field: Option<Field>, text: &'a [u8])
+    ensures { epc.new ≡ with_text field text.now epc.old }
 {
     match field {
-        Some(Field::Gcp) => texts.prefix = text,
-        Some(Field::Rest) => texts.rest = text,
-        Some(Field::Piece) => texts.piece = text,
-        Some(Field::Total) => texts.total = text,
-        Some(Field::Serial) => texts.serial = text,
-        Some(Field::Filter) | None => {}
+        Some(Field::Filter) => epc.filter = filter_number(text),
+        Some(Field::Gcp) => epc.prefix = text,
+        Some(Field::Rest) => epc.rest = CowText::lent(text),
+        Some(Field::Piece) => epc.piece = text,
+        Some(Field::Total) => epc.total = text,
+        Some(Field::Serial) => epc.serial = text,
+        None => {}
     }
 }
 
-/// Returns the fields of the key that the values of items give. The first item of a field counts, so the last is taken first.
-pub(crate) fn texts_of<'a>(fields: &[Option<Field>], values: &'a [CowText<'_>]) -> KeyTexts<'a>
-    ensures { result ≡ texts_of fields.now values.now }
+/// Returns the EPC of an option that has no values, each text lent.
+fn without_values(info: &OptInfo) -> EpcRef<'_>
+    ensures { result ≡ texts_of info.now [] [] }
 {
-    let mut texts = KeyTexts {
+    EpcRef {
+        kind: info.kind,
+        encoding: info.encoding.as_bytes(),
+        filter: None,
+        gcp: info.gcp,
         prefix: &[],
-        rest: &[],
+        rest: CowText::lent(&[]),
         piece: &[],
         total: &[],
         serial: &[],
-    };
+    }
+}
+
+/// Returns the EPC that the values of an option's items give, each text lent. The first item of a field counts, so the last is
+/// taken first.
+pub(crate) fn epc_of<'a>(info: &'a OptInfo, values: &'a [CowText<'_>]) -> EpcRef<'a>
+    requires { IfSome (value_at Field.Filter info.now.fields values.now) IsFilter }
+    ensures { result ≡ epc_of info.now values.now }
+{
+    let fields = info.fields.items();
+    let mut epc = without_values(info);
     let mut place = fields.len().min(values.len());
     while place > 0 {
         place -= 1;
-        put_text(&mut texts, fields[place], values[place].as_bytes());
+        put_text(&mut epc, fields[place], values[place].as_bytes());
     }
-    texts
+    epc
 }

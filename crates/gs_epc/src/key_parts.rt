@@ -1,4 +1,6 @@
-ghost use Rattle.std.specs.Prelude.{◌≡◌, ◌-◌, ◌++◌, ◌<◌, IfOk, drop, length, take};
+ghost use Rattle.std.specs.Prelude.{◌≡◌, ◌-◌, ◌++◌, ◌<◌, ℕ, IfOk, List, Some, drop, length, slice_get, take};
+ghost use Rattle.gs_tables_document.specs.declared.document.Kind.{Kind};
+ghost use Rattle.gs_tables_document.specs.declared.document.SerialAt.TheVariants.{Ai};
 ghost use Rattle.std.specs.Option.{option_copied};
 ghost use Rattle.gs_ident.specs.Identities.{pair_with};
 ghost use Rattle.gs_epc.specs.Layout.{parts_at};
@@ -7,7 +9,7 @@ ghost use Rattle.gs_epc.specs.KeyParts.{IsTakenApart, behind_zero, checked_count
 use crate::epc::{Epc, EpcRef};
 use crate::error::FieldsFault;
 use gs_ai::{AiTable, Pair, Part};
-use gs_chars::{Memory, Text};
+use gs_chars::{CowText, Memory, Text};
 use gs_ident::Identity;
 use gs_tables::{SerialAt, TableSet, are_characters};
 use std::alloc::Global;
@@ -159,6 +161,30 @@ pub(crate) fn none_text<'a>(ais: &'a AiTable, code: &[u8]) -> &'a [u8]
     }
 }
 
+/// Returns the parts of the key of a kind of the set, which is given by its index.
+pub(crate) fn parts_of(set: &TableSet, kind: usize) -> &[Part]
+    requires { kind < length set.now.kinds }
+    ensures { (k : Kind) → slice_get set.now.kinds kind ≡ Some k
+        → result.now ≡ parts_at set.now.ais k.key }
+{
+    match set.key_row(kind) {
+        Some(row) => row.parts.items(),
+        None => &[],
+    }
+}
+
+/// Returns the text that stands for an absent serial of a kind of the set, which is given by its index.
+pub(crate) fn none_of(set: &TableSet, kind: usize) -> &[u8]
+    requires { kind < length set.now.kinds }
+    ensures { (k : Kind) (code : List ℕ) → slice_get set.now.kinds kind ≡ Some k → k.serial ≡ Ai code
+        → result.now ≡ none_text set.now.ais code }
+{
+    match set.serial_row(kind) {
+        Some(row) => row.none.as_bytes(),
+        None => &[],
+    }
+}
+
 /// Returns the text, if it is not empty.
 fn unless_empty(text: &[u8]) -> Option<&[u8]>
     ensures { option_copied result ≡ unless_empty text.now }
@@ -167,7 +193,7 @@ fn unless_empty(text: &[u8]) -> Option<&[u8]>
 }
 
 /// Returns the first pair with the code.
-pub fn pair_with<'a>(pairs: &'a [Pair], code: &[u8]) -> Option<&'a Pair>
+pub fn pair_with<'p, 'a>(pairs: &'p [Pair<'a>], code: &[u8]) -> Option<&'p Pair<'a>>
     ensures { option_copied result ≡ pair_with pairs.now code.now }
 {
     pairs.iter().find(|pair| code == pair.code.as_bytes())
@@ -178,7 +204,7 @@ fn serial_in<'a>(
     ais: &'a AiTable,
     parts: &[Part],
     at: &SerialAt,
-    identity: &'a Identity,
+    identity: &'a Identity<'_>,
 ) -> Option<&'a [u8]>
     ensures { option_copied result ≡ serial_in ais.now parts.now at.now identity.now }
 {
@@ -199,13 +225,23 @@ pub fn value_from_prefix<'a>(set: &TableSet, kind: usize, value: &'a [u8]) -> &'
     ensures { result.now ≡ value_from_prefix set.now kind value.now }
 {
     let row = &set.kinds()[kind];
-    let parts = parts_at(set.ais(), row.key.as_bytes());
+    let parts = parts_of(set, kind);
     skip_first(behind_zero(parts, value), usize::from(row.lead))
 }
 
-/// Returns the EPC with a copy of each text.
-pub(crate) fn copied(alloc: Global, lent: &EpcRef<'_>) -> Result<Epc, Memory>
-    ensures { IfOk result (λ epc. epc ≡ lent.now) }
+/// Returns the rest of its two parts, which are joined if it has lead digits.
+fn rest_of<'a>(alloc: Global, lead: &[u8], behind: &'a [u8]) -> Result<CowText<'a>, Memory>
+    ensures { IfOk result (λ rest. rest ≡ lead.now ++ behind.now) }
+{
+    if lead.is_empty() {
+        return Ok(CowText::lent(behind));
+    }
+    Ok(CowText::from(joined(alloc, lead, behind)?))
+}
+
+/// Returns the EPC in owned texts. Each text that is lent is copied.
+pub(crate) fn copied(alloc: Global, lent: EpcRef<'_>) -> Result<Epc, Memory>
+    ensures { IfOk result (λ epc. epc ≡ lent.entry) }
 {
     Ok(Epc {
         kind: lent.kind,
@@ -213,7 +249,7 @@ pub(crate) fn copied(alloc: Global, lent: &EpcRef<'_>) -> Result<Epc, Memory>
         filter: lent.filter,
         gcp: lent.gcp,
         prefix: Text::from_bytes(alloc, lent.prefix)?,
-        rest: joined(alloc, lent.lead, lent.behind)?,
+        rest: lent.rest.into_text(alloc)?,
         piece: Text::from_bytes(alloc, lent.piece)?,
         total: Text::from_bytes(alloc, lent.total)?,
         serial: Text::from_bytes(alloc, lent.serial)?,
@@ -223,11 +259,12 @@ pub(crate) fn copied(alloc: Global, lent: &EpcRef<'_>) -> Result<Epc, Memory>
 /// Returns the fields of an identity by a kind of the set and the company prefix length (TDS 2.0, section 7). The kind is given
 /// by its index. The fields are prefix, reference, piece, total and serial, with an empty encoding and no filter value. If the
 /// value of the key is too short, so are they. Returns `MissingSerial` if and only if the kind has a serial, the identity has
-/// none, and no text means its absence.
+/// none, and no text means its absence. A rest with lead digits is joined, and the other texts are lent.
 pub fn lent_fields_of<'a>(
+    alloc: Global,
     set: &'a TableSet,
     kind: usize,
-    identity: &'a Identity,
+    identity: &'a Identity<'_>,
     gcp: u8,
 ) -> Result<EpcRef<'a>, FieldsFault>
     requires { kind < length set.now.kinds }
@@ -247,8 +284,7 @@ pub fn lent_fields_of<'a>(
         filter: None,
         gcp,
         prefix: prefix_in(parts, row.lead, gcp, value),
-        lead,
-        behind,
+        rest: rest_of(alloc, lead, behind)?,
         piece: piece_in(parts, further, value),
         total: total_in(parts, further, value),
         serial,
@@ -260,12 +296,12 @@ pub fn fields_of(
     alloc: Global,
     set: &TableSet,
     kind: usize,
-    identity: &Identity,
+    identity: &Identity<'_>,
     gcp: u8,
 ) -> Result<Epc, FieldsFault>
     requires { kind < length set.now.kinds }
     ensures { IsTakenApart set.now kind identity.now gcp result }
 {
-    let lent = lent_fields_of(set, kind, identity, gcp)?;
-    Ok(copied(alloc, &lent)?)
+    let lent = lent_fields_of(alloc, set, kind, identity, gcp)?;
+    Ok(copied(alloc, lent)?)
 }

@@ -1,4 +1,4 @@
-ghost use Rattle.std.specs.Prelude.{◌≡◌, ◌≤◌, ◌++◌, IfOk, length, Some, slice_get};
+ghost use Rattle.std.specs.Prelude.{◌≡◌, ◌≤◌, ◌++◌, ℕ, IfOk, List, length, Some, slice_get};
 ghost use Rattle.std.specs.List.{flat_map};
 ghost use Rattle.gs_ident.specs.Identities.{IsMadeWith, stands_for_none};
 ghost use Rattle.gs_ident.specs.Links.{path_step, spelled};
@@ -9,11 +9,13 @@ ghost use Rattle.gs_epc.specs.Layout.{AreKeyDigits, IsLaidOut, behind_check, key
 ghost use Rattle.gs_epc.specs.Layout.{serial_elements, tail_of_key, with_check, zero_in_front, fields_in};
 ghost use Rattle.gs_epc.specs.LayoutSupport.{serial_pairs};
 ghost use Rattle.gs_epc.specs.declared.epc.Epc.{Epc};
+ghost use Rattle.gs_epc.specs.KeyParts.{none_text};
+ghost use Rattle.gs_ai.specs.declared.row.AiRow.{AiRow};
 
-use crate::epc::{Epc, KeyTexts, texts_in};
-use crate::key_parts::{joined, none_text, parts_at};
-use gs_ai::{AiTable, Pair, Part};
-use gs_chars::{Memory, Text, check_digit};
+use crate::epc::{Epc, EpcRef, lent};
+use crate::key_parts::{joined, none_of, parts_of};
+use gs_ai::{Pair, Part};
+use gs_chars::{CowText, Memory, Text, check_digit};
 use gs_ident::{Identity, append_element};
 use gs_tables::{Kind, SerialAt, TableSet, are_characters};
 use std::alloc::Global;
@@ -84,12 +86,12 @@ fn push_some(value: &mut Text, text: &[u8]) -> Result<(), Memory>
 }
 
 /// Appends the rest after the check digit: the piece and the total, and the serial if it is the tail.
-fn push_behind(value: &mut Text, kind: &Kind, texts: &KeyTexts) -> Result<(), Memory>
-    ensures { IfOk result (λ _. value.new ≡ value.old ++ behind_check kind.now texts.now) }
+fn push_behind(value: &mut Text, kind: &Kind, epc: &EpcRef<'_>) -> Result<(), Memory>
+    ensures { IfOk result (λ _. value.new ≡ value.old ++ behind_check kind.now (fields_in epc.now)) }
 {
-    push_some(value, texts.piece)?;
-    push_some(value, texts.total)?;
-    push_some(value, tail_of_key(&kind.serial, texts.serial))?;
+    push_some(value, epc.piece)?;
+    push_some(value, epc.total)?;
+    push_some(value, tail_of_key(&kind.serial, epc.serial))?;
     Ok(())
 }
 
@@ -98,90 +100,95 @@ fn digits_value(
     alloc: Global,
     parts: &[Part],
     kind: &Kind,
-    texts: &KeyTexts,
+    epc: &EpcRef<'_>,
 ) -> Result<Text, Memory>
-    requires { AreKeyDigits kind.now.lead texts.now.prefix texts.now.rest }
+    requires { AreKeyDigits kind.now.lead epc.now.prefix epc.now.rest }
     ensures { IfOk result (λ value. value ≡ zero_in_front parts.now
-        ++ with_check (key_digits kind.now.lead texts.now.prefix texts.now.rest)
-        ++ behind_check kind.now texts.now) }
+        ++ with_check (key_digits kind.now.lead epc.now.prefix epc.now.rest)
+        ++ behind_check kind.now (fields_in epc.now)) }
 {
     let mut value = Text::new(alloc);
     push_few(&mut value, zero_in_front(parts))?;
-    push_checked(&mut value, kind.lead, texts.prefix, texts.rest)?;
-    push_behind(&mut value, kind, texts)?;
+    push_checked(&mut value, kind.lead, epc.prefix, epc.rest.as_bytes())?;
+    push_behind(&mut value, kind, epc)?;
     Ok(value)
 }
 
 /// Returns the value of the key, by the parts of its row.
-fn key_value(alloc: Global, ais: &AiTable, kind: &Kind, texts: &KeyTexts) -> Result<Text, Memory>
-    requires { FitKind ais.now kind.now texts.now }
+fn key_value(alloc: Global, set: &TableSet, kind: &Kind, epc: &EpcRef<'_>) -> Result<Text, Memory>
+    requires named { slice_get set.now.kinds epc.now.kind ≡ Some kind.now }
+    requires fit { FitKind set.now.ais kind.now (fields_in epc.now) }
     ensures { IfOk result (λ value. value
-        ≡ key_value (parts_at ais.now kind.now.key) kind.now texts.now) }
+        ≡ key_value (parts_at set.now.ais kind.now.key) kind.now (fields_in epc.now)) }
 {
     // only for the proof: the rows satisfy the rules of application identifiers
-    let _ = ais.rows();
-    let parts = parts_at(ais, kind.key.as_bytes());
+    let _ = set.ais().rows();
+    let parts = parts_of(set, epc.kind);
     if are_characters(parts) {
-        return joined(alloc, texts.prefix, texts.rest);
+        return joined(alloc, epc.prefix, epc.rest.as_bytes());
     }
-    digits_value(alloc, parts, kind, texts)
+    digits_value(alloc, parts, kind, epc)
 }
 
 /// Returns the pair of a serial in a separate element.
-fn serial_pair(alloc: Global, at: &SerialAt, serial: &[u8]) -> Result<Option<Pair>, Memory>
-    ensures { IfOk result (λ pair. pairs_in pair ≡ serial_pairs at.now serial.now) }
+fn serial_pair<'a>(at: &'a SerialAt, serial: &'a [u8]) -> Option<Pair<'a>>
+    ensures { pairs_in result ≡ serial_pairs at.now serial.now }
 {
     match at {
-        SerialAt::Ai(code) => Ok(Some(Pair {
-            code: code.copy(alloc)?,
-            value: Text::from_bytes(alloc, serial)?,
-        })),
-        SerialAt::Nowhere | SerialAt::Tail => Ok(None),
+        SerialAt::Ai(code) => Some(Pair {
+            code: CowText::lent(code.as_bytes()),
+            value: CowText::lent(serial),
+        }),
+        SerialAt::Nowhere | SerialAt::Tail => None,
     }
 }
 
 /// Returns the identity of a key of the kind, and of its serial.
-pub(crate) fn lay_out(
+pub(crate) fn lay_out<'a>(
     alloc: Global,
-    ais: &AiTable,
-    kind: &Kind,
-    texts: &KeyTexts,
-) -> Result<Identity, Memory>
-    requires fit { FitKind ais.now kind.now texts.now }
-    ensures laid { IfOk result (λ identity. identity ≡ lay ais.now kind.now texts.now) }
-    ensures with_table { IfOk result (IsMadeWith ais.now) }
+    set: &TableSet,
+    kind: &'a Kind,
+    epc: &EpcRef<'a>,
+) -> Result<Identity<'a>, Memory>
+    requires named { slice_get set.now.kinds epc.now.kind ≡ Some kind.now }
+    requires fit { FitKind set.now.ais kind.now (fields_in epc.now) }
+    ensures laid { IfOk result (λ identity. identity ≡ lay set.now.ais kind.now (fields_in epc.now)) }
+    ensures with_table { IfOk result (IsMadeWith set.now.ais) }
 {
+    let ais = set.ais();
     // only for the proof: the rows satisfy the rules of application identifiers
     let _ = ais.rows();
     let key = Pair {
-        code: kind.key.copy(alloc)?,
-        value: key_value(alloc, ais, kind, texts)?,
+        code: CowText::lent(kind.key.as_bytes()),
+        value: CowText::from(key_value(alloc, set, kind, epc)?),
     };
-    let serial = serial_pair(alloc, &kind.serial, texts.serial)?;
+    let serial = serial_pair(&kind.serial, epc.serial);
     Identity::of_key(alloc, ais, key, serial)
 }
 
-/// Returns whether the value is the text that means an absent element of the code.
-fn stands_for_none(ais: &AiTable, code: &[u8], value: &[u8]) -> bool
-    ensures { result ≡ stands_for_none ais.now (record { code = code.now; value = value.now }) }
+/// Returns whether the value is the text that means an absent element.
+fn stands_for_none(none: &[u8], value: &[u8]) -> bool
+    ensures { (ais : List AiRow) (code : List ℕ) → none.now ≡ none_text ais code
+        → result ≡ stands_for_none ais (record { code = code; value = value.now }) }
 {
-    let none = none_text(ais, code);
     !none.is_empty() && none == value
 }
 
 /// Appends a serial as a step of the path of a link, if it is a separate element and means one.
 fn append_serial(
-    ais: &AiTable,
-    at: &SerialAt,
-    serial: &[u8],
+    set: &TableSet,
+    kind: &Kind,
+    epc: &EpcRef<'_>,
     out: &mut Vec<u8>,
 ) -> Result<(), Memory>
+    requires { slice_get set.now.kinds epc.now.kind ≡ Some kind.now }
     ensures { IfOk result (λ _. out.new.items
-        ≡ out.old.items ++ flat_map path_step (serial_elements ais.now at.now serial.now)) }
+        ≡ out.old.items ++ flat_map path_step (serial_elements set.now.ais kind.now.serial epc.now.serial)) }
 {
-    match at {
+    let serial = epc.serial;
+    match &kind.serial {
         SerialAt::Ai(code) => {
-            if stands_for_none(ais, code.as_bytes(), serial) {
+            if stands_for_none(none_of(set, epc.kind), serial) {
                 return Ok(());
             }
             append_element(out, b'/', code.as_bytes(), serial, b'/')
@@ -193,30 +200,36 @@ fn append_serial(
 /// Appends the link under the stem of a key of the kind, and of its serial.
 pub(crate) fn append_laid_out(
     alloc: Global,
-    ais: &AiTable,
+    set: &TableSet,
     kind: &Kind,
-    texts: &KeyTexts,
+    epc: &EpcRef<'_>,
     stem: &[u8],
     out: &mut Vec<u8>,
 ) -> Result<(), Memory>
-    requires { FitKind ais.now kind.now texts.now }
+    requires named { slice_get set.now.kinds epc.now.kind ≡ Some kind.now }
+    requires fit { FitKind set.now.ais kind.now (fields_in epc.now) }
     ensures { IfOk result (λ _. out.new.items
-        ≡ out.old.items ++ spelled stem.now (lay ais.now kind.now texts.now)) }
+        ≡ out.old.items ++ spelled stem.now (lay set.now.ais kind.now (fields_in epc.now))) }
 {
-    let value = key_value(alloc, ais, kind, texts)?;
+    let value = key_value(alloc, set, kind, epc)?;
     out.extend_from_slice(stem)?;
     append_element(out, b'/', kind.key.as_bytes(), value.as_bytes(), b'/')?;
-    append_serial(ais, &kind.serial, texts.serial, out)
+    append_serial(set, kind, epc, out)
 }
 
 /// Returns the identity that an EPC of the set names (TDS 2.0, section 7): the key of its kind, laid out with its check digit,
-/// and its serial. Fails only with `Memory`. The EPC is one that a reading by the set gave.
-pub fn identity_of(alloc: Global, set: &TableSet, epc: &Epc) -> Result<Identity, Memory>
+/// and its serial. Fails only with `Memory`. The EPC is one that a reading by the set gave; it lends the serial, and the set the
+/// codes.
+pub fn identity_of<'a>(
+    alloc: Global,
+    set: &'a TableSet,
+    epc: &'a Epc,
+) -> Result<Identity<'a>, Memory>
     requires { IsOfSet set.now epc.now }
     ensures laid { IfOk result (IsLaidOut set.now epc.now) }
     ensures with_table { IfOk result (IsMadeWith set.now.ais) }
 {
-    lay_out(alloc, set.ais(), kind_of(set, epc), &texts_in(epc))
+    lay_out(alloc, set, kind_of(set, epc), &lent(epc))
 }
 
 /// Returns the kind of an EPC of the set. The EPC's fields fit it.

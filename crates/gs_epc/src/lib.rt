@@ -5,7 +5,7 @@
 //!   its link.
 //! - `identity_of` lays the fields out as a key and its serial number; `fields_of` takes an identity apart. `push_checked` writes
 //!   the digits of a key, for gs_class too.
-//! - `lent_fields_of` and `append_lent` are `fields_of` and `write_level` over lent texts, without copies.
+//! - `lent_fields_of` and `append_lent` are `fields_of` and `write_level` over lent texts, without copies of them.
 //!
 //! # Example
 //!

@@ -7,14 +7,14 @@ ghost use Rattle.gs_ident.specs.Links.{spelled};
 ghost use Rattle.gs_tables_document.specs.declared.document.Field.{Field};
 ghost use Rattle.gs_epc.specs.Epcs.{IsOfSet, epc_of, options_of, value_at};
 ghost use Rattle.gs_epc.specs.Filters.{IsFilter};
-ghost use Rattle.gs_epc.specs.Layout.{IsLaidOut, fields_in};
+ghost use Rattle.gs_epc.specs.Layout.{IsLaidOut};
 ghost use Rattle.gs_epc.specs.Readings.{ReadsAs, ReadsHex};
 ghost use Rattle.gs_epc.specs.ReadingsSupport.{AnswersReading};
 ghost use Rattle.gs_epc.specs.Writes.{ReadsText};
 
-use crate::epc::{Epc, EpcRef, KeyTexts};
+use crate::epc::{Epc, EpcRef};
 use crate::error::EpcFault;
-use crate::fields::{filter_of, texts_of};
+use crate::fields::epc_of;
 use crate::key_parts::copied;
 use crate::layout::{append_laid_out, kind_at, lay_out};
 use gs_bits::BitBuf;
@@ -52,36 +52,17 @@ impl EpcReading<'_> {
     pub fn epc(&self) -> EpcRef<'_>
         ensures { result ≡ self.now }
     {
-        let texts = self.texts();
-        EpcRef {
-            kind: self.info.kind,
-            encoding: self.info.encoding.as_bytes(),
-            filter: filter_of(self.info.fields.items(), self.values.items()),
-            gcp: self.info.gcp,
-            prefix: texts.prefix,
-            lead: &[],
-            behind: texts.rest,
-            piece: texts.piece,
-            total: texts.total,
-            serial: texts.serial,
-        }
-    }
-
-    /// Returns the fields of the key, lent.
-    fn texts(&self) -> KeyTexts<'_>
-        ensures { result ≡ fields_in self.now }
-    {
-        texts_of(self.info.fields.items(), self.values.items())
+        epc_of(self.info, self.values.items())
     }
 
     /// Returns the identity that the EPC names, as `identity_of` does, without copies of the fields. The EPC is one of the set.
-    pub fn identity(&self, alloc: Global, set: &TableSet) -> Result<Identity, Memory>
+    pub fn identity<'i>(&'i self, alloc: Global, set: &'i TableSet) -> Result<Identity<'i>, Memory>
         requires { IsOfSet set.now self.now }
         ensures laid { IfOk result (IsLaidOut set.now self.now) }
         ensures with_table { IfOk result (IsMadeWith set.now.ais) }
     {
         let kind = kind_at(set, self.info.kind);
-        lay_out(alloc, set.ais(), kind, &self.texts())
+        lay_out(alloc, set, kind, &self.epc())
     }
 
     /// Appends the link, under the stem, of the identity that the EPC names, as `append_link` of gs_ident does. The identity is
@@ -98,7 +79,8 @@ impl EpcReading<'_> {
             out.new.items ≡ out.old.items ++ spelled stem.now identity) }
     {
         let kind = kind_at(set, self.info.kind);
-        append_laid_out(alloc, set.ais(), kind, &self.texts(), stem, out)
+        let lent = self.epc();
+        append_laid_out(alloc, set, kind, &lent, stem, out)
     }
 }
 
@@ -185,7 +167,7 @@ fn read_level(alloc: Global, set: &TableSet, level: LevelName, text: &[u8]) -> R
 {
     let mut room = [0; MOST_SYMBOLS];
     let reading = reading_of(alloc, set, level, text, &mut room)?;
-    Ok(copied(alloc, &reading.epc())?)
+    Ok(copied(alloc, reading.epc())?)
 }
 
 /// Reads the bits of a tag, a text of at most 128 hexadecimal digits in either case (TDS 2.0, section 14). The errors are tried

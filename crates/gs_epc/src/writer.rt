@@ -180,7 +180,8 @@ pub fn write_level(
     ensures { WritesAs set.now level epc.now result }
 {
     let mut text = Vec::new(alloc);
-    match append_lent(alloc, set, level, &lent(epc), &mut text) {
+    let fields = lent(epc);
+    match append_lent(alloc, set, level, &fields, &mut text) {
         Ok(()) => Ok(Text::from_vec(text)),
         Err(error) => Err(error),
     }

@@ -15,8 +15,8 @@ all_made f xs i made all h so_far = sym (append-nil made) ∙ ap (λ rest. made 
 
 pub loop-field-preserved : goal.loop-field-preserved
 loop-field-preserved c =
-    let value = c.in_ok-value_for.ensures c.args.level (c.filter_text-filter.ensures ∙ ap (λ (e : Epc). filter_text c.args.level e.filter) c.epc.view_is) in
-    one_more (value_for c.args.level c.args.epc.now) c.args.fields.now c.loop-field.field-index _ c.loop-field.values.items c.push.new.self.items _ c.in_ok-value_for.field-0 c.loop-field-test.true c.loop-field.invariant value c.in_ok-push.ensures.items
+    let value = c.value_for.ensures c.args.level (c.filter_text-filter.ensures ∙ ap (λ (e : Epc). filter_text c.args.level e.filter) c.epc.view_is) in
+    one_more (value_for c.args.level c.args.epc.now) c.args.fields.now c.loop-field.field-index _ c.loop-field.values.items c.push.new.self.items _ c.value_for.result c.loop-field-test.true c.loop-field.invariant value c.in_ok-push.ensures.items
 
 pub returns : goal.returns
 returns c = all_made (value_for c.args.level c.args.epc.now) c.args.fields.now c.loop-field.field-index c.loop-field.values.items _ c.loop-field-test.false c.loop-field.invariant

@@ -7,4 +7,4 @@ behind_written value piece total tail one two three a b d = rw (d, b, a) (simp a
 pub returns : goal.returns
 returns c =
     let tail = rw c.tail_of_key.ensures at c.in_ok-push_some-3.ensures in
-    rw (← c.texts.view_is) (behind_written c.args.value.now _ _ _ c.push_some.new.value c.push_some-2.new.value c.push_some-3.new.value c.in_ok-push_some.ensures c.in_ok-push_some-2.ensures tail)
+    rw (← c.epc.view_is) (behind_written c.args.value.now _ _ _ c.push_some.new.value c.push_some-2.new.value c.push_some-3.new.value c.in_ok-push_some.ensures c.in_ok-push_some-2.ensures tail)

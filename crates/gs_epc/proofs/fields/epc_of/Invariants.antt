@@ -1,10 +1,10 @@
 use Rattle.std.proofs.Common.{◌≡◌, ◌≤◌, length, drop}
 use Rattle.gs_epc.specs.FieldTexts.{texts_of}
-use Rattle.gs_epc.proofs.fields.texts_of.Given as goal
+use Rattle.gs_epc.proofs.fields.epc_of.Given as goal
 
 abbrev pub invariant-loop-place : goal.invariant-loop-place
 invariant-loop-place l = record {
-  texts : l.texts ≡ texts_of (drop l.place l.fields) (drop l.place l.values);
+  epc : l.epc ≡ texts_of l.fn.info (drop l.place l.fields) (drop l.place l.values);
   fields : l.place ≤ length l.fields;
   values : l.place ≤ length l.values;
 }
