@@ -37,7 +37,7 @@ impl Reference<'_> {
 pub fn reference_for<'a>(
     alloc: Global,
     templates: bool,
-    identity: &Identity,
+    identity: &Identity<'_>,
     href: &'a [u8],
 ) -> Result<Reference<'a>, Memory>
     ensures reference { IfOk result (λ reference. reference_of reference
@@ -62,7 +62,7 @@ trait Template: Drop {
     ghost shape: { Self → Bool };
 
     /// Returns the value with its target URIs filled.
-    fn fill(self, alloc: Global, identity: &Identity) -> Result<Self, Memory>
+    fn fill(self, alloc: Global, identity: &Identity<'_>) -> Result<Self, Memory>
         ensures value { IfOk result (λ made. made ≡ filled identity.now self) }
         ensures shape { IfOk result (λ made. shape self ≡ true → shape made ≡ true) };
 }
@@ -70,7 +70,7 @@ trait Template: Drop {
 /// Returns a list with the references of its items filled.
 fn fill_all<T: Template>(
     alloc: Global,
-    identity: &Identity,
+    identity: &Identity<'_>,
     things: List<T>,
 ) -> Result<List<T>, Memory>
     ensures value { IfOk result (λ made. made ≡ map (T.filled identity.now) things) }
@@ -92,7 +92,7 @@ impl Template for Target {
     ghost shape = { is_target };
 
     #[tactic(auto, unfolding(gs_linkset::specs::LinkShapes::is_target))]
-    fn fill(self, alloc: Global, identity: &Identity) -> Result<Target, Memory> {
+    fn fill(self, alloc: Global, identity: &Identity<'_>) -> Result<Target, Memory> {
         let mut target = self;
         target.href = expand(alloc, target.href.as_bytes(), identity)?;
         Ok(target)
@@ -108,7 +108,7 @@ impl Template for Relation {
     ghost shape = { is_relation };
 
     #[tactic(auto, unfolding(gs_linkset::specs::LinkShapes::is_relation))]
-    fn fill(self, alloc: Global, identity: &Identity) -> Result<Relation, Memory> {
+    fn fill(self, alloc: Global, identity: &Identity<'_>) -> Result<Relation, Memory> {
         let Relation { name, targets } = self;
         let targets = fill_all(alloc, identity, targets)?;
         Ok(Relation { name, targets })
@@ -124,7 +124,7 @@ impl Template for Context {
     ghost shape = { is_context };
 
     #[tactic(auto, unfolding(gs_linkset::specs::LinkShapes::is_context), using(crate::proofs::DocumentLemmas::same_names))]
-    fn fill(self, alloc: Global, identity: &Identity) -> Result<Context, Memory> {
+    fn fill(self, alloc: Global, identity: &Identity<'_>) -> Result<Context, Memory> {
         let Context { anchor, relations } = self;
         let relations = fill_all(alloc, identity, relations)?;
         Ok(Context { anchor, relations })
@@ -137,7 +137,7 @@ impl Template for Context {
 pub fn document_for(
     alloc: Global,
     templates: bool,
-    identity: &Identity,
+    identity: &Identity<'_>,
     doc: LinkDoc,
 ) -> Result<LinkDoc, Memory>
     ensures document { IfOk result (λ made. made ≡ document_for templates identity.now doc) }

@@ -63,7 +63,11 @@ fn describe(settings: &Settings) -> Result<Answer<'_>, RequestFault>
 }
 
 /// Returns the identity that a target names.
-fn identity_at(alloc: Global, table: &AiTable, target: &[u8]) -> Result<Identity, RequestFault>
+fn identity_at<'a>(
+    alloc: Global,
+    table: &AiTable,
+    target: &'a [u8],
+) -> Result<Identity<'a>, RequestFault>
     ensures named { IfOk result (λ identity. (templates : Bool) (links : List Linked)
         (ranges : List (List ℕ)) (wish : WishOf)
         → by_pairs table.now templates links ranges wish (target_answer table.now 0 target.now)
@@ -93,14 +97,14 @@ fn is_lent(templates: bool, form: LinksetForm) -> bool
 
 /// What a request asks a resolver for: the links of an identity that fit its wish.
 #[derive(Clone, Copy)]
-struct Lookup<'q, 'a> {
+struct Lookup<'q, 'a, 't> {
     resolver: &'q Resolver<'a>,
     request: &'q Request<'q>,
     wish: &'q Wish<'q>,
-    identity: &'q Identity,
+    identity: &'q Identity<'t>,
 }
 
-impl<'q, 'a> Lookup<'q, 'a> {
+impl<'q, 'a, 't> Lookup<'q, 'a, 't> {
     /// Keeps the chosen links in the first language that the request accepts and one of them has, or all if there is none. With
     /// nothing to choose, the languages are not read.
     fn narrow<'n>(

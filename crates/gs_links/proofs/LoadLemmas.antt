@@ -64,10 +64,6 @@ pub no_attributes : (table : List AiRow) (text : List ℕ) (anchor : Elements) �
 unfolding anchor_answer
 no_attributes table text anchor h = bare_pairs table (pairs_answer table text) anchor (sym h)
 
--- all qualifiers of an anchor give the anchor
-pub whole_anchor : (anchor : Elements) → anchor.attributes ≡ [] → record { key = anchor.key; qualifiers = take (length anchor.qualifiers) anchor.qualifiers; attributes = [] } ≡ anchor
-whole_anchor anchor none = ap (λ q. record { key = anchor.key; qualifiers = q; attributes = [] }) (take_all (length anchor.qualifiers) anchor.qualifiers (omega arith)) ∙ ap (λ a. record { key = anchor.key; qualifiers = anchor.qualifiers; attributes = a }) (sym none)
-
 -- ---- the additions for each item of a list
 
 pub mapped_more : {X Y : Type 0} (f : X → Y) (first : List Y) (xs : List X) (x : X) (old new : List Y) (y : Y) → old ≡ first ++ map f xs → y ≡ f x → new ≡ old ++ y ∷ [] → new ≡ first ++ map f (xs ++ x ∷ [])

@@ -12,7 +12,11 @@ use std::alloc::Global;
 
 /// Returns the pairs that an anchor names.
 #[tactic(auto, unfolding(crate::specs::Loads::pairs_answer))]
-fn read_pairs(alloc: Global, table: &AiTable, text: &[u8]) -> Result<Vec<Pair>, LinkFault>
+fn read_pairs<'a>(
+    alloc: Global,
+    table: &AiTable,
+    text: &'a [u8],
+) -> Result<Vec<Pair<'a>>, LinkFault>
     ensures pairs { IfOk result (λ pairs. pairs_answer table.now text.now ≡ Ok pairs.items) }
     ensures in_order { IfOk result (λ pairs. All (IsInOrder table.now) pairs.items) }
     ensures error { IfErr result (λ e. e ≢ LinkFault.Memory → pairs_answer table.now text.now ≡ Err e) }
@@ -25,9 +29,9 @@ fn read_pairs(alloc: Global, table: &AiTable, text: &[u8]) -> Result<Vec<Pair>, 
 }
 
 /// Returns an identity that has no attributes.
-fn without_attributes(identity: Identity) -> Result<Identity, AnchorWhy>
-    ensures answer { result ≡ without_attributes identity }
-    ensures same { IfOk result (λ anchor. anchor ≡ identity) }
+fn without_attributes(identity: Identity<'_>) -> Result<Identity<'_>, AnchorWhy>
+    ensures answer { result ≡ without_attributes identity.entry }
+    ensures same { IfOk result (λ anchor. anchor ≡ identity.entry) }
 {
     if identity.attributes().is_empty() {
         Ok(identity)
@@ -61,11 +65,11 @@ fn no_identity(error: IdentFault) -> Result<AnchorWhy, Memory>
 }
 
 /// Returns the identity of an anchor, or why it has none.
-pub(crate) fn read_anchor(
+pub(crate) fn read_anchor<'a>(
     alloc: Global,
     table: &AiTable,
-    text: &[u8],
-) -> Result<Result<Identity, AnchorWhy>, Memory>
+    text: &'a [u8],
+) -> Result<Result<Identity<'a>, AnchorWhy>, Memory>
     ensures answer { IfOk result (λ answer. answer ≡ anchor_answer table.now text.now) }
     ensures with_table { IfOk result (λ answer. IfOk answer (λ anchor. IsMadeWith table.now anchor)) }
 {

@@ -1,10 +1,11 @@
 ghost use Rattle.std.specs.Prelude.{◌≡◌, ◌≤◌, ◌<◌, ◌⊎◌, length, take, All};
 ghost use Rattle.gs_ident.specs.Elements.{first_qualifiers};
 ghost use Rattle.gs_links.specs.Choices.{chosen_at, chosen_depth, are_first, is_candidate, is_chosen, is_prefix};
-ghost use Rattle.gs_links.specs.Choices.{is_same_pair, is_wanted};
+ghost use Rattle.gs_links.specs.Choices.{is_wanted};
 ghost use Rattle.gs_links.specs.Index.{IsIndexOf, anchor_number, chosen_among};
 
 use crate::index::{Index, number_with};
+use crate::kept_anchor::{Anchor, OwnedPair};
 use crate::link::{Chosen, Link, Want};
 use gs_ai::Pair;
 use gs_ident::Identity;
@@ -14,7 +15,7 @@ use gs_ident::Identity;
 fn choose_at(
     links: &[Link],
     index: &Index,
-    identity: &Identity,
+    identity: &Identity<'_>,
     want: Want<'_>,
     depth: usize,
     number: u64,
@@ -37,7 +38,7 @@ fn choose_at(
 pub(crate) fn choose_from(
     links: &[Link],
     index: &Index,
-    identity: &Identity,
+    identity: &Identity<'_>,
     want: Want<'_>,
     depth: usize,
     number: u64,
@@ -63,22 +64,15 @@ pub(crate) fn choose_from(
     choose_at(links, index, identity, want, depth, number, out)
 }
 
-/// Returns whether two pairs have one code and one value.
-fn is_same_pair(a: &Pair, b: &Pair) -> bool
-    ensures { result ≡ is_same_pair a.now b.now }
-{
-    a.code.as_bytes() == b.code.as_bytes() && a.value.as_bytes() == b.value.as_bytes()
-}
-
 /// Returns whether pairs are before others.
-fn are_first(first: &[Pair], pairs: &[Pair]) -> bool
+fn are_first(first: &[OwnedPair], pairs: &[Pair<'_>]) -> bool
     ensures { result ≡ are_first first.now pairs.now }
 {
     if pairs.len() < first.len() {
         return false;
     }
     for i in 0..first.len() {
-        if is_same_pair(&first[i], &pairs[i]) {
+        if first[i].is_same(&pairs[i]) {
             continue;
         }
         return false;
@@ -86,14 +80,12 @@ fn are_first(first: &[Pair], pairs: &[Pair]) -> bool
     true
 }
 
-/// Returns whether an identity is a prefix of another.
+/// Returns whether an anchor is a prefix of an identity.
 #[tactic(auto, unfolding(crate::specs::Choices::is_prefix))]
-fn is_prefix(prefix: &Identity, identity: &Identity) -> bool
+fn is_prefix(prefix: &Anchor, identity: &Identity<'_>) -> bool
     ensures { result ≡ is_prefix prefix.now identity.now }
 {
-    prefix.attributes().is_empty()
-        && is_same_pair(prefix.key(), identity.key())
-        && are_first(prefix.qualifiers(), identity.qualifiers())
+    prefix.key().is_same(identity.key()) && are_first(prefix.qualifiers(), identity.qualifiers())
 }
 
 /// Returns whether the relation is wanted.
@@ -108,14 +100,14 @@ fn is_wanted(want: Want<'_>, relation: &[u8]) -> bool
 
 /// Returns whether a link is a candidate.
 #[tactic(auto, unfolding(crate::specs::Choices::is_candidate))]
-fn is_candidate(identity: &Identity, want: Want<'_>, link: &Link) -> bool
+fn is_candidate(identity: &Identity<'_>, want: Want<'_>, link: &Link) -> bool
     ensures { result ≡ is_candidate identity.now want.entry link.now }
 {
     is_prefix(&link.anchor, identity) && is_wanted(want, link.relation.as_bytes())
 }
 
 /// Returns whether a link is a candidate with that many qualifiers.
-fn is_chosen(identity: &Identity, want: Want<'_>, depth: usize, link: &Link) -> bool
+fn is_chosen(identity: &Identity<'_>, want: Want<'_>, depth: usize, link: &Link) -> bool
     ensures { result ≡ is_chosen identity.now want.entry depth link.now }
 {
     is_candidate(identity, want, link) && link.anchor.qualifiers().len() == depth
@@ -125,7 +117,7 @@ fn is_chosen(identity: &Identity, want: Want<'_>, depth: usize, link: &Link) -> 
 fn put_chosen(
     links: &[Link],
     numbers: &[u32],
-    identity: &Identity,
+    identity: &Identity<'_>,
     want: Want<'_>,
     depth: usize,
     out: &mut [u32],

@@ -1,10 +1,10 @@
 ghost use Rattle.std.specs.Prelude.{◌≡◌, ◌≤◌, ◌^◌, [], IfOk, ℕ, length};
 ghost use Rattle.gs_links.specs.Index.{IsIndexOf, anchor_number, hash_with, listed, number_with, with_last};
 
+use crate::kept_anchor::Anchor;
 use crate::link::Link;
 use gs_ai::Pair;
 use gs_chars::Memory;
-use gs_ident::Identity;
 use indexmap::IndexMap;
 use std::alloc::Global;
 
@@ -27,7 +27,7 @@ fn hash_with(before: u64, bytes: &[u8]) -> u64
 
 /// Returns the number of pairs and one more, after those with a number.
 #[tactic(auto, unfolding(crate::specs::Index::number_with))]
-pub(crate) fn number_with(before: u64, pair: &Pair) -> u64
+pub(crate) fn number_with(before: u64, pair: &Pair<'_>) -> u64
     ensures { result ≡ number_with before pair.now }
 {
     hash_with(
@@ -37,19 +37,19 @@ pub(crate) fn number_with(before: u64, pair: &Pair) -> u64
 }
 
 /// Returns the number of a key without qualifiers.
-pub(crate) fn key_number(key: &Pair) -> u64
+pub(crate) fn key_number(key: &Pair<'_>) -> u64
     ensures { result ≡ number_with 14695981039346656037 key.now }
 {
     number_with(OFFSET, key)
 }
 
 /// Returns the number of an anchor.
-fn number_of(anchor: &Identity) -> u64
+fn number_of(anchor: &Anchor) -> u64
     ensures { result ≡ anchor_number anchor.now }
 {
-    let mut number = key_number(anchor.key());
+    let mut number = key_number(&anchor.key().lent());
     for pair in anchor.qualifiers() {
-        number = number_with(number, pair);
+        number = number_with(number, &pair.lent());
     }
     number
 }

@@ -31,6 +31,7 @@ mod anchors;
 mod choice;
 mod error;
 mod index;
+mod kept_anchor;
 mod languages;
 mod laws;
 mod link;
@@ -39,6 +40,7 @@ mod narrower;
 mod store;
 
 pub use error::{AnchorWhy, StoreFault};
+pub use kept_anchor::{Anchor, OwnedPair};
 pub use laws::{
     by_key_and_qualifiers, deeper_hides, expanded_once, names_of_relations, one_anchor,
     prefixes_of, same_links_load, same_links_same_store,

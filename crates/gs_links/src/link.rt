@@ -1,11 +1,11 @@
+use crate::kept_anchor::Anchor;
 use gs_chars::Text;
-use gs_ident::Identity;
 use gs_linkset::Target;
 
 /// A link of a store.
 pub struct Link {
     /// The subject of the link: a key and qualifiers, without attributes.
-    pub anchor: Identity,
+    pub anchor: Anchor,
     /// The relation type (RFC 9264, section 4.2.2), in which `gs1:` is expanded.
     pub relation: Text,
     /// The target.

@@ -13,10 +13,10 @@ ghost use Rattle.gs_chars.specs.Characters.{is_visible};
 
 use crate::anchors::read_anchor;
 use crate::error::StoreFault;
+use crate::kept_anchor::Anchor;
 use crate::link::Link;
 use gs_ai::AiTable;
 use gs_chars::{List, Memory, Text, are_visible};
-use gs_ident::Identity;
 use gs_linkset::{Context, Relation, Target};
 use std::alloc::Global;
 
@@ -52,15 +52,14 @@ fn judge_relations(i: usize, relations: &[Relation]) -> Result<(), StoreFault>
 /// Returns the link of an anchor by a relation to a target.
 fn link_with(
     alloc: Global,
-    anchor: &Identity,
+    anchor: &Anchor,
     relation: &Text,
     target: Target,
 ) -> Result<Link, Memory>
-    requires { anchor.now.attributes ≡ [] }
     ensures { IfOk result (λ link. link ≡ link_with anchor.now relation.now target) }
 {
     Ok(Link {
-        anchor: anchor.prefix(alloc, anchor.qualifiers().len())?,
+        anchor: anchor.copy(alloc)?,
         relation: relation.copy(alloc)?,
         target,
     })
@@ -69,12 +68,11 @@ fn link_with(
 /// Adds the links of targets.
 fn push_targets(
     alloc: Global,
-    anchor: &Identity,
+    anchor: &Anchor,
     relation: &Text,
     targets: List<Target>,
     links: &mut Vec<Link>,
 ) -> Result<(), Memory>
-    requires { anchor.now.attributes ≡ [] }
     ensures { IfOk result (λ _. links.new.items
         ≡ links.old.items ++ map (link_with anchor.now relation.now) targets) }
 {
@@ -88,11 +86,10 @@ fn push_targets(
 fn push_relation(
     alloc: Global,
     voc: &[u8],
-    anchor: &Identity,
+    anchor: &Anchor,
     relation: Relation,
     links: &mut Vec<Link>,
 ) -> Result<(), Memory>
-    requires { anchor.now.attributes ≡ [] }
     ensures { IfOk result (λ _. links.new.items
         ≡ links.old.items ++ relation_links voc.now anchor.now relation) }
 {
@@ -104,11 +101,10 @@ fn push_relation(
 fn push_relations(
     alloc: Global,
     voc: &[u8],
-    anchor: &Identity,
+    anchor: &Anchor,
     relations: List<Relation>,
     links: &mut Vec<Link>,
 ) -> Result<(), Memory>
-    requires { anchor.now.attributes ≡ [] }
     ensures { IfOk result (λ _. links.new.items
         ≡ links.old.items ++ flat_map (relation_links voc.now anchor.now) relations) }
 {
@@ -124,14 +120,14 @@ fn judge_context(
     table: &AiTable,
     i: usize,
     context: &Context,
-) -> Result<Identity, StoreFault>
+) -> Result<Anchor, StoreFault>
     ensures rejected { IfErr result (IsRejection table.now i context.now) }
     ensures anchor { IfOk result (λ anchor. Ok anchor ≡ anchor_answer table.now context.now.anchor) }
     ensures with_table { IfOk result (λ anchor. IsMadeWith table.now anchor) }
     ensures relations { IfOk result (λ _. relations_errors i context.now.relations ≡ []) }
 {
     let anchor = match read_anchor(alloc, table, context.anchor.as_bytes())? {
-        Ok(anchor) => anchor,
+        Ok(anchor) => Anchor::of(alloc, &anchor)?,
         Err(why) => return Err(StoreFault::BadAnchor(i, why)),
     };
     judge_relations(i, context.relations.items())?;

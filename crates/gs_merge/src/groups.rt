@@ -11,7 +11,6 @@ ghost use Rattle.gs_links.specs.Shapes.{is_link};
 ghost use Rattle.gs_merge.specs.MergedDocuments.{with_relation};
 
 use gs_chars::{Memory, Text};
-use gs_ident::canonical;
 use gs_links::{Link, Store};
 use gs_linkset::is_anchor;
 use std::alloc::Global;
@@ -32,7 +31,7 @@ fn key_of(alloc: Global, by: Grouping, link: &Link) -> Result<Text, Memory>
     ensures { IfOk result (λ text. text ≡ key_of by link.now) }
 {
     match by {
-        Grouping::ByAnchor => canonical(alloc, &link.anchor),
+        Grouping::ByAnchor => link.anchor.canonical(alloc),
         Grouping::ByRelation => link.relation.copy(alloc),
     }
 }

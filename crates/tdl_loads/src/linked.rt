@@ -115,7 +115,7 @@ pub fn load_linked<F: Files>(
 fn judge_link(ais: &AiTable, i: usize, link: &Link) -> Result<(), FileFault>
     ensures { result ≡ first_or (link_errors ais.now (i, link.now)) tt }
 {
-    let key = link.anchor.key().code.as_bytes();
+    let key = link.anchor.key().code();
     match places_ok(ais, key, link.target.href.as_bytes()) {
         Ok(()) => Ok(()),
         Err(error) => Err(FileFault::Place(i, error)),

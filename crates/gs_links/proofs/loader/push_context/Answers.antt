@@ -8,9 +8,6 @@ returns-in_err-anchor-clause-answer c =
     let p = err_from_is_err_and c.from_residual.result c.from_residual.ensures.1 in
     rw (p.1, p.2) c.in_err-anchor.ensures.rejected
 
-pub push_relations-requires : goal.push_relations-requires
-push_relations-requires c = no_attributes c.args.table.now c.args.context.anchor c.in_ok-anchor.anchor c.in_ok-anchor.ensures.anchor
-
 pub returns-clause-answer : goal.returns-clause-answer
 returns-clause-answer c =
     good_context c.args.table.now c.args.i c.args.context c.in_ok-anchor.anchor c.in_ok-anchor.ensures.anchor c.in_ok-anchor.ensures.relations
