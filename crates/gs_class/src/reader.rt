@@ -51,12 +51,12 @@ fn key_value(
 }
 
 /// Returns the identity that the values of the items of a class say.
-fn identity_of(
+fn identity_of<'a>(
     alloc: Global,
     ais: &AiTable,
-    class: &Class,
+    class: &'a Class,
     values: &[CowText<'_>],
-) -> Result<Identity, Memory>
+) -> Result<Identity<'a>, Memory>
     requires { FitsClass ais.now class.now (said_by class.now values.now) }
     ensures identity { IfOk result (λ identity. identity
         ≡ lay ais.now (kind_of class.now) (said_by class.now values.now)) }
@@ -65,13 +65,13 @@ fn identity_of(
     // only for the proof: the rows satisfy the rules of application identifiers
     let _ = ais.rows();
     let key = Pair {
-        code: class.key.copy(alloc)?,
-        value: key_value(alloc, ais, class, values)?,
+        code: CowText::lent(class.key.as_bytes()),
+        value: CowText::from(key_value(alloc, ais, class, values)?),
     };
     let lot = value_of(Field::Serial, class.fields.items(), values);
     let element = Pair {
-        code: class.element.copy(alloc)?,
-        value: Text::from_bytes(alloc, lot)?,
+        code: CowText::lent(class.element.as_bytes()),
+        value: CowText::from(Text::from_bytes(alloc, lot)?),
     };
     Identity::of_key(alloc, ais, key, Some(element))
 }
@@ -79,12 +79,12 @@ fn identity_of(
 /// Returns the identity that a text is a class URI of, by the set (TDS 2.0, 'EPC Class URIs'): the key, laid out with its check
 /// digit, and the element with the lot. `NoReading` is returned if and only if the text has no derivation by a class of the set.
 /// May return `Memory` instead. The set is of the table.
-pub fn read_class(
+pub fn read_class<'a>(
     alloc: Global,
-    set: &ClassSet,
+    set: &'a ClassSet,
     table: &AiTable,
     text: &[u8],
-) -> Result<Identity, ClassFault>
+) -> Result<Identity<'a>, ClassFault>
     requires { IsOfTable table.now set.now }
     ensures answer { ReadsAs table.now set.now text.now result }
     ensures with_table { IfOk result (IsMadeWith table.now) }

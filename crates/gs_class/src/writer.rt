@@ -30,7 +30,7 @@ struct Said {
 }
 
 /// Returns the first pair with the code, other than the key.
-fn other_with<'a>(identity: &'a Identity, code: &[u8]) -> Option<&'a Pair>
+fn other_with<'i, 'a>(identity: &'i Identity<'a>, code: &[u8]) -> Option<&'i Pair<'a>>
     ensures { option_copied result ≡ pair_with (others_of identity.now) code.now }
 {
     let qualifiers = identity.qualifiers().iter();
@@ -40,42 +40,43 @@ fn other_with<'a>(identity: &'a Identity, code: &[u8]) -> Option<&'a Pair>
 }
 
 /// Returns whether the class has the key of the identity.
-fn has_key(identity: &Identity, class: &Class) -> bool
+fn has_key(identity: &Identity<'_>, class: &Class) -> bool
     ensures { result ≡ has_key identity.now class.now }
 {
-    class.key == identity.key().code
+    class.key.as_bytes() == identity.key().code.as_bytes()
 }
 
 /// Returns whether some class has the key of the identity.
-fn some_has_key(identity: &Identity, classes: &[Class]) -> bool
+fn some_has_key(identity: &Identity<'_>, classes: &[Class]) -> bool
     ensures { result ≡ list_any (has_key identity.now) classes.now }
 {
     classes.iter().any(|class| has_key(identity, class))
 }
 
 /// Returns whether the class has the key of the identity, and its element is a pair of it.
-fn is_named_by(identity: &Identity, class: &Class) -> bool
+fn is_named_by(identity: &Identity<'_>, class: &Class) -> bool
     ensures { result ≡ is_named_by identity.now class.now }
 {
     has_key(identity, class) && other_with(identity, class.element.as_bytes()).is_some()
 }
 
 /// Returns the first class that names the identity.
-fn naming<'a>(identity: &Identity, classes: &'a [Class]) -> Option<&'a Class>
+fn naming<'a>(identity: &Identity<'_>, classes: &'a [Class]) -> Option<&'a Class>
     ensures { option_copied result ≡ find (is_named_by identity.now) classes.now }
 {
     classes.iter().find(|class| is_named_by(identity, class))
 }
 
 /// Returns whether the pair is neither that of the key nor that of the element of the class.
-fn is_extra(class: &Class, pair: &Pair) -> bool
+fn is_extra(class: &Class, pair: &Pair<'_>) -> bool
     ensures { result ≡ is_extra class.now pair.now }
 {
-    class.key != pair.code && class.element != pair.code
+    let code = pair.code.as_bytes();
+    class.key.as_bytes() != code && class.element.as_bytes() != code
 }
 
 /// Returns the first pair of the identity that is neither that of the key nor that of the element of the class.
-fn extra_of<'a>(class: &Class, identity: &'a Identity) -> Option<&'a Pair>
+fn extra_of<'i, 'a>(class: &Class, identity: &'i Identity<'a>) -> Option<&'i Pair<'a>>
     ensures { option_copied result ≡ find (is_extra class.now) (others_of identity.now) }
 {
     let qualifiers = identity.qualifiers().iter();
@@ -89,7 +90,7 @@ fn class_fields(
     alloc: Global,
     ais: &AiTable,
     class: &Class,
-    identity: &Identity,
+    identity: &Identity<'_>,
 ) -> Result<Said, ClassWriteFault>
     requires { IsQualified class.now identity.now }
     ensures apart { IfOk result (λ said. take_apart ais.now (kind_of class.now) identity.now class.now.gcp
@@ -105,7 +106,7 @@ fn class_fields(
     Ok(Said {
         prefix: Text::from_bytes(alloc, prefix_in(parts, class.lead, class.gcp, value))?,
         rest: joined(alloc, lead, behind)?,
-        serial: lot.value.copy(alloc)?,
+        serial: Text::from_bytes(alloc, lot.value.as_bytes())?,
     })
 }
 
@@ -142,7 +143,7 @@ fn write_option(
     ais: &AiTable,
     class: &Class,
     option: &Opt,
-    identity: &Identity,
+    identity: &Identity<'_>,
 ) -> Result<Text, ClassWriteFault>
     requires text_level { option.now.bit_level ≡ false }
     requires can_write { CanWrite ais.now class.now option.now.items identity.now }
@@ -173,7 +174,7 @@ fn write_by_length(
     ais: &AiTable,
     set: &ClassSet,
     class: &Class,
-    identity: &Identity,
+    identity: &Identity<'_>,
     n: u8,
 ) -> Result<Text, ClassWriteFault>
     requires { CanBeWritten ais.now set.now class.now.name identity.now }
@@ -197,7 +198,7 @@ fn length_for(
     prefixes: &PrefixList,
     gcp: Option<u8>,
     class: &Class,
-    identity: &Identity,
+    identity: &Identity<'_>,
 ) -> Option<u8>
     ensures { result ≡ length_for prefixes.now gcp class.now identity.now }
 {
@@ -218,14 +219,14 @@ fn write_by_name(
     set: &ClassSet,
     prefixes: &PrefixList,
     gcp: Option<u8>,
-    identity: &Identity,
+    identity: &Identity<'_>,
     class: &Class,
 ) -> Result<Text, ClassWriteFault>
     requires { CanBeWritten ais.now set.now class.now.name identity.now }
     ensures { OrMemory result (by_name ais.now set.now prefixes.now gcp identity.now class.now) }
 {
     if let Some(pair) = extra_of(class, identity) {
-        return Err(ClassWriteFault::Extra(pair.code.copy(alloc)?));
+        return Err(ClassWriteFault::Extra(Text::from_bytes(alloc, pair.code.as_bytes())?));
     }
     match length_for(prefixes, gcp, class, identity) {
         Some(n) => write_by_length(alloc, ais, set, class, identity, n),
@@ -246,7 +247,7 @@ pub fn write_class(
     table: &AiTable,
     prefixes: &PrefixList,
     gcp: Option<u8>,
-    identity: &Identity,
+    identity: &Identity<'_>,
 ) -> Result<Text, ClassWriteFault>
     requires of_table { IsOfTable table.now set.now }
     requires made { IsMadeWith table.now identity.now }

@@ -24,12 +24,17 @@ use gs_tables::{LevelName, TableSet};
 use std::alloc::Global;
 
 /// Returns the meaning of an EPC of the set.
-fn meaning_of(alloc: Global, set: &TableSet, reading: &EpcReading<'_>) -> Result<Meaning, Memory>
+fn meaning_of(
+    alloc: Global,
+    set: &TableSet,
+    reading: &EpcReading<'_>,
+) -> Result<Meaning<'static>, Memory>
     requires { IsOfSet set.now reading.now }
     ensures meaning { IfOk result (λ meaning. MeansEpc set.now reading.now (Ok meaning)) }
     ensures with_table { IfOk result (λ meaning. IsMadeWith set.now.ais meaning.identity) }
 {
-    let identity = reading.identity(alloc, set)?;
+    let laid = reading.identity(alloc, set)?;
+    let identity = laid.copy(alloc)?;
     let lent = reading.epc();
     Ok(Meaning {
         identity,
@@ -40,12 +45,12 @@ fn meaning_of(alloc: Global, set: &TableSet, reading: &EpcReading<'_>) -> Result
 }
 
 /// Returns the meaning of a text of a level: the bits of a tag, or an EPC URI.
-fn level_meaning(
+fn level_meaning<'a>(
     alloc: Global,
     set: &TableSet,
     level: LevelName,
-    text: &[u8],
-) -> Result<Meaning, Reason>
+    text: &'a [u8],
+) -> Result<Meaning<'a>, Reason>
     ensures meaning { UnlessMemory result
         (Then (Reworded NoRoom NoEpc (ReadsText set.now level text.now)) (MeansEpc set.now) result) }
     ensures with_table { IfOk result (λ meaning. IsMadeWith set.now.ais meaning.identity) }
@@ -60,7 +65,12 @@ fn level_meaning(
 /// For an element string, returns `Element` if and only if an element is invalid, and names the first; for a link, `NotHttp`,
 /// `NoKeyPath` and `Element` if and only if it has that error, in this order. For both, returns `Ident` if and only if there is
 /// none of these and the elements have no identity, with the reason.
-pub fn read(alloc: Global, set: &TableSet, form: Form, text: &[u8]) -> Result<Meaning, Reason>
+pub fn read<'a>(
+    alloc: Global,
+    set: &TableSet,
+    form: Form,
+    text: &'a [u8],
+) -> Result<Meaning<'a>, Reason>
     ensures meaning { UnlessMemory result (IsRead set.now form text.now result) }
     ensures with_table { IfOk result (λ meaning. IsMadeWith set.now.ais meaning.identity) }
 {
@@ -78,9 +88,9 @@ pub fn read(alloc: Global, set: &TableSet, form: Form, text: &[u8]) -> Result<Me
 }
 
 /// The meaning of a text.
-pub struct Meaning {
+pub struct Meaning<'a> {
     /// The identity that it names.
-    pub identity: Identity,
+    pub identity: Identity<'a>,
     /// The number of digits of the GS1 Company Prefix, if the form gives it.
     pub gcp: Option<u8>,
     /// The filter value, if the form gives it.
@@ -90,7 +100,7 @@ pub struct Meaning {
 }
 
 // by hand, so that a function that drops one calls this one: a derived drop is written out at each of its exits
-impl Drop for Meaning {
+impl Drop for Meaning<'_> {
     fn drop(self) {
         let Meaning {
             identity: _,
@@ -102,8 +112,8 @@ impl Drop for Meaning {
 }
 
 /// Returns the meaning of an identity that no EPC names.
-pub(crate) fn meaning_alone(alloc: Global, identity: Identity) -> Meaning
-    ensures { result ≡ identity_meaning identity }
+pub(crate) fn meaning_alone(alloc: Global, identity: Identity<'_>) -> Meaning<'_>
+    ensures { result ≡ identity_meaning identity.entry }
 {
     Meaning {
         identity,
@@ -114,9 +124,13 @@ pub(crate) fn meaning_alone(alloc: Global, identity: Identity) -> Meaning
 }
 
 /// Returns the identity of pairs. Returns `Ident` if and only if they have none, with the reason.
-fn identity_of(alloc: Global, set: &TableSet, pairs: Vec<Pair>) -> Result<Identity, Reason>
+fn identity_of<'a>(
+    alloc: Global,
+    set: &TableSet,
+    pairs: Vec<Pair<'a>>,
+) -> Result<Identity<'a>, Reason>
     requires { All (IsInOrder set.now.ais) pairs.items }
-    ensures named { UnlessMemory result (IsIdentified set.now pairs.items (alone result)) }
+    ensures named { UnlessMemory result (IsIdentified set.now pairs.entry.items (alone result)) }
     ensures with_table { IfOk result (IsMadeWith set.now.ais) }
 {
     match make(alloc, set.ais(), pairs) {
@@ -127,7 +141,7 @@ fn identity_of(alloc: Global, set: &TableSet, pairs: Vec<Pair>) -> Result<Identi
 }
 
 /// Returns the identity that an element string names as a barcode scanner transmits it.
-fn raw_identity(alloc: Global, set: &TableSet, text: &[u8]) -> Result<Identity, Reason>
+fn raw_identity<'a>(alloc: Global, set: &TableSet, text: &'a [u8]) -> Result<Identity<'a>, Reason>
     ensures named { UnlessMemory result (Means set.now Form.Raw text.now (alone result)) }
     ensures with_table { IfOk result (IsMadeWith set.now.ais) }
 {
@@ -136,7 +150,11 @@ fn raw_identity(alloc: Global, set: &TableSet, text: &[u8]) -> Result<Identity, 
 }
 
 /// Returns the identity that a bracketed element string (human readable interpretation) names.
-fn bracketed_identity(alloc: Global, set: &TableSet, text: &[u8]) -> Result<Identity, Reason>
+fn bracketed_identity<'a>(
+    alloc: Global,
+    set: &TableSet,
+    text: &'a [u8],
+) -> Result<Identity<'a>, Reason>
     ensures named { UnlessMemory result (Means set.now Form.Bracketed text.now (alone result)) }
     ensures with_table { IfOk result (IsMadeWith set.now.ais) }
 {
@@ -145,7 +163,7 @@ fn bracketed_identity(alloc: Global, set: &TableSet, text: &[u8]) -> Result<Iden
 }
 
 /// Returns the identity that a link names.
-fn link_identity(alloc: Global, set: &TableSet, text: &[u8]) -> Result<Identity, Reason>
+fn link_identity<'a>(alloc: Global, set: &TableSet, text: &'a [u8]) -> Result<Identity<'a>, Reason>
     ensures named { UnlessMemory result (Means set.now Form.Link text.now (alone result)) }
     ensures with_table { IfOk result (IsMadeWith set.now.ais) }
 {
@@ -155,12 +173,12 @@ fn link_identity(alloc: Global, set: &TableSet, text: &[u8]) -> Result<Identity,
 
 /// Returns the identity that an element string or a link names, or why it names none, as `read` does for a text of at most 2,048
 /// bytes. A canonical link is a link.
-pub(crate) fn identity_in(
+pub(crate) fn identity_in<'a>(
     alloc: Global,
     set: &TableSet,
     form: PairsForm,
-    text: &[u8],
-) -> Result<Identity, Reason>
+    text: &'a [u8],
+) -> Result<Identity<'a>, Reason>
     ensures named { UnlessMemory result
         (Means set.now (form_of (pairs_target form)) text.now (alone result)) }
     ensures with_table { IfOk result (IsMadeWith set.now.ais) }
@@ -173,12 +191,12 @@ pub(crate) fn identity_in(
 }
 
 /// Returns the meaning of an element string or a link.
-fn pairs_meaning(
+fn pairs_meaning<'a>(
     alloc: Global,
     set: &TableSet,
     form: PairsForm,
-    text: &[u8],
-) -> Result<Meaning, Reason>
+    text: &'a [u8],
+) -> Result<Meaning<'a>, Reason>
     ensures meaning { UnlessMemory result (Means set.now (form_of (pairs_target form)) text.now result) }
     ensures with_table { IfOk result (λ meaning. IsMadeWith set.now.ais meaning.identity) }
 {

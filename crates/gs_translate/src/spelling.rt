@@ -45,7 +45,7 @@ fn append_meaning(
     prefixes: &PrefixList,
     options: &Options,
     level: LevelName,
-    meaning: &Meaning,
+    meaning: &Meaning<'_>,
     out: &mut Vec<u8>,
 ) -> Result<(), Reason>
     requires options { FitsFilter options.now.filter }
@@ -77,7 +77,7 @@ pub(crate) fn append_pairs(
     set: &TableSet,
     options: &Options,
     to: PairsForm,
-    identity: &Identity,
+    identity: &Identity<'_>,
     out: &mut Vec<u8>,
 ) -> Result<(), Memory>
     requires options { AreInOrder options.now }
@@ -101,13 +101,13 @@ pub(crate) fn append_spelling(
     prefixes: &PrefixList,
     options: &Options,
     to: Target,
-    identity: Identity,
+    identity: Identity<'_>,
     out: &mut Vec<u8>,
 ) -> Result<(), Reason>
     requires options { AreInOrder options.now }
     requires with_table { IsMadeWith set.now.ais identity }
     ensures { UnlessMemory result (AppendsText
-        (IsSpelling set.now prefixes.now options.now to (identity_meaning identity))
+        (IsSpelling set.now prefixes.now options.now to (identity_meaning identity.entry))
         out.old.items out.new.items result) }
 {
     match written_as(to) {

@@ -12,7 +12,7 @@ use crate::form::{FieldName, Options};
 use crate::reader::Meaning;
 use crate::reason::Reason;
 use gs_ai::Pair;
-use gs_chars::count_digits;
+use gs_chars::{Text, count_digits};
 use gs_epc::{EpcRef, lent_fields_of, value_from_prefix};
 use gs_ident::Identity;
 use gs_prefix::PrefixList;
@@ -20,31 +20,33 @@ use gs_tables::{LevelName, OptInfo, SerialAt, TableSet};
 use std::alloc::Global;
 
 /// Returns the index of the kind of the key.
-fn kind_place(set: &TableSet, key: &Pair) -> Option<usize>
+fn kind_place(set: &TableSet, key: &Pair<'_>) -> Option<usize>
     ensures { result ≡ position (has_key key.now.code) set.now.kinds }
 {
-    set.kinds().iter().position(|kind| key.code == kind.key)
+    set.kinds()
+        .iter()
+        .position(|kind| key.code.as_bytes() == kind.key.as_bytes())
 }
 
 /// Returns whether the pair is the serial, in a separate element.
-fn is_serial(serial: &SerialAt, pair: &Pair) -> bool
+fn is_serial(serial: &SerialAt, pair: &Pair<'_>) -> bool
     ensures { result ≡ is_serial serial.now pair.now }
 {
     match serial {
-        SerialAt::Ai(code) => *code == pair.code,
+        SerialAt::Ai(code) => code.as_bytes() == pair.code.as_bytes(),
         SerialAt::Nowhere | SerialAt::Tail => false,
     }
 }
 
 /// Returns the first pair that is not the serial.
-fn first_other<'a>(serial: &SerialAt, pairs: &'a [Pair]) -> Option<&'a Pair>
+fn first_other<'p, 'a>(serial: &SerialAt, pairs: &'p [Pair<'a>]) -> Option<&'p Pair<'a>>
     ensures { option_copied result ≡ find (λ pair. not (is_serial serial.now pair)) pairs.now }
 {
     pairs.iter().find(|pair| !is_serial(serial, pair))
 }
 
 /// Returns the first pair that no EPC says.
-fn extra_pair<'a>(serial: &SerialAt, identity: &'a Identity) -> Option<&'a Pair>
+fn extra_pair<'i, 'a>(serial: &SerialAt, identity: &'i Identity<'a>) -> Option<&'i Pair<'a>>
     ensures { option_copied result ≡ extra_pair serial.now identity.now }
 {
     match first_other(serial, identity.qualifiers()) {
@@ -54,7 +56,7 @@ fn extra_pair<'a>(serial: &SerialAt, identity: &'a Identity) -> Option<&'a Pair>
 }
 
 /// Returns the index of the kind of the key, if an EPC of it holds the whole identity.
-fn kind_for(alloc: Global, set: &TableSet, identity: &Identity) -> Result<usize, Reason>
+fn kind_for(alloc: Global, set: &TableSet, identity: &Identity<'_>) -> Result<usize, Reason>
     ensures kind { UnlessMemory result (result ≡ kind_for set.now identity.now) }
     ensures within { IfOk result (λ kind. kind < length set.now.kinds) }
 {
@@ -62,7 +64,7 @@ fn kind_for(alloc: Global, set: &TableSet, identity: &Identity) -> Result<usize,
         return Err(Reason::NoKind);
     };
     match extra_pair(&set.kinds()[kind].serial, identity) {
-        Some(pair) => Err(Reason::Extra(pair.code.copy(alloc)?)),
+        Some(pair) => Err(Reason::Extra(Text::from_bytes(alloc, pair.code.as_bytes())?)),
         None => Ok(kind),
     }
 }
@@ -81,7 +83,7 @@ fn known_length(
     set: &TableSet,
     prefixes: &PrefixList,
     options: &Options,
-    meaning: &Meaning,
+    meaning: &Meaning<'_>,
     kind: usize,
 ) -> Option<u8>
     requires { kind < length set.now.kinds }
@@ -117,7 +119,7 @@ fn length_for(
     set: &TableSet,
     prefixes: &PrefixList,
     options: &Options,
-    meaning: &Meaning,
+    meaning: &Meaning<'_>,
     kind: usize,
 ) -> Result<u8, Reason>
     requires { kind < length set.now.kinds }
@@ -184,7 +186,7 @@ pub(crate) fn retagged<'a>(
 fn with_tag<'a>(
     options: &'a Options,
     level: LevelName,
-    meaning: &'a Meaning,
+    meaning: &'a Meaning<'_>,
     epc: EpcRef<'a>,
 ) -> Result<EpcRef<'a>, Reason>
     requires options { FitsFilter options.now.filter }
@@ -205,7 +207,7 @@ pub(crate) fn epc_for<'a>(
     prefixes: &PrefixList,
     options: &'a Options,
     level: LevelName,
-    meaning: &'a Meaning,
+    meaning: &'a Meaning<'_>,
 ) -> Result<EpcRef<'a>, Reason>
     requires options { FitsFilter options.now.filter }
     requires meaning { FitsFilter meaning.now.filter }
@@ -214,6 +216,6 @@ pub(crate) fn epc_for<'a>(
 {
     let kind = kind_for(alloc, set, &meaning.identity)?;
     let gcp = length_for(set, prefixes, options, meaning, kind)?;
-    let epc = lent_fields_of(set, kind, &meaning.identity, gcp)?;
+    let epc = lent_fields_of(alloc, set, kind, &meaning.identity, gcp)?;
     with_tag(options, level, meaning, epc)
 }

@@ -149,8 +149,8 @@ pub fn translate(
 }
 
 /// Returns the key, with its serial if that is a separate element.
-fn key_and_serial(serial: &SerialAt, identity: Identity) -> Identity
-    ensures { result ≡ key_and_serial serial.now identity }
+fn key_and_serial<'a>(serial: &SerialAt, identity: Identity<'a>) -> Identity<'a>
+    ensures { result ≡ key_and_serial serial.now identity.entry }
 {
     match serial {
         SerialAt::Ai(code) => identity.with_qualifier(code.as_bytes()),
@@ -159,16 +159,18 @@ fn key_and_serial(serial: &SerialAt, identity: Identity) -> Identity
 }
 
 /// Returns the kind of a key.
-fn kind_of<'a>(set: &'a TableSet, key: &Pair) -> Option<&'a Kind>
+fn kind_of<'a>(set: &'a TableSet, key: &Pair<'_>) -> Option<&'a Kind>
     ensures { option_copied result ≡ find (has_key key.now.code) set.now.kinds }
 {
-    set.kinds().iter().find(|kind| key.code == kind.key)
+    set.kinds()
+        .iter()
+        .find(|kind| key.code.as_bytes() == kind.key.as_bytes())
 }
 
 /// Returns the identity, with only its key kept if only keys are.
-fn kept(set: &TableSet, keys_only: bool, identity: Identity) -> Identity
+fn kept<'a>(set: &TableSet, keys_only: bool, identity: Identity<'a>) -> Identity<'a>
     requires { IsMadeWith set.now.ais identity }
-    ensures kept { identity_meaning result ≡ kept set.now keys_only (identity_meaning identity) }
+    ensures kept { identity_meaning result ≡ kept set.now keys_only (identity_meaning identity.entry) }
     ensures with_table { IsMadeWith set.now.ais result }
 {
     if keys_only {
@@ -179,9 +181,9 @@ fn kept(set: &TableSet, keys_only: bool, identity: Identity) -> Identity
 }
 
 /// Returns the identity with only its key kept, by the kind of the key.
-fn narrowed(set: &TableSet, identity: Identity) -> Identity
+fn narrowed<'a>(set: &TableSet, identity: Identity<'a>) -> Identity<'a>
     requires { IsMadeWith set.now.ais identity }
-    ensures narrowed { result ≡ narrowed set.now identity }
+    ensures narrowed { result ≡ narrowed set.now identity.entry }
     ensures with_table { IsMadeWith set.now.ais result }
 {
     // only for the proof: the rows satisfy the rules of application identifiers

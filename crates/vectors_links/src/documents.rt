@@ -51,7 +51,7 @@ fn rendered_for(
     alloc: Global,
     form: LinksetForm,
     templates: bool,
-    identity: &Identity,
+    identity: &Identity<'_>,
     doc: LinkDoc,
 ) -> Result<Rendered, Memory> {
     let doc = document_for(alloc, templates, identity, doc)?;

@@ -15,7 +15,7 @@ ghost use Rattle.std.specs.Prelude.{◌≡◌, IfOk, vec_len};
 use crate::{links_by_language, many_links};
 use gs_ai::AiTable;
 use gs_chars::Text;
-use gs_ident::{Identity, canonical};
+use gs_ident::Identity;
 use gs_links::{AnchorWhy, Link, Store, StoreFault, Want, keeps_names};
 use gs_linkset::LinkDoc;
 use std::alloc::{AllocError, Global};
@@ -144,7 +144,7 @@ fn add_anchor_error(line: &mut Line, context: usize, why: AnchorWhy) {
 }
 
 fn add_link(alloc: Global, line: &mut Line, link: &Link) {
-    line.text_made(canonical(alloc, &link.anchor));
+    line.text_made(link.anchor.canonical(alloc));
     line.bytes(link.relation.as_bytes());
     line.bytes(link.target.href.as_bytes());
 }
@@ -205,7 +205,7 @@ fn asked(
     line: &mut Line,
     store: &Store,
     call: Call,
-    identity: &Identity,
+    identity: &Identity<'_>,
     args: &[Text],
 ) -> Done {
     let want = want_of(bytes_at(args, 0));

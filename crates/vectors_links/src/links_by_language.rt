@@ -80,7 +80,7 @@ fn ranges(alloc: Global, times: u64, last: &[u8]) -> Result<Vec<Text>, Rejection
 }
 
 /// Returns the identity of the anchor.
-fn identity(alloc: Global, table: &AiTable) -> Result<Identity, Rejection> {
+fn identity(alloc: Global, table: &AiTable) -> Result<Identity<'static>, Rejection> {
     let pairs = match read_target(alloc, table, b"/01/09506000134352") {
         Ok(pairs) => pairs,
         Err(_) => return Err(Rejection::NoCase),
@@ -96,7 +96,7 @@ fn add_kept(
     alloc: Global,
     line: &mut Line,
     store: &Store,
-    identity: &Identity,
+    identity: &Identity<'_>,
     ranges: &[Text],
 ) -> Done {
     let mut numbers = room(alloc, store.len())?;

@@ -59,21 +59,25 @@ fn linkset(alloc: Global, count: u64) -> Answer {
     Ok(text)
 }
 
-/// Returns the pairs of the anchor of the link K.
-fn anchor_pairs(alloc: Global, table: &AiTable, k: usize) -> Result<Vec<Pair>, Rejection>
+/// Returns the pairs of an anchor.
+fn anchor_pairs<'a>(
+    alloc: Global,
+    table: &AiTable,
+    target: &'a [u8],
+) -> Result<Vec<Pair<'a>>, Rejection>
     ensures { IfOk result (λ pairs. All (IsInOrder table.now) pairs.items) }
 {
-    let target = format!(in alloc; "/01/09506000134352/21/{k}")?;
-    match read_target(alloc, table, target.as_bytes()) {
+    match read_target(alloc, table, target) {
         Ok(pairs) => Ok(pairs),
         Err(_) => Err(Rejection::NoCase),
     }
 }
 
 /// Returns the identity of the anchor of the link K.
-fn identity(alloc: Global, table: &AiTable, k: usize) -> Result<Identity, Rejection> {
-    match make(alloc, table, anchor_pairs(alloc, table, k)?) {
-        Ok(identity) => Ok(identity),
+fn identity(alloc: Global, table: &AiTable, k: usize) -> Result<Identity<'static>, Rejection> {
+    let target = format!(in alloc; "/01/09506000134352/21/{k}")?;
+    match make(alloc, table, anchor_pairs(alloc, table, target.as_bytes())?) {
+        Ok(identity) => Ok(identity.copy(alloc)?),
         Err(_) => Err(Rejection::NoCase),
     }
 }
@@ -87,7 +91,13 @@ fn is_first(numbers: &[u32], k: usize) -> bool {
 }
 
 /// Returns whether only the link K is chosen for an identity, `times` times.
-fn is_alone(store: &Store, identity: &Identity, k: usize, times: u64, numbers: &mut [u32]) -> bool
+fn is_alone(
+    store: &Store,
+    identity: &Identity<'_>,
+    k: usize,
+    times: u64,
+    numbers: &mut [u32],
+) -> bool
     requires { length store.now ≤ length numbers.old }
 {
     for _ in 0..times {

@@ -41,7 +41,7 @@ pub fn answer(alloc: Global, line: &mut Line, table: &AiTable, call: &[u8], args
 }
 
 /// Writes the codes and values in turn, or the error.
-fn add_read(line: &mut Line, read: Result<Vec<Pair>, LinkFault>) {
+fn add_read(line: &mut Line, read: Result<Vec<Pair<'_>>, LinkFault>) {
     match read {
         Ok(pairs) => add_listed(line, pairs.as_slice()),
         Err(LinkFault::Element(error)) => add_error(line, error),

@@ -39,7 +39,7 @@ pub fn answer(alloc: Global, line: &mut Line, table: &AiTable, call: &[u8], args
 }
 
 /// Writes the codes and values in turn, or the error.
-fn add_read(line: &mut Line, read: Result<Vec<Pair>, RawFault>) {
+fn add_read(line: &mut Line, read: Result<Vec<Pair<'_>>, RawFault>) {
     match read {
         Ok(pairs) => add_listed(line, pairs.as_slice()),
         Err(RawFault::Element(error)) => add_error(line, error),
@@ -54,20 +54,20 @@ pub fn add_error(line: &mut Line, error: ElementFault) {
 }
 
 /// Writes a code and its value.
-pub fn add_pair(line: &mut Line, pair: &Pair) {
+pub fn add_pair(line: &mut Line, pair: &Pair<'_>) {
     line.bytes(pair.code.as_bytes());
     line.bytes(pair.value.as_bytes());
 }
 
 /// Writes the codes and values of the pairs in turn.
-pub fn add_pairs(line: &mut Line, pairs: &[Pair]) {
+pub fn add_pairs(line: &mut Line, pairs: &[Pair<'_>]) {
     for pair in pairs {
         add_pair(line, pair);
     }
 }
 
 /// Writes the codes and values of the pairs in turn, or `none`.
-pub fn add_listed(line: &mut Line, pairs: &[Pair]) {
+pub fn add_listed(line: &mut Line, pairs: &[Pair<'_>]) {
     if pairs.is_empty() {
         line.plain("none");
     }

@@ -123,7 +123,7 @@ fn add_fields(
     set: &TableSet,
     kind: usize,
     gcp: u8,
-    identity: &Identity,
+    identity: &Identity<'_>,
 ) -> Done {
     if kind >= set.kinds().len() {
         return Err(Rejection::NoCase);

@@ -133,7 +133,7 @@ fn add_row(line: &mut Line, row: &AiRow) {
 }
 
 fn copy(alloc: Global, line: &mut Line, code: &[u8], value: &[u8]) -> Done {
-    let pair = pair_of(alloc, code, value)?;
+    let pair = pair_of(code, value);
     add_pair(line, &pair.copy(alloc)?);
     Ok(())
 }

@@ -10,7 +10,7 @@ ghost use Rattle.gs_ident.specs.Identities.{IsInOrder, IsMadeWith};
 
 use crate::elements::{add_pair, add_pairs};
 use gs_ai::{AiTable, Pair, ValueFault};
-use gs_chars::Text;
+use gs_chars::{CowText, Text};
 use gs_ident::{IdentFault, Identity, canonical, make, spell};
 use std::alloc::Global;
 use vectors_cases::{Done, Line, Rejection, behind, bytes_at, named, number_of};
@@ -67,12 +67,12 @@ fn answer_of(
 }
 
 /// Returns the identity of the pairs, or none if they make none, which is written.
-pub fn made(
+pub fn made<'a>(
     alloc: Global,
     line: &mut Line,
     table: &AiTable,
-    words: &[Text],
-) -> Result<Option<Identity>, Rejection>
+    words: &'a [Text],
+) -> Result<Option<Identity<'a>>, Rejection>
     ensures { IfOk result (λ made. IfSome made (IsMadeWith table.now)) }
 {
     if let Some(error) = first_error(table, words)? {
@@ -109,17 +109,17 @@ fn first_error(table: &AiTable, words: &[Text]) -> Result<Option<ValueFault>, Re
 }
 
 /// Returns a pair of these bytes.
-pub fn pair_of(alloc: Global, code: &[u8], value: &[u8]) -> Result<Pair, Rejection>
-    ensures { IfOk result (λ pair. (pair.code ≡ code.now) × (pair.value ≡ value.now)) }
+pub fn pair_of<'a>(code: &'a [u8], value: &'a [u8]) -> Pair<'a>
+    ensures { (result.code ≡ code.now) × (result.value ≡ value.now) }
 {
-    Ok(Pair {
-        code: Text::from_bytes(alloc, code)?,
-        value: Text::from_bytes(alloc, value)?,
-    })
+    Pair {
+        code: CowText::lent(code),
+        value: CowText::lent(value),
+    }
 }
 
 /// Returns the pair of a code and a value, which is valid.
-fn checked(alloc: Global, table: &AiTable, words: &[Text]) -> Result<Pair, Rejection>
+fn checked<'a>(table: &AiTable, words: &'a [Text]) -> Result<Pair<'a>, Rejection>
     ensures { IfOk result (IsInOrder table.now) }
 {
     let [code, value, ..] = words else {
@@ -128,22 +128,30 @@ fn checked(alloc: Global, table: &AiTable, words: &[Text]) -> Result<Pair, Rejec
     if table.value_ok(code.as_bytes(), value.as_bytes()).is_err() {
         return Err(Rejection::NoCase);
     }
-    pair_of(alloc, code.as_bytes(), value.as_bytes())
+    Ok(pair_of(code.as_bytes(), value.as_bytes()))
 }
 
 /// Makes the pairs, which are valid.
-fn pairs_of(alloc: Global, table: &AiTable, words: &[Text]) -> Result<Vec<Pair>, Rejection>
+fn pairs_of<'a>(
+    alloc: Global,
+    table: &AiTable,
+    words: &'a [Text],
+) -> Result<Vec<Pair<'a>>, Rejection>
     ensures { IfOk result (λ pairs. All (IsInOrder table.now) pairs.items) }
 {
     let mut pairs = Vec::new(alloc);
     for pair in words.chunks(2) {
-        pairs.push(checked(alloc, table, pair)?)?;
+        pairs.push(checked(table, pair)?)?;
     }
     Ok(pairs)
 }
 
 /// Returns the identity of the pairs.
-pub fn identity_of(alloc: Global, table: &AiTable, words: &[Text]) -> Result<Identity, Rejection>
+pub fn identity_of<'a>(
+    alloc: Global,
+    table: &AiTable,
+    words: &'a [Text],
+) -> Result<Identity<'a>, Rejection>
     ensures { IfOk result (IsMadeWith table.now) }
 {
     match make(alloc, table, pairs_of(alloc, table, words)?) {
@@ -168,7 +176,7 @@ fn add_coded(line: &mut Line, name: &str, code: Text) {
     line.text(code);
 }
 
-fn known(alloc: Global, line: &mut Line, identity: &Identity, asked: Asked<'_>) -> Done {
+fn known(alloc: Global, line: &mut Line, identity: &Identity<'_>, asked: Asked<'_>) -> Done {
     match asked {
         Asked::Parts => add_parts(line, identity),
         Asked::Canonical => line.text_made(canonical(alloc, identity)),
@@ -179,7 +187,7 @@ fn known(alloc: Global, line: &mut Line, identity: &Identity, asked: Asked<'_>) 
 }
 
 /// Writes the canonical link of the identity of the key and that many qualifiers.
-fn add_prefix(alloc: Global, line: &mut Line, identity: &Identity, count: &[u8]) -> Done {
+fn add_prefix(alloc: Global, line: &mut Line, identity: &Identity<'_>, count: &[u8]) -> Done {
     let count = number_of(count)?;
     if count > identity.qualifiers().len() as u64 {
         return Err(Rejection::NoCase);
@@ -189,7 +197,7 @@ fn add_prefix(alloc: Global, line: &mut Line, identity: &Identity, count: &[u8])
     Ok(())
 }
 
-fn add_parts(line: &mut Line, identity: &Identity) {
+fn add_parts(line: &mut Line, identity: &Identity<'_>) {
     add_pair(line, identity.key());
     line.plain("|");
     add_pairs(line, identity.qualifiers());

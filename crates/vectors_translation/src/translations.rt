@@ -179,7 +179,7 @@ fn add_reason(alloc: Global, line: &mut Line, reason: &Reason) -> Done {
 }
 
 /// Writes the canonical link of the identity, the prefix length, the filter value and the encoding of a meaning.
-fn add_meaning(alloc: Global, line: &mut Line, meaning: &Meaning) {
+fn add_meaning(alloc: Global, line: &mut Line, meaning: &Meaning<'_>) {
     line.text_made(canonical(alloc, &meaning.identity));
     line.debug(meaning.gcp);
     line.debug(meaning.filter);
