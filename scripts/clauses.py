@@ -69,7 +69,7 @@ class Type:
     @property
     def names(self):
         """The names of its value, or else those that its fields name."""
-        return set(NAMES.findall(self.value or re.sub(r"//.*", "", "\n".join(self.formula))))
+        return set(NAMES.findall(self.value or re.sub(r"//.*|<'\w+>", "", "\n".join(self.formula))))
 
 
 def block(lines, start, margin):
@@ -162,7 +162,7 @@ class Sources:
             self.types.update({(it.crate, it.module, it.name): it for it in source.types})
         for source in self.files.values():
             for item in source.items:
-                if item.name == "Value" and item.owner[1] == "Model":
+                if item.name == "Value" and item.owner and item.owner[1] == "Model":
                     made = self.type_of(source, item.owner[2])
                     if made:
                         made.value = item.text.split("{", 1)[1]
