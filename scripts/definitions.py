@@ -19,9 +19,6 @@ MEMBER = re.compile(r"  pub (\S+) : ")
 WIDTH = 128
 CLAUSE = re.compile(r"ensures (\w+) \{.*?(?=\n\s*(?:ensures|requires|//)|\Z)", re.DOTALL)
 
-# The source of a definition whose file has no mark yet. A mark is a comment, and a comment proves anew each crate above.
-SOURCES = {("gs_ident", "elements_with"): "own"}
-
 # Where the kernel ends, which is what the clause `defined` of `run` says for `canon` and `translate` with files of tables and prefixes: other
 # commands, the other files, and what else is loaded.
 BEYOND_KERNEL = set("""Generated IsClassCanonLine IsClassUriLine writing_classes IsDumpReadLine IsDumpWriteLine counts_line migrated_line
@@ -51,7 +48,6 @@ class Definition:
         found = MARK.fullmatch(self.sentence)
         if found:
             self.source, self.law, self.sentence = found[1] or "", found[2] or "", found[3]
-        self.source = self.source or SOURCES.get((self.crate, self.name), "")
 
     @property
     def path(self):

@@ -1,7 +1,6 @@
 pub mod Agreement
 pub mod Answers
 pub mod Elements
-pub mod ElementsSupport
 pub mod Identities
 pub mod Keys
 pub mod KeysSupport

@@ -1,11 +1,10 @@
 ghost use Rattle.std.specs.Prelude.{◌≡◌, ◌≤◌, ◌∷◌, IfOk, Ok, filter, length, take, ◌+◌, ◌-◌, ◌^◌, min};
-ghost use Rattle.gs_ident.specs.Elements.{first_qualifiers, is_coded, key_alone, with_qualifier, pairs_of};
-ghost use Rattle.gs_ident.specs.ElementsSupport.{elements_with};
+ghost use Rattle.gs_ident.specs.Elements.{elements_with, first_qualifiers, is_coded, key_alone, with_qualifier, pairs_of};
 ghost use Rattle.gs_ident.specs.Identities.{IsMadeWith, counted, identity_of_pairs};
 ghost use Rattle.gs_ident.specs.QualifiedKeys.{IsQualifiedKey, pairs_in};
 ghost use Rattle.gs_ident.specs.Room.{room_of_pair, room_of_pairs};
 
-use crate::pairs::stands_for_none;
+use crate::pairs::{same_code, stands_for_none};
 use gs_ai::{AiTable, Pair};
 use gs_chars::{List, Memory};
 use std::alloc::Global;
@@ -173,7 +172,7 @@ fn counted_pairs<'a>(
 pub fn is_coded(code: &[u8], pair: &Pair<'_>) -> bool
     ensures { result ≡ is_coded code.now pair.now }
 {
-    code == pair.code.as_bytes()
+    same_code(code, pair.code.as_bytes())
 }
 
 /// Drops the pairs that have another code.

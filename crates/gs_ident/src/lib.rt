@@ -30,6 +30,7 @@ pub use errors::IdentFault;
 pub use gs_ai::Pair;
 pub use identity::{Identity, is_coded};
 pub use maker::make;
+pub use pairs::{pair_with, same_code};
 pub use spelling::{
     CANONICAL_STEM, append_canonical, append_element, append_escaped, append_link, canonical,
     one_link_each, spell,

@@ -13,8 +13,7 @@ use Rattle.gs_ai.specs.declared.row.AiRow.{AiRow}
 use Rattle.gs_ai.specs.Values.{has_code}
 use Rattle.gs_ai.proofs.RuleLemmas.{none_at}
 use Rattle.gs_ai.proofs.Searches.{find_at_place, position-map, position_is}
-use Rattle.gs_ident.specs.Elements.{Elements, is_coded}
-use Rattle.gs_ident.specs.ElementsSupport.{elements_with}
+use Rattle.gs_ident.specs.Elements.{Elements, elements_with, is_coded}
 use Rattle.gs_ident.specs.Identities.{stands_for_none}
 use Rattle.gs_ident.proofs.MovedPairs.{any_at}
 use Rattle.gs_prefix.specs.declared.entry.PrefixEntry.{PrefixEntry}
