@@ -11,9 +11,9 @@ use crate::class_set::{Class, ClassSet};
 use crate::error::ClassWriteFault;
 use gs_ai::{AiTable, Pair};
 use gs_chars::{CowText, Memory, Text};
-use gs_epc::{joined, pair_with, parts_at, prefix_in, rest_in, skip_first};
+use gs_epc::{joined, parts_at, prefix_in, rest_in, skip_first};
 use gs_grammar::{Opt, WriteFault, write_text};
-use gs_ident::Identity;
+use gs_ident::{Identity, is_coded, pair_with};
 use gs_prefix::PrefixList;
 use gs_tables::Field;
 use std::alloc::Global;
@@ -36,7 +36,7 @@ fn other_with<'i, 'a>(identity: &'i Identity<'a>, code: &[u8]) -> Option<&'i Pai
     let qualifiers = identity.qualifiers().iter();
     qualifiers
         .chain(identity.attributes().iter())
-        .find(|pair| code == pair.code.as_bytes())
+        .find(|pair| is_coded(code, pair))
 }
 
 /// Returns whether the class has the key of the identity.

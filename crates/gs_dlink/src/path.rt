@@ -10,6 +10,7 @@ ghost use Rattle.gs_dlink.specs.ValuesSupport.{written_of};
 use crate::value::WrittenPair;
 use gs_ai::AiTable;
 use gs_chars::{Memory, Text};
+use gs_ident::same_code;
 use memchr::memrchr;
 use std::alloc::Global;
 
@@ -26,7 +27,7 @@ fn is_code_at(pairs: &[WrittenPair<'_>], index: usize, code: &[u8]) -> bool
     ensures { result ≡ is_code_at (map written_of pairs.now) index code.now }
 {
     match pairs.get(index) {
-        Some(pair) => code == pair.code,
+        Some(pair) => same_code(code, pair.code),
         None => false,
     }
 }

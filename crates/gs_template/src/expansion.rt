@@ -1,6 +1,5 @@
 ghost use Rattle.std.specs.Prelude.{◌≡◌, ◌++◌, IfOk, filter, find, true};
 ghost use Rattle.std.specs.List.{list_all};
-ghost use Rattle.std.specs.Option.{option_copied};
 ghost use Rattle.std.specs.Str.{is_utf8};
 ghost use Rattle.gs_ident.specs.Elements.{is_coded};
 ghost use Rattle.gs_ident.specs.Links.{percent_encoded};
@@ -10,15 +9,8 @@ ghost use Rattle.gs_template.specs.Templates.{bytes_behind, filled, is_delimiter
 use crate::places::place_size;
 use gs_ai::Pair;
 use gs_chars::{Memory, Text};
-use gs_ident::{Identity, append_escaped, is_coded};
+use gs_ident::{Identity, append_escaped, is_coded, pair_with};
 use std::alloc::Global;
-
-/// Returns the first pair with a code.
-fn pair_with<'p, 'a>(pairs: &'p [Pair<'a>], code: &[u8]) -> Option<&'p Pair<'a>>
-    ensures { option_copied result ≡ find (is_coded code.now) pairs.now }
-{
-    pairs.iter().find(|pair| is_coded(code, pair))
-}
 
 /// Returns the value of the first pair with a code, or nothing if there is no such pair.
 fn value_among<'a>(pairs: &'a [Pair<'_>], code: &[u8]) -> &'a [u8]

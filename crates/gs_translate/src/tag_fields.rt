@@ -14,7 +14,7 @@ use crate::reason::Reason;
 use gs_ai::Pair;
 use gs_chars::{Text, count_digits};
 use gs_epc::{EpcRef, lent_fields_of, value_from_prefix};
-use gs_ident::Identity;
+use gs_ident::{Identity, same_code};
 use gs_prefix::PrefixList;
 use gs_tables::{LevelName, OptInfo, SerialAt, TableSet};
 use std::alloc::Global;
@@ -25,7 +25,7 @@ fn kind_place(set: &TableSet, key: &Pair<'_>) -> Option<usize>
 {
     set.kinds()
         .iter()
-        .position(|kind| key.code.as_bytes() == kind.key.as_bytes())
+        .position(|kind| same_code(key.code.as_bytes(), kind.key.as_bytes()))
 }
 
 /// Returns whether the pair is the serial, in a separate element.
@@ -33,7 +33,7 @@ fn is_serial(serial: &SerialAt, pair: &Pair<'_>) -> bool
     ensures { result ≡ is_serial serial.now pair.now }
 {
     match serial {
-        SerialAt::Ai(code) => code.as_bytes() == pair.code.as_bytes(),
+        SerialAt::Ai(code) => same_code(code.as_bytes(), pair.code.as_bytes()),
         SerialAt::Nowhere | SerialAt::Tail => false,
     }
 }

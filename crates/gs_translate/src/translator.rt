@@ -13,7 +13,7 @@ use crate::reason::Reason;
 use crate::recoding::{append_of_level, read_as};
 use crate::spelling::append_spelling;
 use gs_chars::{LONGEST_TEXT, Memory, Text};
-use gs_ident::{Identity, Pair};
+use gs_ident::{Identity, Pair, same_code};
 use gs_prefix::PrefixList;
 use gs_tables::{Kind, SerialAt, TableSet};
 use std::alloc::Global;
@@ -164,7 +164,7 @@ fn kind_of<'a>(set: &'a TableSet, key: &Pair<'_>) -> Option<&'a Kind>
 {
     set.kinds()
         .iter()
-        .find(|kind| key.code.as_bytes() == kind.key.as_bytes())
+        .find(|kind| same_code(key.code.as_bytes(), kind.key.as_bytes()))
 }
 
 /// Returns the identity, with only its key kept if only keys are.
