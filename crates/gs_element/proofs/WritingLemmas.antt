@@ -77,20 +77,19 @@ raw_text_is pair (next ∷ pairs) =
     ap (λ (x : List ℕ). pair.code ++ (pair.value ++ (x ++ raw_text (next ∷ pairs)))) (separator_is (predefined_length pair.code))
     ∙ ap (λ (x : List ℕ). pair.code ++ (pair.value ++ (separator_of (is_none (predefined_length pair.code)) ++ x))) (raw_text_is next pairs)
 
-pub all_written : (identity : Elements) (old coded valued some all : List ℕ) (u v : Bool) → coded ≡ old ++ identity.key.code → valued ≡ coded ++ identity.key.value → u ≡ is_none (predefined_length identity.key.code) → some ≡ valued ++ raw_behind u identity.qualifiers → v ≡ last_open u identity.qualifiers → all ≡ some ++ raw_behind v identity.attributes → all ≡ old ++ raw_text (pairs_of identity)
-all_written identity old coded valued some all u v e f g h j k =
-    let key = identity.key in
+pub all_written : (key : Pair) (qualifiers attributes : List Pair) (old coded valued some all : List ℕ) (u v : Bool) → coded ≡ old ++ key.code → valued ≡ coded ++ key.value → u ≡ is_none (predefined_length key.code) → some ≡ valued ++ raw_behind u qualifiers → v ≡ last_open u qualifiers → all ≡ some ++ raw_behind v attributes → all ≡ old ++ raw_text (key ∷ (qualifiers ++ attributes))
+all_written key qualifiers attributes old coded valued some all u v e f g h j k =
     let w = is_none (predefined_length key.code) in
-    let q = raw_behind w identity.qualifiers in
-    let a = raw_behind (last_open w identity.qualifiers) identity.attributes in
-    let last : raw_behind v identity.attributes ≡ a = ap (λ (x : Bool). raw_behind x identity.attributes) (j ∙ ap (λ (x : Bool). last_open x identity.qualifiers) g) in
-    let first : some ≡ ((old ++ key.code) ++ key.value) ++ q = h ∙ ap (λ (x : List ℕ). x ++ raw_behind u identity.qualifiers) (f ∙ ap (λ (x : List ℕ). x ++ key.value) e) ∙ ap (λ (x : Bool). ((old ++ key.code) ++ key.value) ++ raw_behind x identity.qualifiers) g in
+    let q = raw_behind w qualifiers in
+    let a = raw_behind (last_open w qualifiers) attributes in
+    let last : raw_behind v attributes ≡ a = ap (λ (x : Bool). raw_behind x attributes) (j ∙ ap (λ (x : Bool). last_open x qualifiers) g) in
+    let first : some ≡ ((old ++ key.code) ++ key.value) ++ q = h ∙ ap (λ (x : List ℕ). x ++ raw_behind u qualifiers) (f ∙ ap (λ (x : List ℕ). x ++ key.value) e) ∙ ap (λ (x : Bool). ((old ++ key.code) ++ key.value) ++ raw_behind x qualifiers) g in
     let whole : all ≡ (((old ++ key.code) ++ key.value) ++ q) ++ a = k ∙ ap (λ (x : List ℕ). some ++ x) last ∙ ap (λ (x : List ℕ). x ++ a) first in
-    let both : raw_behind w (identity.qualifiers ++ identity.attributes) ≡ q ++ a = raw_behind-append w identity.qualifiers identity.attributes in
-    let text : raw_text (pairs_of identity) ≡ key.code ++ (key.value ++ (q ++ a)) = raw_text_is key (identity.qualifiers ++ identity.attributes) ∙ ap (λ (x : List ℕ). key.code ++ (key.value ++ x)) both in
+    let both : raw_behind w (qualifiers ++ attributes) ≡ q ++ a = raw_behind-append w qualifiers attributes in
+    let text : raw_text (key ∷ (qualifiers ++ attributes)) ≡ key.code ++ (key.value ++ (q ++ a)) = raw_text_is key (qualifiers ++ attributes) ∙ ap (λ (x : List ℕ). key.code ++ (key.value ++ x)) both in
     whole ∙ append_assoc ((old ++ key.code) ++ key.value) q a ∙ append_assoc (old ++ key.code) key.value (q ++ a) ∙ append_assoc old key.code (key.value ++ (q ++ a)) ∙ ap (λ (x : List ℕ). old ++ x) (sym text)
 
--- ---- the parts of an identity that was made with a table
+-- ---- the parts of pairs that are all valid by a table
 
 all_left : (P : Pair → Type 0) (a b : List Pair) → All P (a ++ b) → All P a
 all_left P [] b h = All-nil P
@@ -100,15 +99,18 @@ all_right : (P : Pair → Type 0) (a b : List Pair) → All P (a ++ b) → All P
 all_right P [] b h = h
 all_right P (p ∷ a) b h = all_right P a b (All-tail P p (a ++ b) h)
 
-module _ (rows : List AiRow) (identity : Elements) (made : IsMadeWith rows identity) where
-  others : All (IsInOrder rows) (identity.qualifiers ++ identity.attributes)
-  others = All-tail (IsInOrder rows) identity.key (identity.qualifiers ++ identity.attributes) made.in_order
+module _ (rows : List AiRow) (key : Pair) (qualifiers attributes : List Pair) (valid : All (IsInOrder rows) (key ∷ (qualifiers ++ attributes))) where
+  pub key_in_order : IsInOrder rows key
+  key_in_order = All-head (IsInOrder rows) key (qualifiers ++ attributes) valid
 
-  pub qualifiers_in_order : All (IsInOrder rows) identity.qualifiers
-  qualifiers_in_order = all_left (IsInOrder rows) identity.qualifiers identity.attributes others
+  others : All (IsInOrder rows) (qualifiers ++ attributes)
+  others = All-tail (IsInOrder rows) key (qualifiers ++ attributes) valid
 
-  pub attributes_in_order : All (IsInOrder rows) identity.attributes
-  attributes_in_order = all_right (IsInOrder rows) identity.qualifiers identity.attributes others
+  pub qualifiers_in_order : All (IsInOrder rows) qualifiers
+  qualifiers_in_order = all_left (IsInOrder rows) qualifiers attributes others
+
+  pub attributes_in_order : All (IsInOrder rows) attributes
+  attributes_in_order = all_right (IsInOrder rows) qualifiers attributes others
 
 -- ---- the written text is read
 

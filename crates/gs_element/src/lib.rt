@@ -3,6 +3,7 @@
 //! - `read_raw` reads a scanned element string, with its symbology identifier or without; `read_bracketed` one with application
 //!   identifiers in brackets.
 //! - `write_raw` and `write_bracketed` write an identity so.
+//! - `append_raw_pairs` and `append_bracketed_pairs` write a key and its other pairs without an identity.
 //!
 //! # Example
 //!
@@ -31,4 +32,7 @@ pub use bracketed_text::read_bracketed;
 pub use errors::RawFault;
 pub use laws::{one_error_each, one_list_each, some_answer, written_is_read};
 pub use raw::read_raw;
-pub use writer::{append_bracketed, append_raw, write_bracketed, write_raw};
+pub use writer::{
+    append_bracketed, append_bracketed_pairs, append_raw, append_raw_pairs, write_bracketed,
+    write_raw,
+};

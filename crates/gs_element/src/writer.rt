@@ -1,4 +1,4 @@
-ghost use Rattle.std.specs.Prelude.{◌≡◌, ◌++◌, All, IfOk, OnErr, is_none};
+ghost use Rattle.std.specs.Prelude.{◌≡◌, ◌∷◌, ◌++◌, All, IfOk, OnErr, is_none};
 ghost use Rattle.gs_chars.specs.Answers.{BeginsWith};
 ghost use Rattle.gs_ai.specs.PredefinedLengths.{predefined_length};
 ghost use Rattle.gs_ident.specs.Elements.{pairs_of};
@@ -59,6 +59,28 @@ fn write_elements(
     Ok(last)
 }
 
+/// Appends the element string of a key, of the pairs that qualify it, and of its attributes, as `append_raw` does for an identity.
+/// Fails only with `Memory`; `out` then begins with its old contents. Each pair is valid by the table.
+pub fn append_raw_pairs(
+    out: &mut Vec<u8>,
+    table: &AiTable,
+    key: &Pair<'_>,
+    qualifiers: &[Pair<'_>],
+    attributes: &[Pair<'_>],
+) -> Result<(), Memory>
+    requires { All (IsInOrder table.now) (key.now ∷ (qualifiers.now ++ attributes.now)) }
+    ensures written { IfOk result (λ _. out.new.items
+        ≡ out.old.items ++ raw_text (key.now ∷ (qualifiers.now ++ attributes.now))) }
+    ensures begun { OnErr result (BeginsWith out.new.items out.old.items) }
+{
+    out.extend_from_slice(key.code.as_bytes())?;
+    out.extend_from_slice(key.value.as_bytes())?;
+    let unclosed = is_open(table, key);
+    let unclosed = write_elements(table, out, unclosed, qualifiers)?;
+    write_elements(table, out, unclosed, attributes)?;
+    Ok(())
+}
+
 /// Appends the element string of the identity, as `write_raw` returns it. Fails only with `Memory`; `out` then begins with its old
 /// contents. `make` of gs_ident made the identity with this table.
 pub fn append_raw(out: &mut Vec<u8>, table: &AiTable, identity: &Identity<'_>) -> Result<(), Memory>
@@ -66,13 +88,13 @@ pub fn append_raw(out: &mut Vec<u8>, table: &AiTable, identity: &Identity<'_>) -
     ensures written { IfOk result (λ _. out.new.items ≡ out.old.items ++ raw_text (pairs_of identity.now)) }
     ensures begun { OnErr result (BeginsWith out.new.items out.old.items) }
 {
-    let key = identity.key();
-    out.extend_from_slice(key.code.as_bytes())?;
-    out.extend_from_slice(key.value.as_bytes())?;
-    let unclosed = is_open(table, key);
-    let unclosed = write_elements(table, out, unclosed, identity.qualifiers())?;
-    write_elements(table, out, unclosed, identity.attributes())?;
-    Ok(())
+    append_raw_pairs(
+        out,
+        table,
+        identity.key(),
+        identity.qualifiers(),
+        identity.attributes(),
+    )
 }
 
 /// Returns the element string of the identity, in the order of its pairs: code and value of each, and an FNC1 (the byte 29) after
@@ -135,6 +157,23 @@ fn write_pairs(out: &mut Vec<u8>, pairs: &[Pair<'_>]) -> Result<(), Memory>
     Ok(())
 }
 
+/// Appends the element string of a key, of the pairs that qualify it, and of its attributes in the printed form, as
+/// `append_bracketed` does for an identity. Fails only with `Memory`; `out` then begins with its old contents.
+pub fn append_bracketed_pairs(
+    out: &mut Vec<u8>,
+    key: &Pair<'_>,
+    qualifiers: &[Pair<'_>],
+    attributes: &[Pair<'_>],
+) -> Result<(), Memory>
+    ensures written { IfOk result (λ _. out.new.items
+        ≡ out.old.items ++ bracketed_text (key.now ∷ (qualifiers.now ++ attributes.now))) }
+    ensures begun { OnErr result (BeginsWith out.new.items out.old.items) }
+{
+    write_pair(out, key)?;
+    write_pairs(out, qualifiers)?;
+    write_pairs(out, attributes)
+}
+
 /// Appends the element string of the identity in the printed form, as `write_bracketed` returns it. Fails only with `Memory`;
 /// `out` then begins with its old contents.
 pub fn append_bracketed(out: &mut Vec<u8>, identity: &Identity<'_>) -> Result<(), Memory>
@@ -142,9 +181,12 @@ pub fn append_bracketed(out: &mut Vec<u8>, identity: &Identity<'_>) -> Result<()
         out.new.items ≡ out.old.items ++ bracketed_text (pairs_of identity.now)) }
     ensures begun { OnErr result (BeginsWith out.new.items out.old.items) }
 {
-    write_pair(out, identity.key())?;
-    write_pairs(out, identity.qualifiers())?;
-    write_pairs(out, identity.attributes())
+    append_bracketed_pairs(
+        out,
+        identity.key(),
+        identity.qualifiers(),
+        identity.attributes(),
+    )
 }
 
 /// Returns the element string of the identity in the printed form, in the order of its pairs: each code in brackets, and its
