@@ -3,6 +3,7 @@ use Rattle.std.proofs.Common.{◌≡◌, ◌==◌, ◌&&◌, ℕ, not, Bool, tru
 use Rattle.std.proofs.lemmas.Bool.Decides.{nat_tests}
 use Rattle.std.specs.List.{find, flat_map}
 use Rattle.std.specs.Option.{option_map_or}
+use Rattle.gs_ai.specs.declared.pair.Pair.{Pair}
 use Rattle.gs_ai.specs.declared.row.AiRow.{AiRow}
 use Rattle.gs_ai.specs.Tables.{is_empty}
 use Rattle.gs_ai.specs.Values.{has_code}
@@ -15,6 +16,7 @@ use Rattle.gs_tables.specs.Tables.{TableRows}
 use Rattle.gs_epc.specs.declared.epc.Epc.{Epc}
 use Rattle.gs_epc.specs.KeyParts.{none_text}
 use Rattle.gs_epc.specs.Layout.{IsLaidOut, KeyFields, fields_in, key_value, lay, parts_at, serial_elements}
+use Rattle.gs_epc.specs.LayoutSupport.{coded_pairs}
 
 -- ---- the text that means none
 
@@ -32,14 +34,24 @@ none_of (Some row) none value e = rw e (ap (λ (b : Bool). not b && bytes_eq row
 pub means_none : (ais : List AiRow) (code value none : List ℕ) → none ≡ none_text ais code → (not (length none == 0) && bytes_eq none value) ≡ stands_for_none ais (record { code = code; value = value })
 means_none ais code value none e = none_of (find (has_code code) ais) none value e
 
--- ---- the steps of the path
+-- ---- the code of a serial that counts
 
 module _ (ais : List AiRow) (code serial : List ℕ) where
-  pub no_step : (out : List ℕ) → stands_for_none ais (record { code = code; value = serial }) ≡ true → out ≡ out ++ flat_map path_step (serial_elements ais (Ai code) serial)
-  no_step out none = rw none (sym (append-nil out))
+  pub no_code : stands_for_none ais (record { code = code; value = serial }) ≡ true → coded_pairs None serial ≡ serial_elements ais (Ai code) serial
+  no_code none = rw none refl
 
-  pub one_step : (before now : List ℕ) → stands_for_none ais (record { code = code; value = serial }) ≡ false → now ≡ before ++ (47 ∷ (code ++ 47 ∷ percent_encoded serial)) → now ≡ before ++ flat_map path_step (serial_elements ais (Ai code) serial)
-  one_step before now some is = rw some (is ∙ ap (λ (step : List ℕ). before ++ step) (sym (append-nil (47 ∷ (code ++ 47 ∷ percent_encoded serial)))))
+  pub one_code : (seen : List ℕ) → seen ≡ code → stands_for_none ais (record { code = code; value = serial }) ≡ false → coded_pairs (Some seen) serial ≡ serial_elements ais (Ai code) serial
+  one_code seen same some = rw (same, some) refl
+
+-- ---- the steps of the path
+
+module _ (elements : List Pair) (serial : List ℕ) where
+  pub no_step : (out : List ℕ) → coded_pairs None serial ≡ elements → out ≡ out ++ flat_map path_step elements
+  no_step out are = rw (← are) (sym (append-nil out))
+
+  pub one_step : (code before now : List ℕ) → coded_pairs (Some code) serial ≡ elements → now ≡ before ++ (47 ∷ (code ++ 47 ∷ percent_encoded serial)) → now ≡ before ++ flat_map path_step elements
+  one_step code before now are is =
+      rw (← are) (is ∙ ap (λ (step : List ℕ). before ++ step) (sym (append-nil (47 ∷ (code ++ 47 ∷ percent_encoded serial)))))
 
 joined : (old stem step path start key all : List ℕ) → start ≡ old ++ stem → key ≡ start ++ step → all ≡ key ++ path → all ≡ old ++ (stem ++ step ++ path ++ [])
 joined old stem step path start key all a b c = rw (c, b, a, append-nil (stem ++ step ++ path)) (simp append_assoc)

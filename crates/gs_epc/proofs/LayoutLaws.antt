@@ -1,5 +1,5 @@
 -- The pairs that an EPC lays out are valid, and have the identity of its layout.
-use Rattle.std.proofs.Common.{◌≡◌, ℕ, ◌&&◌, true, List, [], ◌∷◌, All, Option, Ok, bytes_eq, is_none, refl, sym, ap, ◌∙◌, inl, inr}
+use Rattle.std.proofs.Common.{◌≡◌, ℕ, ◌&&◌, true, List, [], ◌∷◌, All, Option, Result, Ok, Err, IfOk, append-nil, bytes_eq, is_none, refl, sym, subst, ap, ◌∙◌, inl, inr}
 use Rattle.std.proofs.lemmas.List.Elements.{All-cons, All-nil}
 use Rattle.std.specs.List.{list_any}
 use Rattle.gs_ai.specs.declared.pair.Pair.{Pair}
@@ -8,8 +8,8 @@ use Rattle.gs_ai.specs.Tables.{KeepsRules, is_row}
 use Rattle.gs_ai.specs.Values.{has_code}
 use Rattle.gs_ai.proofs.RowLemmas.{and_left, and_right}
 use Rattle.gs_chars.proofs.TruthsAndLists.{true_or_false}
-use Rattle.gs_ident.specs.Elements.{Elements}
-use Rattle.gs_ident.specs.Identities.{IsInOrder, counted, identity_of_pairs, stands_for_none}
+use Rattle.gs_ident.specs.Elements.{Elements, elements_with, pairs_of}
+use Rattle.gs_ident.specs.Identities.{IsInOrder, IsMadeWith, counted, identity_of_pairs, stands_for_none}
 use Rattle.gs_ident.specs.QualifiedKeys.{IsQualifiedKey, pairs_in}
 use Rattle.gs_tables.specs.declared.form.KeyForm.{KeyForm}
 use Rattle.gs_tables_document.specs.declared.document.Kind.{Kind}
@@ -20,6 +20,8 @@ use Rattle.gs_tables.specs.Rules.{is_characters, is_serial_of}
 use Rattle.gs_epc.specs.KeptFields.{FitKind}
 use Rattle.gs_epc.specs.Layout.{key_pair, lay, serial_elements, unless_none, KeyFields}
 use Rattle.gs_epc.specs.LayoutSupport.{serial_pairs}
+use Rattle.gs_epc.specs.declared.layout.KeyAndSerial.{KeyAndSerial}
+use Rattle.gs_ident.proofs.IdentityLemmas.{made_with}
 use Rattle.gs_ident.proofs.KeyPairs.{IsKeyPair, alone_made, both_made, found_place, is_key_pair}
 use Rattle.gs_epc.proofs.LayoutValues.{pairs_in_order}
 
@@ -50,6 +52,35 @@ module _ (ais : List AiRow) (kind : Kind) (fields : KeyFields) (fit : FitKind ai
   laid_identity =
       let key = key_pair ais kind fields in
       by_serial ais fit.of_kind.row fit.of_kind.form kind.serial key fields.serial (is_key_pair ais fit.of_kind.row key rules fit.of_kind.found fit.of_kind.key) fit.of_kind.serial
+
+  -- the identity of the layout was made with the table
+  pub laid_with : IsMadeWith ais (lay ais kind fields)
+  laid_with = made_with ais (key_pair ais kind fields ∷ serial_pairs kind.serial fields.serial) (lay ais kind fields) laid_in_order laid_identity
+
+  -- its pairs, without a list of attributes
+  pub pairs_laid_in_order : All (IsInOrder ais) (key_pair ais kind fields ∷ serial_elements ais kind.serial fields.serial)
+  pairs_laid_in_order =
+      subst (λ (pairs : List Pair). All (IsInOrder ais) (key_pair ais kind fields ∷ pairs)) (append-nil (serial_elements ais kind.serial fields.serial)) laid_with.in_order
+
+-- ---- the identity, and its pairs alone
+
+-- the identity of these pairs is the layout
+pub laid_out : (ais : List AiRow) (kind : Kind) (fields : KeyFields) (identity : Elements) (key : Pair) (qualifiers attributes : List Pair) → identity ≡ elements_with key qualifiers attributes → key ≡ key_pair ais kind fields → qualifiers ≡ serial_elements ais kind.serial fields.serial → attributes ≡ []
+    → identity ≡ lay ais kind fields
+laid_out ais kind fields identity key qualifiers attributes is keyed qualified none = rw (is, keyed, qualified, none) refl
+
+module _ {E : Type 0} (ais : List AiRow) (kind : Kind) (fields : KeyFields) where
+  -- the pairs that were made are those of the identity
+  pub pairs_are : (result : Result KeyAndSerial E) (identity : Elements) → IfOk result (λ pairs. pairs.key ≡ key_pair ais kind fields) → IfOk result (λ pairs. pairs_in pairs.serial ≡ serial_elements ais kind.serial fields.serial) → lay ais kind fields ≡ identity
+      → IfOk result (λ pairs. pairs_of identity ≡ pairs.key ∷ pairs_in pairs.serial)
+  pairs_are (Ok pairs) identity keyed qualified is =
+      rw (← is, keyed, qualified) (ap (λ (others : List Pair). key_pair ais kind fields ∷ others) (append-nil (serial_elements ais kind.serial fields.serial)))
+  pairs_are (Err error) identity keyed qualified is = tt
+
+  pub made_in_order : (result : Result KeyAndSerial E) → IfOk result (λ pairs. pairs.key ≡ key_pair ais kind fields) → IfOk result (λ pairs. pairs_in pairs.serial ≡ serial_elements ais kind.serial fields.serial) → FitKind ais kind fields → KeepsRules ais
+      → IfOk result (λ pairs. All (IsInOrder ais) (pairs.key ∷ pairs_in pairs.serial))
+  made_in_order (Ok pairs) keyed qualified fit rules = rw (keyed, qualified) (pairs_laid_in_order ais kind fields fit rules)
+  made_in_order (Err error) keyed qualified fit rules = tt
 
 -- ---- the identity that `of_key` makes
 

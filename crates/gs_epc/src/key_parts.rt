@@ -1,17 +1,15 @@
 ghost use Rattle.std.specs.Prelude.{◌≡◌, ◌-◌, ◌++◌, ◌<◌, ℕ, IfOk, List, Some, drop, length, slice_get, take};
-ghost use Rattle.gs_tables_document.specs.declared.document.Kind.{Kind};
 ghost use Rattle.gs_tables_document.specs.declared.document.SerialAt.TheVariants.{Ai};
 ghost use Rattle.std.specs.Option.{option_copied};
-ghost use Rattle.gs_ident.specs.Identities.{pair_with};
 ghost use Rattle.gs_epc.specs.Layout.{parts_at};
 ghost use Rattle.gs_epc.specs.KeyParts.{IsTakenApart, behind_zero, checked_count, digits_in, none_text, piece_in, piece_length, prefix_in, rest_in, serial_in, tail_in, total_in, total_length, unless_empty, value_from_prefix};
 
 use crate::epc::{Epc, EpcRef};
 use crate::error::FieldsFault;
-use gs_ai::{AiTable, Pair, Part};
+use gs_ai::{AiTable, Part};
 use gs_chars::{CowText, Memory, Text};
-use gs_ident::Identity;
-use gs_tables::{SerialAt, TableSet, are_characters};
+use gs_ident::{Identity, pair_with};
+use gs_tables::{Kind, SerialAt, TableSet, are_characters};
 use std::alloc::Global;
 
 /// Returns the first `count` bytes of a value, or all if there are fewer.
@@ -151,35 +149,23 @@ pub fn parts_at<'a>(ais: &'a AiTable, code: &[u8]) -> &'a [Part]
     }
 }
 
-/// Returns the text that stands for an absent element of the code.
-pub(crate) fn none_text<'a>(ais: &'a AiTable, code: &[u8]) -> &'a [u8]
-    ensures { result.now ≡ none_text ais.now code.now }
+/// Returns the parts of the key of a kind of the set. Takes no search: the kind is given by its index too.
+pub(crate) fn parts_of<'a>(set: &'a TableSet, index: usize, kind: &Kind) -> &'a [Part]
+    requires { slice_get set.now.kinds index ≡ Some kind.now }
+    ensures { result.now ≡ parts_at set.now.ais kind.now.key }
 {
-    match ais.row_with(code) {
-        Some(row) => row.none.as_bytes(),
-        None => &[],
-    }
-}
-
-/// Returns the parts of the key of a kind of the set, which is given by its index.
-pub(crate) fn parts_of(set: &TableSet, kind: usize) -> &[Part]
-    requires { kind < length set.now.kinds }
-    ensures { (k : Kind) → slice_get set.now.kinds kind ≡ Some k
-        → result.now ≡ parts_at set.now.ais k.key }
-{
-    match set.key_row(kind) {
+    match set.key_row(index) {
         Some(row) => row.parts.items(),
         None => &[],
     }
 }
 
-/// Returns the text that stands for an absent serial of a kind of the set, which is given by its index.
-pub(crate) fn none_of(set: &TableSet, kind: usize) -> &[u8]
-    requires { kind < length set.now.kinds }
-    ensures { (k : Kind) (code : List ℕ) → slice_get set.now.kinds kind ≡ Some k → k.serial ≡ Ai code
-        → result.now ≡ none_text set.now.ais code }
+/// Returns the text that stands for an absent serial of a kind of the set. Takes no search: the kind is given by its index too.
+pub(crate) fn none_of<'a>(set: &'a TableSet, index: usize, kind: &Kind) -> &'a [u8]
+    requires { slice_get set.now.kinds index ≡ Some kind.now }
+    ensures { (code : List ℕ) → kind.now.serial ≡ Ai code → result.now ≡ none_text set.now.ais code }
 {
-    match set.serial_row(kind) {
+    match set.serial_row(index) {
         Some(row) => row.none.as_bytes(),
         None => &[],
     }
@@ -192,28 +178,23 @@ fn unless_empty(text: &[u8]) -> Option<&[u8]>
     if text.is_empty() { None } else { Some(text) }
 }
 
-/// Returns the first pair with the code.
-pub fn pair_with<'p, 'a>(pairs: &'p [Pair<'a>], code: &[u8]) -> Option<&'p Pair<'a>>
-    ensures { option_copied result ≡ pair_with pairs.now code.now }
-{
-    pairs.iter().find(|pair| code == pair.code.as_bytes())
-}
-
-/// Returns the serial, if the identity has one or needs none.
+/// Returns the serial by a kind of the set, if the identity has one or needs none. The kind is given by its index too.
 fn serial_in<'a>(
-    ais: &'a AiTable,
+    set: &'a TableSet,
+    index: usize,
+    kind: &Kind,
     parts: &[Part],
-    at: &SerialAt,
     identity: &'a Identity<'_>,
 ) -> Option<&'a [u8]>
-    ensures { option_copied result ≡ serial_in ais.now parts.now at.now identity.now }
+    requires { slice_get set.now.kinds index ≡ Some kind.now }
+    ensures { option_copied result ≡ serial_in set.now.ais parts.now kind.now.serial identity.now }
 {
-    match at {
+    match &kind.serial {
         SerialAt::Nowhere => Some(&[]),
         SerialAt::Tail => unless_empty(tail_in(parts, identity.key().value.as_bytes())),
         SerialAt::Ai(code) => match pair_with(identity.qualifiers(), code.as_bytes()) {
             Some(pair) => Some(pair.value.as_bytes()),
-            None => unless_empty(none_text(ais, code.as_bytes())),
+            None => unless_empty(none_of(set, index, kind)),
         },
     }
 }
@@ -225,7 +206,7 @@ pub fn value_from_prefix<'a>(set: &TableSet, kind: usize, value: &'a [u8]) -> &'
     ensures { result.now ≡ value_from_prefix set.now kind value.now }
 {
     let row = &set.kinds()[kind];
-    let parts = parts_of(set, kind);
+    let parts = parts_of(set, kind, row);
     skip_first(behind_zero(parts, value), usize::from(row.lead))
 }
 
@@ -271,8 +252,8 @@ pub fn lent_fields_of<'a>(
     ensures { IsTakenApart set.now kind identity.now gcp result }
 {
     let row = &set.kinds()[kind];
-    let parts = parts_at(set.ais(), row.key.as_bytes());
-    let Some(serial) = serial_in(set.ais(), parts, &row.serial, identity) else {
+    let parts = parts_of(set, kind, row);
+    let Some(serial) = serial_in(set, kind, row, parts, identity) else {
         return Err(FieldsFault::MissingSerial);
     };
     let value = identity.key().value.as_bytes();

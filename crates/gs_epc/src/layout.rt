@@ -1,5 +1,6 @@
 ghost use Rattle.std.specs.Prelude.{◌≡◌, ◌≤◌, ◌++◌, ℕ, IfOk, List, length, Some, slice_get};
 ghost use Rattle.std.specs.List.{flat_map};
+ghost use Rattle.std.specs.Option.{option_copied};
 ghost use Rattle.gs_ident.specs.Identities.{IsMadeWith, stands_for_none};
 ghost use Rattle.gs_ident.specs.Links.{path_step, spelled};
 ghost use Rattle.gs_ident.specs.QualifiedKeys.{pairs_in};
@@ -7,7 +8,7 @@ ghost use Rattle.gs_epc.specs.Epcs.{IsOfSet};
 ghost use Rattle.gs_epc.specs.KeptFields.{FitKind};
 ghost use Rattle.gs_epc.specs.Layout.{AreKeyDigits, IsLaidOut, behind_check, key_digits, key_value, lay, parts_at};
 ghost use Rattle.gs_epc.specs.Layout.{serial_elements, tail_of_key, with_check, zero_in_front, fields_in};
-ghost use Rattle.gs_epc.specs.LayoutSupport.{serial_pairs};
+ghost use Rattle.gs_epc.specs.LayoutSupport.{coded_pairs};
 ghost use Rattle.gs_epc.specs.declared.epc.Epc.{Epc};
 ghost use Rattle.gs_epc.specs.KeyParts.{none_text};
 ghost use Rattle.gs_ai.specs.declared.row.AiRow.{AiRow};
@@ -123,24 +124,94 @@ fn key_value(alloc: Global, set: &TableSet, kind: &Kind, epc: &EpcRef<'_>) -> Re
 {
     // only for the proof: the rows satisfy the rules of application identifiers
     let _ = set.ais().rows();
-    let parts = parts_of(set, epc.kind);
+    let parts = parts_of(set, epc.kind, kind);
     if are_characters(parts) {
         return joined(alloc, epc.prefix, epc.rest.as_bytes());
     }
     digits_value(alloc, parts, kind, epc)
 }
 
-/// Returns the pair of a serial in a separate element.
-fn serial_pair<'a>(at: &'a SerialAt, serial: &'a [u8]) -> Option<Pair<'a>>
-    ensures { pairs_in result ≡ serial_pairs at.now serial.now }
+/// Returns whether the value is the text that means an absent element.
+fn stands_for_none(none: &[u8], value: &[u8]) -> bool
+    ensures { (ais : List AiRow) (code : List ℕ) → none.now ≡ none_text ais code
+        → result ≡ stands_for_none ais (record { code = code; value = value.now }) }
 {
-    match at {
-        SerialAt::Ai(code) => Some(Pair {
-            code: CowText::lent(code.as_bytes()),
-            value: CowText::lent(serial),
-        }),
+    !none.is_empty() && none == value
+}
+
+/// Returns the code of the serial, if it is a separate element and means one.
+fn serial_code<'a>(set: &TableSet, kind: &'a Kind, epc: &EpcRef<'_>) -> Option<&'a [u8]>
+    requires { slice_get set.now.kinds epc.now.kind ≡ Some kind.now }
+    ensures { coded_pairs (option_copied result) epc.now.serial
+        ≡ serial_elements set.now.ais kind.now.serial epc.now.serial }
+{
+    match &kind.serial {
+        SerialAt::Ai(code) => {
+            if stands_for_none(none_of(set, epc.kind, kind), epc.serial) {
+                return None;
+            }
+            Some(code.as_bytes())
+        }
         SerialAt::Nowhere | SerialAt::Tail => None,
     }
+}
+
+/// Returns the pair of the serial, if it is a separate element and means one.
+fn serial_pair<'a>(set: &TableSet, kind: &'a Kind, epc: &EpcRef<'a>) -> Option<Pair<'a>>
+    requires { slice_get set.now.kinds epc.now.kind ≡ Some kind.now }
+    ensures { pairs_in result ≡ serial_elements set.now.ais kind.now.serial epc.now.serial }
+{
+    match serial_code(set, kind, epc) {
+        Some(code) => Some(Pair {
+            code: CowText::lent(code),
+            value: CowText::lent(epc.serial),
+        }),
+        None => None,
+    }
+}
+
+/// The pairs that an EPC names: the key, and the serial if it is a separate element that counts.
+#[derive(Drop)]
+pub struct KeyAndSerial<'a> {
+    /// The pair of the key.
+    pub key: Pair<'a>,
+    /// The pair of the serial, or none.
+    pub serial: Option<Pair<'a>>,
+}
+
+/// Returns the pair of a key of the kind, and that of its serial.
+pub(crate) fn key_and_serial<'a>(
+    alloc: Global,
+    set: &TableSet,
+    kind: &'a Kind,
+    epc: &EpcRef<'a>,
+) -> Result<KeyAndSerial<'a>, Memory>
+    requires named { slice_get set.now.kinds epc.now.kind ≡ Some kind.now }
+    requires fit { FitKind set.now.ais kind.now (fields_in epc.now) }
+    ensures key { IfOk result (λ pairs. pairs.key ≡ (lay set.now.ais kind.now (fields_in epc.now)).key) }
+    ensures serial { IfOk result (λ pairs.
+        pairs_in pairs.serial ≡ (lay set.now.ais kind.now (fields_in epc.now)).qualifiers) }
+{
+    let value = key_value(alloc, set, kind, epc)?;
+    Ok(KeyAndSerial {
+        key: Pair {
+            code: CowText::lent(kind.key.as_bytes()),
+            value: CowText::from(value),
+        },
+        serial: serial_pair(set, kind, epc),
+    })
+}
+
+/// Returns the pair, if there is one.
+fn one_or_none(alloc: Global, pair: Option<Pair<'_>>) -> Result<Vec<Pair<'_>>, Memory>
+    ensures { IfOk result (λ pairs. pairs.items ≡ pairs_in pair.entry) }
+{
+    let Some(pair) = pair else {
+        return Ok(Vec::new(alloc));
+    };
+    let mut pairs = Vec::with_capacity(alloc, 1)?;
+    pairs.push(pair)?;
+    Ok(pairs)
 }
 
 /// Returns the identity of a key of the kind, and of its serial.
@@ -155,23 +226,11 @@ pub(crate) fn lay_out<'a>(
     ensures laid { IfOk result (λ identity. identity ≡ lay set.now.ais kind.now (fields_in epc.now)) }
     ensures with_table { IfOk result (IsMadeWith set.now.ais) }
 {
-    let ais = set.ais();
     // only for the proof: the rows satisfy the rules of application identifiers
-    let _ = ais.rows();
-    let key = Pair {
-        code: CowText::lent(kind.key.as_bytes()),
-        value: CowText::from(key_value(alloc, set, kind, epc)?),
-    };
-    let serial = serial_pair(&kind.serial, epc.serial);
-    Identity::of_key(alloc, ais, key, serial)
-}
-
-/// Returns whether the value is the text that means an absent element.
-fn stands_for_none(none: &[u8], value: &[u8]) -> bool
-    ensures { (ais : List AiRow) (code : List ℕ) → none.now ≡ none_text ais code
-        → result ≡ stands_for_none ais (record { code = code; value = value.now }) }
-{
-    !none.is_empty() && none == value
+    let _ = set.ais().rows();
+    let KeyAndSerial { key, serial } = key_and_serial(alloc, set, kind, epc)?;
+    let qualifiers = one_or_none(alloc, serial)?;
+    Ok(Identity::from_pairs(key, qualifiers, Vec::new(alloc)))
 }
 
 /// Appends a serial as a step of the path of a link, if it is a separate element and means one.
@@ -185,15 +244,9 @@ fn append_serial(
     ensures { IfOk result (λ _. out.new.items
         ≡ out.old.items ++ flat_map path_step (serial_elements set.now.ais kind.now.serial epc.now.serial)) }
 {
-    let serial = epc.serial;
-    match &kind.serial {
-        SerialAt::Ai(code) => {
-            if stands_for_none(none_of(set, epc.kind), serial) {
-                return Ok(());
-            }
-            append_element(out, b'/', code.as_bytes(), serial, b'/')
-        }
-        SerialAt::Nowhere | SerialAt::Tail => Ok(()),
+    match serial_code(set, kind, epc) {
+        Some(code) => append_element(out, b'/', code, epc.serial, b'/'),
+        None => Ok(()),
     }
 }
 

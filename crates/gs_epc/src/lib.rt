@@ -1,8 +1,8 @@
 //! EPCs: the EPC that tag bits and EPC URIs give by the tables, the identity that it names, and the texts of an identity.
 //!
 //! - `read_hex`, `read_tag` and `read_pure` give the fields of an EPC; `write_hex`, `write_tag` and `write_pure` its text.
-//! - `reading_of` reads a text of any level; an `EpcReading` lends its fields, and gives the identity that it names or appends
-//!   its link.
+//! - `reading_of` reads a text of any level; an `EpcReading` lends its fields, gives the identity that it names or only its pairs,
+//!   and appends its link.
 //! - `identity_of` lays the fields out as a key and its serial number; `fields_of` takes an identity apart. `push_checked` writes
 //!   the digits of a key, for gs_class too.
 //! - `lent_fields_of` and `append_lent` are `fields_of` and `write_level` over lent texts, without copies of them.
@@ -39,12 +39,11 @@ pub use epc::{Epc, EpcRef};
 pub use error::{EpcFault, EpcWriteFault, FieldsFault};
 pub use fields::place_of;
 pub use key_parts::{
-    fields_of, joined, lent_fields_of, pair_with, parts_at, prefix_in, rest_in, skip_first,
-    value_from_prefix,
+    fields_of, joined, lent_fields_of, parts_at, prefix_in, rest_in, skip_first, value_from_prefix,
 };
 pub use laws::{
     laying_out_undoes_taking_apart, taking_apart_undoes_laying_out, what_is_written_is_read,
 };
-pub use layout::{identity_of, push_checked};
+pub use layout::{KeyAndSerial, identity_of, push_checked};
 pub use reading::{EpcReading, read_hex, read_pure, read_tag, reading_of};
 pub use writer::{append_lent, write_hex, write_level, write_pure, write_tag};

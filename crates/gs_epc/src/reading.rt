@@ -1,9 +1,10 @@
-ghost use Rattle.std.specs.Prelude.{◌≡◌, ◌++◌, IfOk, IfSome, List, ℕ, length};
+ghost use Rattle.std.specs.Prelude.{◌≡◌, ◌∷◌, ◌++◌, All, IfOk, IfSome, List, ℕ, length};
 ghost use Rattle.gs_grammar.specs.Limits.{most_symbols};
 ghost use Rattle.gs_grammar_level.specs.Readings.{Reads};
-ghost use Rattle.gs_ident.specs.Elements.{Elements};
-ghost use Rattle.gs_ident.specs.Identities.{IsMadeWith};
+ghost use Rattle.gs_ident.specs.Elements.{Elements, pairs_of};
+ghost use Rattle.gs_ident.specs.Identities.{IsInOrder, IsMadeWith};
 ghost use Rattle.gs_ident.specs.Links.{spelled};
+ghost use Rattle.gs_ident.specs.QualifiedKeys.{pairs_in};
 ghost use Rattle.gs_tables_document.specs.declared.document.Field.{Field};
 ghost use Rattle.gs_epc.specs.Epcs.{IsOfSet, epc_of, options_of, value_at};
 ghost use Rattle.gs_epc.specs.Filters.{IsFilter};
@@ -16,7 +17,7 @@ use crate::epc::{Epc, EpcRef};
 use crate::error::EpcFault;
 use crate::fields::epc_of;
 use crate::key_parts::copied;
-use crate::layout::{append_laid_out, kind_at, lay_out};
+use crate::layout::{KeyAndSerial, append_laid_out, key_and_serial, kind_at, lay_out};
 use gs_bits::BitBuf;
 use gs_chars::{CowText, List, Memory};
 use gs_grammar::MOST_SYMBOLS;
@@ -63,6 +64,22 @@ impl EpcReading<'_> {
     {
         let kind = kind_at(set, self.info.kind);
         lay_out(alloc, set, kind, &self.epc())
+    }
+
+    /// Returns the pairs of the identity that the EPC names, for which no list is made. Fails only with `Memory`. The EPC is one
+    /// of the set.
+    pub fn pairs<'i>(&'i self, alloc: Global, set: &'i TableSet) -> Result<KeyAndSerial<'i>, Memory>
+        requires { IsOfSet set.now self.now }
+        ensures pairs { (identity : Elements) → IsLaidOut set.now self.now identity
+            → IfOk result (λ pairs. pairs_of identity ≡ pairs.key ∷ pairs_in pairs.serial) }
+        ensures in_order { IfOk result (λ pairs.
+            All (IsInOrder set.now.ais) (pairs.key ∷ pairs_in pairs.serial)) }
+    {
+        // only for the proof: the rows satisfy the rules of application identifiers
+        let _ = set.ais().rows();
+        let kind = kind_at(set, self.info.kind);
+        let lent = self.epc();
+        key_and_serial(alloc, set, kind, &lent)
     }
 
     /// Appends the link, under the stem, of the identity that the EPC names, as `append_link` of gs_ident does. The identity is
