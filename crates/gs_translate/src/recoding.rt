@@ -11,9 +11,10 @@ ghost use Rattle.gs_translate.specs.Translations.{AreInOrder, IsSpelling, IsTran
 
 use crate::form::{Form, Options, PairsForm, Target, Written};
 use crate::reason::Reason;
-use crate::spelling::{append_epc, append_pairs, written_as};
+use crate::spelling::{append_epc, written_as};
 use crate::tag_fields::retagged;
 use gs_chars::{LONGEST_TEXT, Memory};
+use gs_element::{append_bracketed_pairs, append_raw_pairs};
 use gs_epc::{EpcReading, reading_of};
 use gs_grammar::MOST_SYMBOLS;
 use gs_ident::CANONICAL_STEM;
@@ -53,7 +54,7 @@ fn append_recoded(
     append_epc(alloc, set, to, &epc, out)
 }
 
-/// Appends the element string or the link of the identity that an EPC names.
+/// Appends the element string or the link of the identity that an EPC names. The identity is not made for it.
 fn append_laid_out(
     alloc: Global,
     set: &TableSet,
@@ -70,9 +71,13 @@ fn append_laid_out(
     match to {
         PairsForm::Canon => reading.append_link(alloc, set, CANONICAL_STEM.as_bytes(), out),
         PairsForm::Link => reading.append_link(alloc, set, options.stem.as_bytes(), out),
-        PairsForm::Raw | PairsForm::Bracketed => {
-            let identity = reading.identity(alloc, set)?;
-            append_pairs(set, options, to, &identity, out)
+        PairsForm::Raw => {
+            let pairs = reading.pairs(alloc, set)?;
+            append_raw_pairs(out, set.ais(), &pairs.key, pairs.serial.as_slice(), &[])
+        }
+        PairsForm::Bracketed => {
+            let pairs = reading.pairs(alloc, set)?;
+            append_bracketed_pairs(out, &pairs.key, pairs.serial.as_slice(), &[])
         }
     }
 }
