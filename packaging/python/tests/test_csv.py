@@ -102,6 +102,15 @@ class Files(unittest.TestCase):
         self.assertEqual(why[:2], [["record", "id", "EPC", "note", "EPC_reason"], ["1", "0", "30", "x", "reading"]])
         self.assertEqual([int(row[0]) for row in why[1:]], [n + 1 for n in range(0, 9_001, 7)])
 
+    def test_empty_lines_and_open_quotes_between_the_shares_of_processes(self):
+        line = f"{BITS},{LINK},\n"
+        self.path("in.csv").write_text("EPC\n" + f"{BITS}\n" * 1_999 + "\n\n" + f"{BITS}\n" * 2_000 + "\n")
+        self.path("open.csv").write_text("EPC\n" + f"{BITS}\n" * 5_000 + '"\n\n')
+        for jobs in (1, 2):
+            words = ("-c", "EPC", "--from", "hex", "--to", "link", "-j", jobs)
+            self.assertEqual(run(*words, self.path("in.csv"))[1].decode(), "EPC,EPC_link,EPC_reason\n" + line * 1_999 + "\n\n" + line * 2_000)
+            self.assertIn("line 5003 is not CSV: unexpected end of data", run(*words, self.path("open.csv"))[2])
+
     def test_a_file_appears_when_it_is_whole(self):
         self.path("in.csv").write_text(f'EPC\n{BITS}\n"a')
         self.path("out.csv").write_text("before")

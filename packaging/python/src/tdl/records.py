@@ -9,7 +9,7 @@ from collections import deque
 from concurrent.futures import Future, ProcessPoolExecutor
 from contextlib import ExitStack, contextmanager
 from dataclasses import dataclass, field
-from itertools import islice
+from itertools import chain, islice
 from time import monotonic
 from typing import IO, Any, Deque, Dict, Iterator, List, NamedTuple, Optional, Tuple
 
@@ -34,6 +34,21 @@ class Record(NamedTuple):
     reason: str
 
 
+class Chunk(NamedTuple):
+    """Lines that are whole records, and the number of the file's lines before them."""
+
+    before: int
+    lines: List[str]
+
+
+class Written(NamedTuple):
+    """The number of a chunk's records, what is written of them, and the rejected ones, each with the number of records before it."""
+
+    records: int
+    lines: str
+    rejected: List[Tuple[int, str]]
+
+
 @dataclass(frozen=True)
 class Job:
     """What is asked for. `options` are those of `Translator`; `column` is a name, or a number from 1."""
@@ -54,23 +69,36 @@ class Total(NamedTuple):
     rejected: int
 
 
-def _records(lines: Iterator[str], delimiter: str) -> Iterator[Tuple[List[str], str]]:
+def _records(chunk: Chunk, delimiter: str) -> Iterator[Tuple[List[str], str]]:
     """Yields the fields of each record, and the record as it stands in the file, with the empty lines before it."""
-    taken: List[str] = []
+    reader, begun = csv.reader(chunk.lines, delimiter=delimiter, strict=True), 0
+    try:
+        for fields in reader:
+            if fields:
+                yield fields, "".join(chunk.lines[begun : reader.line_num])
+                begun = reader.line_num
+    except csv.Error as error:
+        raise Wrong(f"line {chunk.before + reader.line_num} is not CSV: {error}") from error
+
+
+def _take(lines: List[str], more: Iterator[str], delimiter: str, least: int = 0) -> bool:
+    """Adds the lines of the record that ends after `least` lines or more. Returns whether the lines are CSV."""
+    given = len(lines)
 
     def feed() -> Iterator[str]:
-        for line in lines:
-            taken.append(line)
+        yield from lines[:given]
+        for line in more:
+            lines.append(line)
             yield line
 
     reader = csv.reader(feed(), delimiter=delimiter, strict=True)
     try:
         for fields in reader:
-            if fields:
-                yield fields, "".join(taken)
-                taken.clear()
-    except csv.Error as error:
-        raise Wrong(f"line {reader.line_num} is not CSV: {error}") from error
+            if fields and reader.line_num >= least:
+                break
+    except csv.Error:
+        return False
+    return True
 
 
 def _split(raw: str) -> Tuple[str, str]:
@@ -102,23 +130,19 @@ class Source:
         if first.startswith(UTF16):
             raise Wrong("the file is UTF-16: save it as UTF-8")
         self.mark = MARK if first.startswith(MARK) else ""
-
-        def lines() -> Iterator[str]:
-            yield first[len(self.mark) :]
-            yield from stream
-
-        self._job = job
-        self._records = _records(lines(), job.delimiter)
+        self._job, self._stream = job, chain([first[len(self.mark) :]] if first else [], stream)
+        taken: List[str] = []
+        _take(taken, self._stream, job.delimiter)
         none: Tuple[List[str], str] = ([], "")
-        fields, raw = next(self._records, none)
+        fields, raw = next(_records(Chunk(0, taken), job.delimiter), none)
         if job.has_header and not fields:
             raise Wrong("the file is empty, and has no header")
-        self._width, self._index = len(fields), _index(job.column, fields, job.has_header) if fields else 0
-        self._first = None if job.has_header or not fields else (fields, raw)
+        self.width, self.index = len(fields), _index(job.column, fields, job.has_header) if fields else 0
         self.heads = self._heads(fields, *_split(raw)) if job.has_header else (self.mark, self.mark)
+        self._before, self._stream = (len(taken), self._stream) if job.has_header else (0, chain(taken, self._stream))
 
     def _heads(self, names: List[str], body: str, end: str) -> Tuple[str, str]:
-        delimiter, name = self._job.delimiter, names[self._index]
+        delimiter, name = self._job.delimiter, names[self.index]
         added = [f"{name}_{word}" for word in (self._job.target if self._job.target != "canon" else "link", "reason")]
         taken = set(added) & set(names)
         if taken:
@@ -127,39 +151,48 @@ class Source:
         numbered = delimiter.join(("record", body.lstrip("\r\n"), reason))
         return f"{self.mark}{delimiter.join((body, answer, reason))}{end}", f"{self.mark}{numbered}{end or chr(10)}"
 
-    def __iter__(self) -> Iterator[Record]:
-        if self._first:
-            yield self._record(*self._first)
-        for fields, raw in self._records:
-            yield self._record(fields, raw)
+    def __iter__(self) -> Iterator[Chunk]:
+        """Yields the records after the header, some at a time. Empty lines go to the record after them."""
+        before, empty = self._before, []  # type: int, List[str]
+        while more := list(islice(self._stream, CHUNK)):
+            lines = empty + more
+            is_csv = not any('"' in line for line in more) or _take(lines, self._stream, self._job.delimiter, len(lines))
+            whole = len(lines)
+            while is_csv and whole and not lines[whole - 1].strip("\r\n"):
+                whole -= 1
+            empty = lines[whole:]
+            if whole:
+                yield Chunk(before, lines[:whole])
+            before += whole
+
+
+class Worker:
+    """Writes records with their answers, by a kept run of the program."""
+
+    def __init__(self, job: Job, width: int, index: int) -> None:
+        self._delimiter, self._width, self._index = job.delimiter, width, index
+        self._translator = Translator(job.source, job.target, **job.options)  # type: ignore[arg-type]
 
     def _record(self, fields: List[str], raw: str) -> Record:
         body, end = _split(raw)
         if len(fields) == self._width:
             text = fields[self._index]
             return Record(body, end, text, "line-feed" if "\n" in text else "")
-        return Record(body + self._job.delimiter * (self._width - len(fields)), end, "", f"fields {len(fields)}")
+        return Record(body + self._delimiter * (self._width - len(fields)), end, "", f"fields {len(fields)}")
 
-
-class Worker:
-    """Writes records with their answers, by a kept run of the program."""
-
-    def __init__(self, job: Job) -> None:
-        self._delimiter = job.delimiter
-        self._translator = Translator(job.source, job.target, **job.options)  # type: ignore[arg-type]
-
-    def write(self, first: int, records: List[Record]) -> Tuple[str, str, int]:
-        """Returns the records with their answers, the rejected ones with their numbers, and how many these are. `first` is the first number."""
-        answers = iter(self._translator.translate_list([record.text for record in records if not record.reason]))
+    def write(self, chunk: Chunk) -> Written:
+        """Returns the records with their answers, and the rejected ones for the second file, without their numbers."""
         delimiter, lines, rejected = self._delimiter, [], []
-        for number, (body, end, _, reason) in enumerate(records, first):
+        records = [self._record(fields, raw) for fields, raw in _records(chunk, delimiter)]
+        answers = iter(self._translator.translate_list([record.text for record in records if not record.reason]))
+        for before, (body, end, _, reason) in enumerate(records):
             found = "" if reason else next(answers)
             answer, reason = ("", found.reason) if isinstance(found, Rejected) else (found, reason)
             lines.append(f"{body}{delimiter}{_quoted(answer, delimiter)}{delimiter}{_quoted(reason, delimiter)}{end}")
             if reason:
                 body = body.lstrip("\r\n")
-                rejected.append(f"{number}{delimiter}{body}{delimiter}{_quoted(reason, delimiter)}{end or chr(10)}")
-        return "".join(lines), "".join(rejected), len(rejected)
+                rejected.append((before, f"{delimiter}{body}{delimiter}{_quoted(reason, delimiter)}{end or chr(10)}"))
+        return Written(len(records), "".join(lines), rejected)
 
     def close(self) -> None:
         """Ends the run."""
@@ -169,36 +202,36 @@ class Worker:
 _worker: Optional[Worker] = None
 
 
-def _begin(job: Job) -> None:
+def _begin(*how: Any) -> None:
     """Makes the worker of a process."""
     global _worker
-    _worker = Worker(job)
+    _worker = Worker(*how)
 
 
-def _work(first: int, records: List[Record]) -> Tuple[str, str, int]:
+def _work(chunk: Chunk) -> Written:
     assert _worker
-    return _worker.write(first, records)
+    return _worker.write(chunk)
 
 
-def _written(source: Source, job: Job) -> Iterator[Tuple[int, Tuple[str, str, int]]]:
-    """Yields, for each chunk in order, the number of its records and what is written of them."""
-    records, first = iter(source), 1
+def _written(source: Source, job: Job) -> Iterator[Written]:
+    """Yields what is written of each chunk, in order."""
+    how = job, source.width, source.index
     with ExitStack() as opened:
-        pool = opened.enter_context(ProcessPoolExecutor(job.processes, initializer=_begin, initargs=(job,))) if job.processes > 1 else None
-        worker = Worker(job)
-        opened.callback(worker.close)
-        ahead: "Deque[Tuple[int, Future[Tuple[str, str, int]]]]" = deque()
-        while chunk := list(islice(records, CHUNK)):
-            if pool is None:
-                yield len(chunk), worker.write(first, chunk)
-            else:
-                ahead.append((len(chunk), pool.submit(_work, first, chunk)))
-                if len(ahead) > 2 * job.processes:
-                    count, future = ahead.popleft()
-                    yield count, future.result()
-            first += len(chunk)
-        for count, future in ahead:
-            yield count, future.result()
+        if job.processes == 1:
+            worker = Worker(*how)
+            opened.callback(worker.close)
+            yield from map(worker.write, source)
+            return
+        # (wrong options are an error before a process is made)
+        Worker(*how).close()
+        pool = opened.enter_context(ProcessPoolExecutor(job.processes, initializer=_begin, initargs=how))
+        ahead: "Deque[Future[Written]]" = deque()
+        for chunk in source:
+            ahead.append(pool.submit(_work, chunk))
+            if len(ahead) > 2 * job.processes:
+                yield ahead.popleft().result()
+        for future in ahead:
+            yield future.result()
 
 
 class Progress:
@@ -272,10 +305,10 @@ def translate_csv(job: Job, path: str, output: str, rejected: Optional[str] = No
         for file, head in zip((answered, refused), source.heads):
             file.write(head)
         try:
-            for count, (lines, wrong, rejections) in _written(source, job):
+            for records, lines, rejections in _written(source, job):
                 answered.write(lines)
-                refused.write(wrong)
-                total = Total(total.records + count, total.rejected + rejections)
+                refused.writelines(f"{total.records + before + 1}{line}" for before, line in rejections)
+                total = Total(total.records + records, total.rejected + len(rejections))
                 progress.show(total)
         finally:
             progress.end()
