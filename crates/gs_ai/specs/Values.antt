@@ -20,7 +20,7 @@ least_of parts = sum_by least_length parts
 abbrev pub greatest_of : List Part → ℕ
 greatest_of parts = sum_by greatest_length parts
 
--- trusted, own: the value has a length that the parts allow
+-- trusted, own: holds if `value` has a length that `parts` allow
 abbrev pub has_length_of : List Part → List ℕ → Bool
 has_length_of parts value = nat_le (least_of parts) (length value) && nat_le (length value) (greatest_of parts)
 
@@ -30,7 +30,7 @@ abbrev pub pieces : List Part → List ℕ → List (Part × List ℕ)
 pieces [] value = []
 pieces (p ∷ ps) value = (p, take (greatest_length p) value) ∷ pieces ps (drop (greatest_length p) value)
 
--- trusted, own: for each character, whether it is of its part
+-- trusted, own: the list that says of each character of `value` whether it may be in its part
 abbrev pub fitting : List Part → List ℕ → List Bool
 fitting parts value = flat_map (λ piece. map (is_of_part piece.0) piece.1) (pieces parts value)
 
@@ -38,7 +38,7 @@ fitting parts value = flat_map (λ piece. map (is_of_part piece.0) piece.1) (pie
 abbrev pub wrong_character : List Part → List ℕ → Option ℕ
 wrong_character parts value = position not (fitting parts value)
 
--- trusted, GS1 General Specifications, sections 3.2 and 7.9: the k characters are digits, and the last is the check digit
+-- trusted, GS1 General Specifications, sections 3.2 and 7.9: holds if `digits` are `k` digits, and the last is the check digit
 -- of the others
 abbrev pub is_checked : ℕ → List ℕ → Bool
 is_checked k digits =
@@ -52,12 +52,12 @@ number_at digits i = 10 * (slice_index digits i - 48) + (slice_index digits (i +
 abbrev pub is_date : List ℕ → Bool
 is_date digits = are_digits digits && (length digits == 6) && nat_le 1 (number_at digits 2) && nat_le (number_at digits 2) 12 && nat_le (number_at digits 4) 31
 
--- trusted, own: a checked part has its check digit
+-- trusted, own: holds if the part is not `NumCheck`, or `digits` end in their check digit
 abbrev pub keeps_check : Part × List ℕ → Bool
 keeps_check (part.NumCheck k, digits) = is_checked k digits
 keeps_check (_, _) = true
 
--- trusted, own: a date part is a date
+-- trusted, own: holds if the part is not a date, or `digits` are one
 abbrev pub keeps_date : Part × List ℕ → Bool
 keeps_date (part.Date, digits) = is_date digits
 keeps_date (_, _) = true
@@ -72,7 +72,7 @@ parts_error parts value =
     else if not (list_all keeps_date (pieces parts value)) then Some Date
     else None)
 
--- trusted, own: the row's code is this one
+-- trusted, own: holds if the code of `row` is `code`
 abbrev pub has_code : List ℕ → AiRow → Bool
 has_code code row = bytes_eq code row.code
 

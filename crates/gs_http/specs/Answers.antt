@@ -35,15 +35,15 @@ pub data Answer : Type 0 where
   described choices redirect : List ℕ → Answer
   bad_request not_found not_allowed : Answer
 
--- trusted, RFC 9110, section 9.3.1: the method is GET
+-- trusted, RFC 9110, section 9.3.1: holds if `method` is GET
 abbrev pub is_get : List ℕ → Bool
 is_get method = bytes_eq method (codes "GET")
 
--- trusted, RFC 9110, section 9.3.2: the method is HEAD
+-- trusted, RFC 9110, section 9.3.2: holds if `method` is HEAD
 abbrev pub is_head : List ℕ → Bool
 is_head method = bytes_eq method (codes "HEAD")
 
--- trusted, GS1-Conformant Resolver: the path of the resolver description file
+-- trusted, GS1-Conformant Resolver: holds if the path of `target` is that of the resolver description file
 abbrev pub is_description : List ℕ → Bool
 is_description target = bytes_eq (path_of target) (codes "/.well-known/gs1resolver")
 

@@ -26,7 +26,7 @@ first_qualifiers k identity = record { key = identity.key; qualifiers = take k i
 abbrev pub key_alone : Elements → Elements
 key_alone identity = record { key = identity.key; qualifiers = []; attributes = [] }
 
--- trusted, own: the pair has the code
+-- trusted, own: holds if the code of `pair` is `code`
 abbrev pub is_coded : List ℕ → Pair → Bool
 is_coded code pair = bytes_eq code pair.code
 

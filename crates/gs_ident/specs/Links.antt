@@ -6,12 +6,12 @@ use Rattle.gs_chars.specs.Escapes.{hex_digit}
 use Rattle.gs_ai.specs.declared.pair.Pair.{Pair}
 use Rattle.gs_ident.specs.Elements.{Elements}
 
--- trusted, own: the ASCII letters
+-- trusted, own: holds if `c` is an ASCII letter
 abbrev pub is_letter : ℕ → Bool
 is_letter c = (nat_le 65 c && nat_le c 90) || (nat_le 97 c && nat_le c 122)
 
--- trusted, RFC 3986, sections 2.1 and 2.3: A byte that stands for itself in a value: RFC 3986, section 2.3, without the
--- tilde, which no value has.
+-- trusted, RFC 3986, sections 2.1 and 2.3: holds if `c` is an unreserved character of RFC 3986, section 2.3, other than the
+-- tilde, which no value has
 unfoldable pub is_unescaped : ℕ → Bool
 is_unescaped c = is_letter c || is_digit c || list_any (λ x. x == c) (codes "-._")
 

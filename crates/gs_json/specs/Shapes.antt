@@ -33,11 +33,11 @@ abbrev pub items_errors : List ℕ → (Data → Bool) → Option Items → List
 items_errors place test (Some items) = map (λ i. Kind (item_place place i)) (failing_from 0 test (items_list items))
 items_errors place test None = Kind place ∷ []
 
--- trusted, own: whether `d` is a text
+-- trusted, own: holds if `d` is a text
 abbrev pub is_text : Data → Bool
 is_text d = is_some (as_str d)
 
--- trusted, own: whether `d` is an array
+-- trusted, own: holds if `d` is an array
 abbrev pub is_array : Data → Bool
 is_array d = is_some (as_array d)
 
@@ -59,7 +59,7 @@ member_errors place entry (Some d) = sort_errors place entry.sort d
 abbrev pub entry_errors : List ℕ → Members → Entry → List JsonFault
 entry_errors place members entry = member_errors (member_place place entry.name) entry (get_member entry.name members)
 
--- trusted, own: whether `plan` has an entry of this name
+-- trusted, own: holds if `plan` has an entry of the name `name`
 abbrev pub is_named : List Entry → List ℕ → Bool
 is_named plan name = list_any (λ entry. bytes_eq entry.name name) plan
 

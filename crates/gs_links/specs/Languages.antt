@@ -29,7 +29,7 @@ tags_of link = tags_among link.target.attrs
 abbrev pub lowered : List ℕ → List ℕ
 lowered text = map to_ascii_lowercase text
 
--- trusted, RFC 4647, section 3.3.1: nothing or a hyphen comes next
+-- trusted, RFC 4647, section 3.3.1: holds if the text is empty or begins with a hyphen
 abbrev pub is_cut : List ℕ → Bool
 is_cut [] = true
 is_cut (c ∷ rest) = c == 45
@@ -38,11 +38,11 @@ is_cut (c ∷ rest) = c == 45
 abbrev pub is_in_range : List ℕ → List ℕ → Bool
 is_in_range range tag = bytes_eq (lowered (take (length range) tag)) (lowered range) && is_cut (drop (length range) tag)
 
--- trusted, RFC 4647, section 2.1: the range `*` is that of every language
+-- trusted, RFC 4647, section 2.1: holds if `range` is `*`, that of every language
 abbrev pub is_any : List ℕ → Bool
 is_any range = bytes_eq range (codes "*")
 
--- trusted, own: a link matches the range `*`, and a range that one of its tags is in
+-- trusted, own: holds if `range` is `*`, or one of the tags of `link` is in it
 unfoldable pub matches : List ℕ → Link → Bool
 matches range link = is_any range || list_any (is_in_range range) (tags_of link)
 

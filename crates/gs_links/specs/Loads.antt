@@ -26,7 +26,7 @@ use Rattle.gs_links.specs.declared.link.Link.{Link}
 
 -- ---- anchors
 
--- trusted, own: the text begins with a slash
+-- trusted, own: holds if `text` begins with a slash
 abbrev pub is_path : List ℕ → Bool
 is_path text = starts_with (λ a b. a == b) text (codes "/")
 
@@ -56,7 +56,7 @@ anchor_answer table text = by_pairs table (pairs_answer table text)
 
 -- ---- rejections
 
--- trusted, own: a reference is 1 to 2,048 visible characters
+-- trusted, own: holds if `text` is 1 to 2,048 visible characters
 unfoldable pub is_reference : List ℕ → Bool
 is_reference text = nat_le 1 (length text) && (nat_le (length text) 2048 && list_all is_visible text)
 
@@ -100,7 +100,8 @@ store_errors table contexts =
 unfoldable pub expanded : List ℕ → List ℕ → List ℕ
 expanded voc name = if starts_with (λ a b. a == b) name (codes "gs1:") then voc ++ drop 4 name else name
 
--- trusted, own: neither `gs1:` nor the vocabulary begins with the other, so an expanded relation does not begin with `gs1:`
+-- trusted, own: Holds if neither `gs1:` nor the vocabulary `voc` begins with the other. Then an expanded relation does not
+-- begin with `gs1:`.
 unfoldable pub keeps_names : List ℕ → Bool
 keeps_names voc =
     not (starts_with (λ a b. a == b) voc (codes "gs1:")) && not (starts_with (λ a b. a == b) (codes "gs1:") voc)
@@ -126,13 +127,13 @@ context_links table voc context = links_by voc context.relations (anchor_answer 
 unfoldable pub links_of : List AiRow → List ℕ → List Context → List Link
 links_of table voc contexts = flat_map (context_links table voc) contexts
 
--- trusted, own: the context has a link
+-- trusted, own: holds if `context` has a link
 abbrev pub has_link : Context → Bool
 has_link context = not (is_empty (links_of_context context))
 
 -- ---- the answer
 
--- trusted, own: the answer, or out of memory
+-- trusted, own: holds if `result` is `answer` or the error `Memory`
 abbrev pub OrMemory : {X : Type 0} → Result X StoreFault → Result X StoreFault → Type 0
 OrMemory result answer = OrError Memory result answer
 

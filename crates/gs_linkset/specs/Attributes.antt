@@ -15,11 +15,11 @@ abbrev pub every : {X Y : Type 0} → (X → Option Y) → List X → Option (Li
 every f [] = Some []
 every f (x ∷ xs) = option_and_then (λ y. option_map (λ ys. y ∷ ys) (every f xs)) (f x)
 
--- trusted, RFC 9264, section 4.2.4.2: whether `name` ends in `*`, like those of internationalized attributes
+-- trusted, RFC 9264, section 4.2.4.2: holds if `name` ends in `*`, like those of internationalized attributes
 abbrev pub is_tagged : List ℕ → Bool
 is_tagged name = ends_with (λ a b. a == b) name (codes "*")
 
--- trusted, RFC 9264, section 4.2.4.1: whether `name` is that of an attribute of RFC 8288 with one value
+-- trusted, RFC 9264, section 4.2.4.1: holds if `name` is that of an attribute of RFC 8288 with one value
 abbrev pub is_single : List ℕ → Bool
 is_single name = bytes_eq name (codes "type") || (bytes_eq name (codes "title") || bytes_eq name (codes "media"))
 

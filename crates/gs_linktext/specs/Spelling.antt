@@ -68,15 +68,15 @@ spelled contexts = spelled_links (links_of_document contexts)
 abbrev pub is_unspellable_href : List ℕ → Bool
 is_unspellable_href href = not (are_some is_target_byte href)
 
--- trusted, own: a relation type is empty, or has a blank
+-- trusted, own: holds if the relation type is empty, or has a blank
 abbrev pub is_unspellable_type : List ℕ → Bool
 is_unspellable_type type = length type == 0 || list_any is_blank type
 
--- trusted, own: a text has a byte that cannot are in a quoted string
+-- trusted, own: holds if `text` has a byte that cannot be in a quoted string
 abbrev pub is_unspellable_text : List ℕ → Bool
 is_unspellable_text text = list_any (λ c. not (is_quotable c)) text
 
--- trusted, own: an upper-case letter
+-- trusted, own: holds if `c` is an upper-case letter
 abbrev pub is_upper : ℕ → Bool
 is_upper c = nat_le 65 c && nat_le c 90
 
@@ -85,21 +85,21 @@ abbrev pub is_unspellable_name : List ℕ → Bool
 is_unspellable_name name =
     not (are_some is_token name) || (list_any is_upper name || (bytes_eq name (codes "rel") || bytes_eq name (codes "anchor")))
 
--- trusted, own: a language has a byte that none has
+-- trusted, own: holds if the language of `pair` has a byte that no language has
 abbrev pub has_unspellable_language : List ℕ × List ℕ → Bool
 has_unspellable_language pair = list_any (λ c. not (is_language_byte c)) pair.1
 
--- trusted, own: a value has a text that cannot be quoted, an empty list, or a language that cannot be spelled
+-- trusted, own: holds if the value has a text that cannot be quoted, an empty list, or a language that cannot be spelled
 abbrev pub is_unspellable_value : AttrValue → Bool
 is_unspellable_value (One text) = is_unspellable_text text
 is_unspellable_value (Many texts) = length texts == 0 || list_any is_unspellable_text texts
 is_unspellable_value (Tagged pairs) = length pairs == 0 || list_any has_unspellable_language pairs
 
--- trusted, own: an attribute cannot be spelled
+-- trusted, own: holds if the name or the value of `attr` cannot be spelled
 abbrev pub is_unspellable_attr : Attr → Bool
 is_unspellable_attr attr = is_unspellable_name attr.name || is_unspellable_value attr.value
 
--- trusted, own: a link cannot be spelled
+-- trusted, own: holds if the target URI, the relation type, the anchor or an attribute of `link` cannot be spelled
 abbrev pub cannot_spell : List ℕ × List ℕ × Target → Bool
 cannot_spell link =
     is_unspellable_href link.2.href

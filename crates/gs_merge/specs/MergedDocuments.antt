@@ -60,7 +60,7 @@ contexts_of links = map (context_with links) (ascending (map anchor_text links))
 unfoldable pub merged : List Link → List Link → List Context
 merged a b = contexts_of (with_relation (a ++ b))
 
--- trusted, own: a document has more targets than a store may have links
+-- trusted, own: holds if `contexts` have more targets than a store may have links
 abbrev pub is_too_many : List Context → Bool
 is_too_many contexts = nat_lt most_links (targets_count contexts)
 
@@ -68,6 +68,6 @@ is_too_many contexts = nat_lt most_links (targets_count contexts)
 unfoldable pub merge_answer : List Link → List Link → Result (List Context) MergeFault
 merge_answer a b = if is_too_many (merged a b) then Err TooMany else Ok (merged a b)
 
--- trusted, own: the answer, or out of memory
+-- trusted, own: holds if `result` is `answer` or the error `Memory`
 abbrev pub OrMemory : Result (List Context) MergeFault → Result (List Context) MergeFault → Type 0
 OrMemory result answer = (result ≡ Err Memory) ⊎ (result ≡ answer)

@@ -66,11 +66,11 @@ items_alone row = alone (items_there row)
 
 -- ---- rejections
 
--- trusted, own: there are more rows than the limit
+-- trusted, own: holds if there are more of `rows` than `limit`
 abbrev pub more_than : {X : Type 0} → ℕ → List X → Bool
 more_than limit rows = nat_lt limit (length rows)
 
--- trusted, own: some option of a level has more items than the limit
+-- trusted, own: holds if one of the options has more items than the limit
 abbrev pub has_long : List OptionRow → Bool
 has_long rows = list_any (λ (row : OptionRow). more_than most_items row.items) rows
 
@@ -91,12 +91,12 @@ abbrev pub is_bad_item : Bool → Option FieldItem → Bool
 is_bad_item bits None = true
 is_bad_item bits (Some item) = is_bad bits item.1 || lacks_field item
 
--- trusted, own: an option's kind is one of the kinds, and the option fits it
+-- trusted, own: holds if the kind of the option `row` is one of `kinds`, and the option fits it
 unfoldable pub fits : List AiRow → List KindRow → LevelName → OptionRow → Bool
 fits ais kinds level row =
     option_map_or (λ kind. fits_kind ais kind level row.encoding row.gcp (items_there row)) (find (has_name row.kind) kinds) false
 
--- trusted, own: two options have one kind, encoding and prefix length
+-- trusted, own: holds if the options `a` and `b` have the same kind, encoding and prefix length
 unfoldable pub is_same : OptionRow → OptionRow → Bool
 is_same a b = bytes_eq a.kind b.kind && bytes_eq a.encoding b.encoding && (a.gcp == b.gcp)
 
@@ -127,7 +127,7 @@ row_rejections document =
     ++ (level_rejections document.ais document.kinds Tag document.tag
     ++ level_rejections document.ais document.kinds Pure document.pure))))
 
--- trusted, own: the versions of the profile
+-- trusted, own: holds if `version` is a version of the profile
 abbrev pub is_version : ℕ → Bool
 is_version version = (version == 1) || (version == 2)
 
@@ -175,7 +175,7 @@ IsAnswer rejections made (Ok x) = (rejections ≡ []) × (x ≡ made)
 IsAnswer rejections made (Err Memory) = Unit {0}
 IsAnswer rejections made (Err error) = slice_get rejections 0 ≡ Some error
 
--- trusted, TDT 2.0, section 3; own rules: The facts of every set: it is the set of rows that no rule rejects.
+-- trusted, TDT 2.0, section 3; own rules: holds if `set` is the set of rows that no rule rejects
 pub record IsShaped (set : TableRows) : Type 0 where
   pub document : Document
   pub in_order : row_rejections document ≡ []

@@ -158,13 +158,13 @@ abbrev pub item_of : Bool → Data → Option FieldItem
 item_of true d = option_and_then (λ name. bit_item name d) (text_arg 0 d)
 item_of false d = option_and_then (λ name. text_item name d) (text_arg 0 d)
 
--- trusted, own: the item is one of version 1 of the profile
+-- trusted, own: holds if the item is one of version 1 of the profile
 abbrev pub is_first_item : Item → Bool
 is_first_item (Digits _ _) = false
 is_first_item (NumStr _ _) = false
 is_first_item _ = true
 
--- trusted, own: the field is one of version 1 of the profile
+-- trusted, own: holds if the field is one of version 1 of the profile
 abbrev pub is_first_field : Option Field → Bool
 is_first_field (Some Piece) = false
 is_first_field (Some Total) = false
@@ -176,7 +176,7 @@ item_in true answer = answer
 item_in false answer =
     option_and_then (λ (i : FieldItem). if is_first_field i.0 && is_first_item i.1 then Some i else None) answer
 
--- trusted, own: the answer is this one, and `Bad` if and only if there is none
+-- trusted, own: holds if the result is the value of `answer`, is `Bad` and there is none, or is `Memory`
 abbrev pub Reads : {X : Type 0} → Result X ItemFault → Option X → Type 0
 Reads (Ok x) answer = answer ≡ Some x
 Reads (Err Bad) answer = answer ≡ None

@@ -8,7 +8,7 @@ use Rattle.gs_template.specs.Templates.{Part, itself, parts, place}
 use Rattle.gs_template.specs.declared.error.PlaceFault.{PlaceFault}
 use Rattle.gs_template.specs.declared.error.PlaceFault.TheVariants.{Brace, Code}
 
--- trusted, own: a brace
+-- trusted, own: holds if `c` is a brace
 abbrev pub is_brace : ℕ → Bool
 is_brace c = c == 123 || c == 125
 

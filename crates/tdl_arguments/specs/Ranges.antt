@@ -6,7 +6,7 @@ use Rattle.gs_chars.specs.Characters.{are_digits}
 use Rattle.gs_grammar.specs.Words.{decimal_value}
 use Rattle.gs_grammar.specs.WrittenWords.{has_leading_zero}
 
--- trusted, own: decimal digits without a sign and without leading zeros
+-- trusted, own: holds if `word` is decimal digits without leading zeros
 abbrev pub is_numeral : List ℕ → Bool
 is_numeral word = are_digits word && (nat_lt 0 (length word) && not (has_leading_zero word))
 
