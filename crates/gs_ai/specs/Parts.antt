@@ -7,7 +7,7 @@ use Rattle.gs_ai.specs.declared.part.Part.TheVariants.{Zero, Num, NumCheck, NumU
 use Rattle.gs_ai.specs.declared.part.Role.{Role}
 use Rattle.gs_ai.specs.declared.part.Role.TheVariants as role
 
--- trusted, own: a number below 100 in decimal, without leading zeros
+-- trusted, own: the text of a number below 100 in decimal, without leading zeros
 abbrev pub number_text : ℕ → List ℕ
 number_text k = if nat_lt k 10 then (48 + k) ∷ [] else (48 + k / 10) ∷ (48 + k % 10) ∷ []
 
@@ -23,7 +23,7 @@ is_part (SetOpt k) = nat_le 1 k && nat_le k 90
 is_part Date = true
 is_part Other = false
 
--- trusted, own: how a part of the list is written
+-- trusted, own: the text of a part of the list
 abbrev pub part_text : Part → List ℕ
 part_text Zero = codes "zero"
 part_text (Num k) = codes "n" ++ number_text k
@@ -79,7 +79,7 @@ is_of_part (SetOpt _) c = is_in_set82 c
 is_of_part Date c = is_digit c
 is_of_part Other _ = false
 
--- trusted, own: how a role is written
+-- trusted, own: the text of a role
 abbrev pub role_text : Role → List ℕ
 role_text role.Key = codes "key"
 role_text role.Qualifier = codes "qualifier"

@@ -113,8 +113,8 @@ list_errors rows i row =
 
 -- ---- all rows
 
--- trusted, own: all errors of the rows, in the order in which they are reported: those of each row in turn, then those of
--- each list
+-- trusted, own: the list of all errors of `rows`, in the order of the reports: those of each row in turn, then those of each
+-- list
 unfoldable pub table_errors : List AiRow → List AiFault
 table_errors rows =
     flat_map (λ row. row_errors row.0 (take row.0 rows) row.1) (enumerate_from 0 rows)

@@ -116,6 +116,6 @@ row_rejections ais rows place =
     ++ error_if (not (is_class ais (take place.0 rows) place.1)) (Mismatch place.0)
     ++ option_to_list (option_map (λ j. Duplicate j place.0) (position (is_same_row place.1) (take place.0 rows)))
 
--- trusted, own: all rejections of the rows, in the order in which they are reported: the limits, then row by row
+-- trusted, own: the list of all rejections of `rows`, in the order in which they are reported: the limits, then row by row
 unfoldable pub class_rejections : List AiRow → List ClassRow → List ClassLoadFault
 class_rejections ais rows = error_if (are_many rows) Limit ++ flat_map (row_rejections ais rows) (enumerate_from 0 rows)

@@ -55,7 +55,7 @@ value_for said _ = []
 abbrev pub values_for : KeyFields → List (Option Field) → List (List ℕ)
 values_for said fields = map (value_for said) fields
 
--- trusted, own: why the item of the lot has no word for the lot, if there is such an item
+-- trusted, own: the reason, if any, why the item of the lot has no word for `lot`, if there is such an item
 abbrev pub why_not_lot : List (Option Field) → List Item → List ℕ → Option Why
 why_not_lot fields items lot =
     option_and_then (λ k. option_and_then (λ item. why_not item lot) (slice_get items k)) (position (is_field Serial) fields)

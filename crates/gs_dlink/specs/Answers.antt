@@ -8,7 +8,7 @@ use Rattle.gs_dlink.specs.Paths.{key_path}
 use Rattle.gs_dlink.specs.Uris.{authority_end, is_slash, path_of, query_of, query_pairs, segments, Written}
 use Rattle.gs_dlink.specs.Values.{pair_answer}
 
--- trusted, own: one pair more, before those of the others, or the first error
+-- trusted, own: the pair before those of the others, or the first error
 abbrev pub then_pairs : Result Pair LinkFault → Result (List Pair) LinkFault → Result (List Pair) LinkFault
 then_pairs (Err error) rest = Err error
 then_pairs (Ok pair) (Ok pairs) = Ok (pair ∷ pairs)

@@ -15,11 +15,11 @@ use Rattle.gs_element.specs.Joins.{Joined, IsFirstError}
 
 -- ---- the written text
 
--- trusted, own: an opening bracket of a value is written with a backslash before it
+-- trusted, own: the character `c` as written in a value: with a backslash before it if it is an opening bracket
 abbrev pub written_character : ℕ → List ℕ
 written_character c = if c == 40 then 92 ∷ 40 ∷ [] else c ∷ []
 
--- trusted, own: a value with a backslash before each opening bracket
+-- trusted, own: the text of `value` with a backslash before each opening bracket
 abbrev pub written_value : List ℕ → List ℕ
 written_value value = flat_map written_character value
 
@@ -75,7 +75,8 @@ code_front (c ∷ text) =
     if c == 40 then closed_code (take_while is_digit text) (drop (length (take_while is_digit text)) text)
     else None
 
--- trusted, own: no code at the start, at the place of its bracket; or an error of its value, at the place of the code
+-- trusted, own: the error that there is no code, at the place of its bracket, or the error of its value, at the place of the
+-- code
 abbrev pub front_error : List AiRow → Option (List ℕ × List ℕ) → Option ElementFault
 front_error table None = Some (record { at = 0; why = Bracket })
 front_error table (Some (code, text)) =

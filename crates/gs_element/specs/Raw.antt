@@ -70,7 +70,7 @@ IsRawError table text error = IsFirstError (IsRawElement table) (raw_error table
 
 -- ---- the written text
 
--- trusted, own: nothing after an element of predefined length, otherwise a byte 29
+-- trusted, own: the separator after an element: nothing after one of predefined length, otherwise a byte 29
 abbrev pub separator : List ℕ → List ℕ
 separator code = if is_some (predefined_length code) then [] else 29 ∷ []
 

@@ -50,7 +50,7 @@ zero_in_front _ = []
 abbrev pub key_digits : ℕ → List ℕ → List ℕ → List ℕ
 key_digits lead prefix rest = take lead rest ++ prefix ++ drop lead rest
 
--- trusted, own: digits and their check digit
+-- trusted, own: the digits and their check digit
 abbrev pub with_check : List ℕ → List ℕ
 with_check digits = digits ++ check_digit_of digits ∷ []
 

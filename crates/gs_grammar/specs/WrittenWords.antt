@@ -32,9 +32,9 @@ has_leading_zero value = nat_lt 1 (length value) && (slice_index value 0 == 48)
 abbrev pub is_too_large : ℕ → ℕ → List ℕ → Bool
 is_too_large bits greatest value = nat_lt greatest (decimal_value value) || nat_le (2 ^ bits) (decimal_value value)
 
--- trusted, the order is own: Why an item has no word for the value: the first reason that applies, or none. A number is large if
--- it is above the greatest or does not fit in the bits. Characters whose packed form does not fit are too many, and so are digits
--- that do not fit after a 1. The last case is that of items whose value is empty.
+-- trusted, the order is own: The first reason, if any, why an item has no word for `value`. A number is large if it is above
+-- the greatest or does not fit in the bits. Characters whose packed form does not fit are too many, and so are digits that do
+-- not fit after a 1. The last case is that of items whose value is empty.
 abbrev pub why_not : Item → List ℕ → Option Why
 why_not (Pad n) value = first_reason (not (are_digits value)) (not (length value == n)) false false
 why_not (Digits lo hi) value = first_reason (not (are_digits value)) (not (is_between lo hi (length value))) false false

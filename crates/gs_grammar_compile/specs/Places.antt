@@ -7,7 +7,7 @@ use Rattle.gs_ambig.specs.Machines.{AutoForm, IsMachine}
 use Rattle.gs_ambig.specs.MachinesSupport.{start_of, Accepts}
 use Rattle.gs_grammar_compile.specs.Readers.{ReadsItems}
 
--- trusted, own: a place, and the place after each of the words
+-- trusted, own: the list of `place` and the place after each of the words
 abbrev pub cuts_from : ℕ → List (List ℕ) → List ℕ
 cuts_from place [] = place ∷ []
 cuts_from place (word ∷ words) = place ∷ cuts_from (place + length word) words

@@ -72,8 +72,8 @@ by_relation templates identity (link ∷ other ∷ links) = choices (written (se
 abbrev pub of_relation : List ℕ → Want
 of_relation name = RelationOf (record { ref_ptr = (0, 0); now = name })
 
--- trusted, own: by the links that are chosen for the identity: for a linkset all of them, and for a relation those in the
--- first accepted language that one of them has
+-- trusted, own: the answer by the links chosen for `identity`: for a linkset all, for a relation those in the first accepted
+-- language that one has
 abbrev pub by_elements : Bool → List Link → List (List ℕ) → Elements → Wish → Answer
 by_elements templates links ranges identity (for_linkset form) = by_linkset templates form identity (linked links (chosen links identity All))
 by_elements templates links ranges identity (for_relation name) =
@@ -84,7 +84,7 @@ abbrev pub by_identity : Bool → List Link → List (List ℕ) → Wish → Res
 by_identity templates links ranges wish (Ok identity) = by_elements templates links ranges identity wish
 by_identity templates links ranges wish (Err error) = bad_request
 
--- trusted, own: by the pairs that the target names
+-- trusted, own: the answer by the pairs that the target names
 abbrev pub by_pairs : List AiRow → Bool → List Link → List (List ℕ) → Wish → Result (List Pair) LinkFault → Answer
 by_pairs table templates links ranges wish (Ok pairs) = by_identity templates links ranges wish (identity_of_pairs table pairs)
 by_pairs table templates links ranges wish (Err NoKeyPath) = not_found

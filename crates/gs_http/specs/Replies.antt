@@ -12,7 +12,7 @@ use Rattle.gs_http.specs.Answers.{Answer, described, linkset, choices, redirect,
 use Rattle.gs_http.specs.Fields.{is_shown}
 use Rattle.gs_http.specs.Heads.{Asked, IsAsked}
 
--- trusted, RFC 9112, section 2.1: a line with its end
+-- trusted, RFC 9112, section 2.1: the line of `text` with its end
 abbrev pub line : List ℕ → List ℕ
 line text = text ++ 13 ∷ 10 ∷ []
 

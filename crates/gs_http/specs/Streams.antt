@@ -30,7 +30,7 @@ abbrev pub cut_at : List ℕ → Option ℕ → Front
 cut_at stream None = headless
 cut_at stream (Some place) = headed (take place stream) (drop place stream)
 
--- trusted, own: a head ends within the first 8,192 bytes
+-- trusted, own: the start of a stream, in which a head ends within the first 8,192 bytes
 unfoldable pub front_of : List ℕ → Front
 front_of [] = ended
 front_of (c ∷ stream) = cut_at (c ∷ stream) (head_end (take 8192 (c ∷ stream)))

@@ -52,7 +52,7 @@ listed table key = option_map_or (λ row. row.qualifiers) (find (has_code key.co
 abbrev pub is_other : List (List ℕ) → Pair → Pair → Bool
 is_other codes key pair = not (bytes_eq key.code pair.code) && not (list_any (bytes_eq pair.code) codes)
 
--- trusted, own: each pair with its code
+-- trusted, own: the list of each pair with its code
 abbrev pub keyed : List Pair → List (List ℕ × Pair)
 keyed pairs = map (λ pair. (pair.code, pair)) pairs
 

@@ -7,6 +7,6 @@ use Rattle.gs_ai.specs.declared.pair.Pair.{Pair}
 abbrev pub room_of_pair : Pair → ℕ
 room_of_pair pair = length pair.code + length pair.value + 2
 
--- trusted, own: those of all pairs
+-- trusted, own: the room of all pairs
 abbrev pub room_of_pairs : List Pair → ℕ
 room_of_pairs pairs = sum_by room_of_pair pairs

@@ -41,7 +41,7 @@ is_candidate identity want link = is_prefix link.anchor identity && is_wanted wa
 abbrev pub candidates : List Link → Elements → Want → List Link
 candidates links identity want = filter (is_candidate identity want) links
 
--- trusted, own: how many qualifiers the link's anchor has
+-- trusted, own: the number of qualifiers of the anchor of `link`
 abbrev pub depth_of : Link → ℕ
 depth_of link = length link.anchor.qualifiers
 
@@ -75,6 +75,6 @@ chosen links identity want = chosen_at links identity want (chosen_depth links i
 abbrev pub IsAmong : List ℕ → ℕ → Type 0
 IsAmong numbers n = (k : ℕ) × (slice_get numbers k ≡ Some n)
 
--- trusted, own: of numbers those of links that pass a test
+-- trusted, own: the list of those of `numbers` whose links pass `test`
 abbrev pub passing : List Link → (Link → Bool) → List ℕ → List ℕ
 passing links test numbers = filter (λ i. option_map_or test (slice_get links i) false) numbers

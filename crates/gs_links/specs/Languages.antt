@@ -10,7 +10,7 @@ use Rattle.gs_linkset.specs.declared.link_types.AttrValue.TheVariants.{One, Many
 use Rattle.gs_links.specs.Choices.{passing}
 use Rattle.gs_links.specs.declared.link.Link.{Link}
 
--- trusted, RFC 9264, section 4.2.4.1: a value of `hreflang` is a list of language tags
+-- trusted, RFC 9264, section 4.2.4.1: the language tags of a value of `hreflang`, which is a list
 abbrev pub texts_of : AttrValue → List (List ℕ)
 texts_of (Many texts) = texts
 texts_of (One text) = []
@@ -25,7 +25,8 @@ tags_among (attr ∷ attrs) = if bytes_eq attr.name (codes "hreflang") then text
 abbrev pub tags_of : Link → List (List ℕ)
 tags_of link = tags_among link.target.attrs
 
--- trusted, RFC 4647, section 2: tags and ranges are compared without regard to the case of ASCII letters
+-- trusted, RFC 4647, section 2: the text in lower case, since tags and ranges are compared without regard to the case of ASCII
+-- letters
 abbrev pub lowered : List ℕ → List ℕ
 lowered text = map to_ascii_lowercase text
 

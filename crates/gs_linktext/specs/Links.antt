@@ -39,14 +39,14 @@ unfoldable pub is_language_byte : ℕ → Bool
 is_language_byte c =
     list_any (λ x. x == c) (codes "-0123456789ABCDEFGHIJKLMNOPQRSTUVWXYZabcdefghijklmnopqrstuvwxyz")
 
--- trusted, RFC 8187, section 3.2.1: a text and its language, after the name of the character set. Both are UTF-8, the text once
--- its escapes are read.
+-- trusted, RFC 8187, section 3.2.1: The text and its language, after the name of the character set. Both are valid UTF-8, the
+-- text once its escapes are read.
 abbrev pub tagged_by : List ℕ → List ℕ → Option (List ℕ × List ℕ)
 tagged_by language [] = None
 tagged_by language (c ∷ text) =
     if c == 39 && (is_utf8 (percent_decode text) && is_utf8 language) then Some (percent_decode text, language) else None
 
--- trusted, RFC 8187, section 3.2.1: a text and its language of a value `UTF-8'LANG'TEXT`, UTF-8 in either case
+-- trusted, RFC 8187, section 3.2.1: the text and its language of a value `UTF-8'LANG'TEXT`, with UTF-8 in either case
 abbrev pub tagged_text : List ℕ → Option (List ℕ × List ℕ)
 tagged_text value =
     if bytes_eq (map to_ascii_lowercase (take 6 value)) (codes "utf-8'")
@@ -75,7 +75,7 @@ attr_value name values =
 abbrev pub is_reserved : List ℕ → Bool
 is_reserved name = bytes_eq name (codes "rel") || (bytes_eq name (codes "anchor") || bytes_eq name (codes "href"))
 
--- trusted, own: an attribute by its name and the values of its name
+-- trusted, own: the attribute of a name and the values of its name, if there is one
 abbrev pub attr_with : List ℕ → List (List ℕ) → Option Attr
 attr_with name values =
     if is_reserved name then None else option_map (λ value. record { name = name; value = value }) (attr_value name values)

@@ -14,19 +14,19 @@ use Rattle.gs_linktext_grammar.specs.Bytes.{is_blank, is_quotable, is_target_byt
 use Rattle.gs_linktext_grammar.specs.Lexemes.{are_some}
 use Rattle.gs_linktext.specs.Links.{is_language_byte}
 
--- trusted, RFC 9110, section 5.6.4: a byte in a quoted string, with a backslash before a quotation mark or a backslash
+-- trusted, RFC 9110, section 5.6.4: the byte `c` in a quoted string, with a backslash before a quotation mark or a backslash
 abbrev pub quoted_byte : ℕ → List ℕ
 quoted_byte c = if c == 34 || c == 92 then 92 ∷ c ∷ [] else c ∷ []
 
--- trusted, RFC 9110, section 5.6.4: a text as a quoted string
+-- trusted, RFC 9110, section 5.6.4: the quoted string of `text`
 abbrev pub quoted : List ℕ → List ℕ
 quoted text = 34 ∷ (flat_map quoted_byte text ++ 34 ∷ [])
 
--- trusted, RFC 8288, section 3: a parameter with a quoted value
+-- trusted, RFC 8288, section 3: the parameter `name` with a quoted value
 abbrev pub spelled_text : List ℕ → List ℕ → List ℕ
 spelled_text name text = codes "; " ++ (name ++ 61 ∷ quoted text)
 
--- trusted, RFC 8187, section 3.2.1: a parameter with a text and its language
+-- trusted, RFC 8187, section 3.2.1: the parameter `name` with a text and its language
 abbrev pub spelled_pair : List ℕ → List ℕ × List ℕ → List ℕ
 spelled_pair name pair = codes "; " ++ (name ++ (codes "=UTF-8'" ++ (pair.1 ++ 39 ∷ percent_encoded pair.0)))
 
@@ -44,21 +44,21 @@ spelled_attr attr = spelled_value attr.name attr.value
 abbrev pub spelled_types : List ℕ → List ℕ → List ℕ
 spelled_types type anchor = codes ">; rel=" ++ (quoted type ++ (codes "; anchor=" ++ quoted anchor))
 
--- trusted, own: a link: its reference, its relation type, its anchor and its attributes
+-- trusted, own: the text of a link: its reference, its relation type, its anchor and its attributes
 abbrev pub spelled_link : List ℕ × List ℕ × Target → List ℕ
 spelled_link link =
     60 ∷ (link.2.href ++ (spelled_types link.1 link.0 ++ flat_map spelled_attr link.2.attrs))
 
--- trusted, own: a link after another: a comma and a line break between them
+-- trusted, own: the text of a link after another: a comma and a line break are between them
 abbrev pub spelled_behind : List ℕ × List ℕ × Target → List ℕ
 spelled_behind link = 44 ∷ 10 ∷ spelled_link link
 
--- trusted, own: links
+-- trusted, own: the text of links
 abbrev pub spelled_links : List (List ℕ × List ℕ × Target) → List ℕ
 spelled_links [] = []
 spelled_links (link ∷ links) = spelled_link link ++ flat_map spelled_behind links
 
--- trusted, own: a document
+-- trusted, own: the text of a document
 abbrev pub spelled : List Context → List ℕ
 spelled contexts = spelled_links (links_of_document contexts)
 

@@ -68,7 +68,7 @@ href_in (Quoted v) = None
 abbrev pub is_some_part : {X : Type 0} → List X → Bool
 is_some_part part = not (length part == 0)
 
--- trusted, RFC 8288, appendix B.3: a parameter, the letters of its name in lower case; its texts are UTF-8
+-- trusted, RFC 8288, appendix B.3: the parameter with the letters of its name in lower case, if its texts are valid UTF-8
 abbrev pub param_with : List ℕ → List ℕ → Option Param
 param_with name value =
     if is_utf8 (map to_ascii_lowercase name) && is_utf8 value
@@ -78,7 +78,8 @@ param_with name value =
 abbrev pub param_by : Option (List ℕ) → Option (List ℕ) → Option Param
 param_by name value = option_and_then (λ n. option_and_then (λ v. param_with n v) value) name
 
--- trusted, RFC 8288, section 3: a parameter is a name, or a name, an equals sign and a value. Without one the value is empty.
+-- trusted, RFC 8288, section 3: The parameter of a name, or of a name, an equals sign and a value. Without one the value is
+-- empty.
 abbrev pub param_of : List Lexeme → Option Param
 param_of [] = None
 param_of (name ∷ []) = param_by (name_in name) (Some [])
@@ -96,7 +97,7 @@ href_of [] = None
 href_of (x ∷ []) = href_in x
 href_of (x ∷ y ∷ xs) = None
 
--- trusted, RFC 8288, section 3: a link is a reference, and parameters each after a semicolon; an empty one is ignored
+-- trusted, RFC 8288, section 3: The link of a reference, and parameters each after a semicolon. An empty one is ignored.
 abbrev pub link_of : List (List Lexeme) → Option WrittenLink
 link_of [] = None
 link_of (head ∷ parts) =

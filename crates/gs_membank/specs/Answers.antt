@@ -67,7 +67,7 @@ ReadsDump set text (Err error) = IsHex text × IsBankError set (bits_of_hex text
 
 -- ---- dumps that are written
 
--- trusted, own: why a dump is not written if its EPC is not
+-- trusted, own: the reason why a dump is not written if its EPC is not
 abbrev pub of_writing : EpcWriteFault → DumpWriteFault
 of_writing NoOptionOf = NoOption
 of_writing (CannotHoldOf field why) = CannotHold field why

@@ -4,7 +4,7 @@ use Rattle.std.specs.Prelude.{◌≡◌, ◌<◌, ℕ, Bool, false, if◌then◌
 use Rattle.gs_bits.specs.Bits.{bits_of}
 use Rattle.gs_membank.specs.declared.dump.ControlWord.{ControlWord}
 
--- trusted, own: a bit is 1 if it is set, otherwise 0
+-- trusted, own: the bit 1 if it is set, otherwise 0
 abbrev pub bit_of : Bool → ℕ
 bit_of set = if set then 1 else 0
 

@@ -35,11 +35,11 @@ is_same_target a b = bytes_eq a.href b.href && pointwise is_same_attr a.attrs b.
 abbrev pub without : {X : Type 0} → (X → X → Bool) → X → List X → List X
 without same x xs = filter (λ y. not (same x y)) xs
 
--- trusted, own: each item once, at its first place
+-- trusted, own: the list of each item once, at its first place
 abbrev pub distinct_by : {X : Type 0} → (X → X → Bool) → List X → List X
 distinct_by same [] = []
 distinct_by same (x ∷ xs) = x ∷ without same x (distinct_by same xs)
 
--- trusted, own: each equal target once, at its first place
+-- trusted, own: the list of each equal target once, at its first place
 unfoldable pub distinct : List Target → List Target
 distinct targets = distinct_by is_same_target targets

@@ -82,7 +82,7 @@ limit_rejections document =
     ++ error_if (more_than most_rows document.binary || more_than most_rows document.tag || more_than most_rows document.pure) (Limit Options)
     ++ error_if (has_long document.binary || has_long document.tag || has_long document.pure) (Limit Items)
 
--- trusted, own: kind i breaks a rule
+-- trusted, own: the rejection of kind i, if it breaks a rule
 abbrev pub kind_rejections : List AiRow → List KindRow → ℕ × KindRow → List LoadFault
 kind_rejections ais kinds row = error_if (not (is_kind ais (take row.0 kinds) row.1)) (BadKind row.0)
 
@@ -117,7 +117,7 @@ kinds_rejections ais kinds = flat_map (kind_rejections ais kinds) (enumerate_fro
 unfoldable pub level_rejections : List AiRow → List KindRow → LevelName → List OptionRow → List LoadFault
 level_rejections ais kinds level rows = flat_map (option_rejections ais kinds level rows) (enumerate_from 0 rows)
 
--- trusted, own: all rejections of the rows, in the order in which they are reported
+-- trusted, own: the list of all rejections of the rows, in the order in which they are reported
 unfoldable pub row_rejections : Document → List LoadFault
 row_rejections document =
     limit_rejections document
@@ -150,7 +150,7 @@ info_of kinds row = record {
   fields = fields_of (items_there row);
 }
 
--- trusted, own: a level's options and their facts
+-- trusted, own: the options of `level` and their facts
 abbrev pub level_of : List KindRow → LevelName → List OptionRow → LevelTable
 level_of kinds level rows = record {
   level = record { bit_level = is_bits level; options = map (option_form (is_bits level)) rows };

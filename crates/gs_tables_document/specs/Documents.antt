@@ -129,11 +129,11 @@ pub record IsKindRow (d : Data) (row : KindRow) : Type 0 where
   pub serial : row.serial ≡ text_in (codes "serial") d
   pub fields : Each IsText (items_in (codes "fields") d) row.fields
 
--- trusted, own: how the options of a bit level of the document are read
+-- trusted, own: the reading of the options of a bit level of `document`
 abbrev pub of_bits : Data → Reading
 of_bits document = record { bits = true; second = is_second document }
 
--- trusted, own: how the options of a text level of the document are read
+-- trusted, own: the reading of the options of a text level of `document`
 abbrev pub of_texts : Data → Reading
 of_texts document = record { bits = false; second = is_second document }
 

@@ -19,7 +19,7 @@ use Rattle.gs_tables_document.specs.declared.document.OptionRow.{OptionRow}
 abbrev pub with_member : List ℕ → Data → Data → Data
 with_member name value d = option_map_or (λ members. object (put name value members)) (as_object d) d
 
--- trusted, own: a kind with no further fields
+-- trusted, own: the kind with an empty list of further fields
 abbrev pub with_fields : Data → Data
 with_fields kind = with_member (codes "fields") (array no_items) kind
 

@@ -42,7 +42,7 @@ MeansEpc set epc answer = (elements : Elements) × IsLaidOut set epc elements ×
 abbrev pub OfElement : (ElementFault → Type 0) → Reason → Type 0
 OfElement IsError reason = (error : ElementFault) × (reason ≡ Element error) × IsError error
 
--- trusted, own: holds if `answer` is the pairs of the element string `text`, as a barcode scanner transmits it, or why it has
+-- trusted, own: holds if `answer` is the pairs of `text`, an element string that a barcode scanner transmits, or why it has
 -- none
 abbrev pub ReadsRaw : TableRows → List ℕ → Result (List Pair) Reason → Type 0
 ReadsRaw set text answer = MatchResult answer (IsRaw set.ais text) (OfElement (IsRawError set.ais text))

@@ -9,7 +9,7 @@ pub data Then {A B E : Type 0} (First : Result A E → Type 0) (Next : A → Res
   rejects : (error : E) → First (Err error) → answer ≡ Err error → Then First Next answer
   goes_on : (a : A) → First (Ok a) → Next a answer → Then First Next answer
 
--- trusted, own: an answer with its reason said in other words
+-- trusted, own: the answer with its reason in the words of `say`
 abbrev pub reworded : {A E R : Type 0} → (E → R) → Result A E → Result A R
 reworded say (Ok a) = Ok a
 reworded say (Err error) = Err (say error)

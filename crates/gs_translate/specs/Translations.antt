@@ -72,7 +72,7 @@ pub record Translating : Type 0 where
   pub from : Form
   pub to : Target
 
--- trusted, own: that by these tables, prefixes and options, from this form to that
+-- trusted, own: the translation by these tables, prefixes and options, from the form `from` to the target `to`
 abbrev pub translating_by : TableRows → List PrefixEntry → Options → Form → Target → Translating
 translating_by set prefixes options from to = record { set = set; prefixes = prefixes; options = options; from = from; to = to }
 

@@ -61,19 +61,19 @@ abbrev pub operands_in_range : Command → Bool
 operands_in_range (Gen lines) = nat_le lines most_lines
 operands_in_range command = true
 
--- trusted, own: a name that may be absent
+-- trusted, own: the row of a name that may be absent
 abbrev pub optional : Name → NameRow
 optional name = record { name = name; instead = None; required = false }
 
--- trusted, own: a name that must be there
+-- trusted, own: the row of a name that must be there
 abbrev pub needed : Name → NameRow
 needed name = record { name = name; instead = None; required = true }
 
--- trusted, own: a name, or another instead, that may be absent
+-- trusted, own: the row of a name, or another instead, that may be absent
 abbrev pub optional_either : Name → Name → NameRow
 optional_either name other = record { name = name; instead = Some other; required = false }
 
--- trusted, own: a name that must be there, or another instead
+-- trusted, own: the row of a name that must be there, or another instead
 abbrev pub needed_either : Name → Name → NameRow
 needed_either name other = record { name = name; instead = Some other; required = true }
 

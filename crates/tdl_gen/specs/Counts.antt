@@ -38,11 +38,11 @@ pub data AnswersFirst (set : TableRows) : ℕ → List (Result (List ℕ) Reason
 abbrev pub answer_bytes : Result (List ℕ) Reason → List ℕ
 answer_bytes answer = printed (line_of reason_text answer)
 
--- trusted, own: how many answers are texts
+-- trusted, own: the number of answers that are texts
 abbrev pub ok_answers : List (Result (List ℕ) Reason) → ℕ
 ok_answers answers = count_by is_ok answers
 
--- trusted, own: how many bytes the lines of all answers have
+-- trusted, own: the number of bytes of the lines of all answers
 abbrev pub answered_bytes : List (Result (List ℕ) Reason) → ℕ
 answered_bytes answers = length (flat_map answer_bytes answers)
 

@@ -56,7 +56,7 @@ errors_of visits = length (filter (λ (visit : Visit). is_error visit.served) vi
 abbrev pub wants_memory : List Visit → Bool
 wants_memory visits = list_any (λ (visit : Visit). is_want visit.served) visits
 
--- trusted, own: bytes, if the listener's connections are known
+-- trusted, own: the bytes, if the listener's connections are known
 abbrev pub known_if : Bool → List ℕ → Option (List ℕ)
 known_if known bytes = if known then Some bytes else None
 
