@@ -1,4 +1,4 @@
--- How many derivations a list of symbols has in a level.
+-- The number of derivations of a list of symbols in a level.
 use Rattle.std.specs.Prelude.{ℕ, List}
 use Rattle.gs_grammar.specs.declared.item.Item.{Item}
 use Rattle.gs_grammar.specs.Derivations.{Derivation, OneDerivation, TwoDerivations}

@@ -52,7 +52,7 @@ body_of bad_request = []
 body_of not_found = []
 body_of not_allowed = []
 
--- trusted, RFC 9110, section 8.6: the field that says how many bytes the body has
+-- trusted, RFC 9110, section 8.6: the field of the number of bytes of the body
 abbrev pub length_field : ℕ → List ℕ
 length_field len = line (codes "Content-Length: " ++ decimal len)
 

@@ -1,4 +1,4 @@
--- How many bytes the pairs of an identity have. This is the project's own.
+-- The number of bytes of the pairs of an identity. This is the project's own.
 use Rattle.std.specs.Prelude.{ℕ, ◌+◌, List, length}
 use Rattle.std.specs.List.{sum_by}
 use Rattle.gs_ai.specs.declared.pair.Pair.{Pair}

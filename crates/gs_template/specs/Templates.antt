@@ -19,11 +19,11 @@ pub data Part : Type 0 where
 abbrev pub is_closed : ℕ → List ℕ → Bool
 is_closed n text = option_map_or (λ c. c == 125) (slice_get text n) false && are_digits (take n text)
 
--- how many digits, 2 to 4, are before a closing brace, and 0 if there is no such code
+-- the number of digits, 2 to 4, before a closing brace, and 0 if there is no such code
 unfoldable pub code_size : List ℕ → ℕ
 code_size text = if is_closed 2 text then 2 else if is_closed 3 text then 3 else if is_closed 4 text then 4 else 0
 
--- how many digits the code of a place has that begins with this byte; 0 if none does
+-- the number of digits of the code of a place that begins with this byte; 0 if none does
 abbrev pub place_size : ℕ → List ℕ → ℕ
 place_size c text = if c == 123 then code_size text else 0
 
@@ -32,7 +32,7 @@ abbrev pub part_of : ℕ → List ℕ → ℕ → Part
 part_of c text zero = itself c
 part_of c text (suc n) = place (take (suc n) text)
 
--- how many bytes of a part with a code of that many digits follow its first byte
+-- the number of bytes that follow the first of a part with a code of that many digits
 abbrev pub bytes_behind : ℕ → ℕ
 bytes_behind zero = 0
 bytes_behind (suc n) = suc (suc n)

@@ -1,4 +1,4 @@
--- Results that are found in steps: the first rejection is the result. And how many results there are.
+-- Results that are found in steps: the first rejection is the result. And the number of results.
 use Rattle.std.specs.Prelude.{◌≡◌, ◌≢◌, ◌++◌, ℕ, List, Result, Ok, Err}
 use Rattle.gs_translate.specs.declared.reason.Reason.{Reason}
 use Rattle.gs_translate.specs.declared.reason.Reason.TheVariants.{Memory}
