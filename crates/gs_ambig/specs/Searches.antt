@@ -22,22 +22,22 @@ BothHave edge other symbol = (edge.lo ≤ symbol) × (symbol ≤ edge.hi) × (ot
 abbrev pub HaveNoneInCommon : Edge → Edge → Type 0
 HaveNoneInCommon edge other = (symbol : ℕ) → edge.lo ≤ symbol → symbol ≤ edge.hi → other.lo ≤ symbol → symbol ≤ other.hi → ⊥
 
--- trusted, own: the list of symbols leads both machines from these states to their accepting states
+-- trusted, own: holds if `symbols` lead `m` from `p` and `n` from `q` to their accepting states
 pub record Leads (m n : AutoForm) (p q : ℕ) (symbols : List ℕ) : Type 0 where
   pub run : List ℕ
   pub other_run : List ℕ
   pub walk : Walk m.table p run symbols (accept_of m)
   pub other_walk : Walk n.table q other_run symbols (accept_of n)
 
--- trusted, own: no list of symbols does so
+-- trusted, own: holds if no list of symbols leads `m` from `p` and `n` from `q` to their accepting states
 abbrev pub IsDead : AutoForm → AutoForm → ℕ → ℕ → Type 0
 IsDead m n p q = (symbols : List ℕ) → Leads m n p q symbols → ⊥
 
--- trusted, own: the list of symbols leads both machines from their starts to their accepting states
+-- trusted, own: holds if `symbols` lead `m` and `n` from their starts to their accepting states
 abbrev pub BothAccept : AutoForm → AutoForm → List ℕ → Type 0
 BothAccept m n symbols = Leads m n (start_of m) (start_of n) symbols
 
--- trusted, own: no list of symbols does so
+-- trusted, own: holds if no list of symbols leads `m` and `n` from their starts to their accepting states
 abbrev pub NoneInCommon : AutoForm → AutoForm → Type 0
 NoneInCommon m n = IsDead m n (start_of m) (start_of n)
 
@@ -62,7 +62,7 @@ IsDeadBehind m n edge edges least = (symbol next : ℕ) → edge.lo ≤ symbol �
 abbrev pub MarksDead : AutoForm → AutoForm → List ℕ → Type 0
 MarksDead m n marks = (number : ℕ) → Contains marks number → IsDead m n (number / states_of n) (number % states_of n)
 
--- trusted, own: the list of symbols has two different walks from the state to the accepting one
+-- trusted, own: holds if `symbols` have two different walks in `m` from `p` to the accepting state
 pub record HasTwoWalks (m : AutoForm) (p : ℕ) (symbols : List ℕ) : Type 0 where
   pub run : List ℕ
   pub other_run : List ℕ
@@ -70,7 +70,7 @@ pub record HasTwoWalks (m : AutoForm) (p : ℕ) (symbols : List ℕ) : Type 0 wh
   pub other_walk : Walk m.table p other_run symbols (accept_of m)
   pub differ : run ≡ other_run → ⊥
 
--- trusted, own: no list of symbols has
+-- trusted, own: holds if no list of symbols has two different walks in `m` from `p` to the accepting state
 abbrev pub IsSingle : AutoForm → ℕ → Type 0
 IsSingle m p = (symbols : List ℕ) → HasTwoWalks m p symbols → ⊥
 

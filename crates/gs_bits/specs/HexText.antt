@@ -4,7 +4,7 @@ use Rattle.std.specs.List.{AllPass}
 use Rattle.gs_chars.specs.Escapes.{hex_value, hex_digit}
 use Rattle.gs_bits.specs.Bits.{bits_of, number_of}
 
--- trusted, own: a byte is a hexadecimal digit of either case
+-- trusted, own: holds if the byte `c` is a hexadecimal digit of either case
 abbrev pub is_hex_digit : ℕ → Bool
 is_hex_digit c = is_some (hex_value c)
 
@@ -22,7 +22,7 @@ abbrev pub hex_of_bits : List ℕ → List ℕ
 hex_of_bits (a ∷ b ∷ c ∷ d ∷ bits) = hex_digit (number_of (a ∷ b ∷ c ∷ d ∷ [])) ∷ hex_of_bits bits
 hex_of_bits _ = []
 
--- trusted, own: the first byte that is not a digit is at this place
+-- trusted, own: holds if the first byte of `text` that is not a hexadecimal digit is at `place`
 pub record FirstBadDigit (text : List ℕ) (place : ℕ) : Type 0 where
   pub within : place < length text
   pub bad : hex_value (slice_index text place) ≡ None

@@ -44,6 +44,6 @@ pub record IsOfTable (ais : List AiRow) (set : ClassRows) : Type 0 where
   pub in_order : class_rejections ais rows ≡ []
   pub made : set ≡ set_of rows
 
--- trusted, own: no text has two different derivations in the set
+-- trusted, own: holds if no text has two different derivations in `set`
 abbrev pub IsClear : ClassRows → Type 0
 IsClear set = IsUnambiguous (item_lists set.level.options)

@@ -149,9 +149,9 @@ pub struct Class {
     pub key: Text,
     /// The AI of the element that identifies the class among the things of one key.
     pub element: Text,
-    /// How many digits of the key are before the company prefix and go with the rest, 0 or 1.
+    /// The number of digits of the key, 0 or 1, that are before the company prefix and go with the rest.
     pub lead: u8,
-    /// How many digits the GS1 Company Prefix has, 1 to 12.
+    /// The number of digits of the GS1 Company Prefix, 1 to 12.
     pub gcp: u8,
     /// The field of each item, none for literals.
     pub fields: List<Option<Field>>,

@@ -7,7 +7,7 @@ use Rattle.gs_ai.specs.declared.pair.Pair.{Pair}
 abbrev pub Form : Type 1
 Form = Pair → List ℕ → List ℕ → Type 0
 
--- trusted, GS1 General Specifications, section 7.8: the text is an element of each pair in turn, and then the rest
+-- trusted, GS1 General Specifications, section 7.8: holds if `text` is an element of each pair in turn, and then `rest`
 abbrev pub Joined : Form → List Pair → List ℕ → List ℕ → Type 0
 Joined Element [] text rest = text ≡ rest
 Joined Element (pair ∷ pairs) text rest =

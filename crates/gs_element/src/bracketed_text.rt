@@ -20,7 +20,7 @@ use std::alloc::Global;
 ///
 /// The error is the one at the smallest place: `Bracket` if `(` is missing, or if digits and `)` do not follow it. At the place
 /// of the code's first digit it is `Unknown` if no row has the code, or the error of the value. May return `Memory` instead.
-/// Reads the text from left to right. The pairs are lent by it, but for a value with a backslash before a bracket.
+/// Reads the text from left to right. It lends the pairs, except a value with a backslash before a bracket.
 pub fn read_bracketed<'a>(
     alloc: Global,
     table: &AiTable,

@@ -157,8 +157,8 @@ fn write_pairs(out: &mut Vec<u8>, pairs: &[Pair<'_>]) -> Result<(), Memory>
     Ok(())
 }
 
-/// Appends the element string of a key, of the pairs that qualify it, and of its attributes in the printed form, as
-/// `append_bracketed` does for an identity. Fails only with `Memory`; `out` then begins with its old contents.
+/// Appends the element string of a key, its qualifiers and its attributes in the printed form, as `append_bracketed` does for
+/// an identity. Fails only with `Memory`; `out` then begins with its old contents.
 pub fn append_bracketed_pairs(
     out: &mut Vec<u8>,
     key: &Pair<'_>,

@@ -54,12 +54,12 @@ abbrev pub value_from_prefix : TableRows → ℕ → List ℕ → List ℕ
 value_from_prefix set kind value =
     option_map_or (λ (row : Kind). drop row.lead (behind_zero (parts_at set.ais row.key) value)) (slice_get set.kinds kind) []
 
--- trusted, own: how many digits the piece has, by the two lengths of a kind, and 0 if it has none
+-- trusted, own: the number of digits of the piece, by the two lengths of a kind, and 0 if it has none
 abbrev pub piece_length : List ℕ → ℕ
 piece_length (a ∷ _) = a
 piece_length [] = 0
 
--- trusted, own: how many digits the total has, by the two lengths of a kind, and 0 if it has none
+-- trusted, own: the number of digits of the total, by the two lengths of a kind, and 0 if it has none
 abbrev pub total_length : List ℕ → ℕ
 total_length (_ ∷ b ∷ _) = b
 total_length _ = 0
@@ -110,7 +110,7 @@ take_apart ais kind identity n =
     option_map (fields_at (parts_at ais kind.key) kind n identity.key.value)
     (serial_in ais (parts_at ais kind.key) kind.serial identity)
 
--- trusted, own: an EPC of these fields, without the encoding and the filter of a tag
+-- trusted, own: the EPC of `fields`, without the encoding and the filter of a tag
 abbrev pub epc_of_key : ℕ → ℕ → KeyFields → Epc
 epc_of_key kind n fields =
     record {

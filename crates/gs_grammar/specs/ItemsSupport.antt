@@ -14,7 +14,7 @@ greatest_of (Int most) = most
 greatest_of (Num bits most) = most
 greatest_of _ = 0
 
--- the number of a value, as an item writes it: of digits behind a 1 with it, and 0 if the item is of no number
+-- the number that an item writes of `value`: of digits after a 1 with the 1, and 0 if the item writes no number
 abbrev pub number_of_value : Item → List ℕ → ℕ
 number_of_value (Int most) value = decimal_value value
 number_of_value (NumPad bits n) value = decimal_value value

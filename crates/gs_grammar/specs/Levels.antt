@@ -18,7 +18,7 @@ pub record LevelForm : Type 0 where
   pub bit_level : Bool
   pub options : List OptionForm
 
--- trusted, own: each option is of this kind: its symbols are bits, or they are not
+-- trusted, own: holds if each option is of the kind `bit_level`: its symbols are bits, or they are not
 abbrev pub AreOfKind : Bool → List OptionForm → Type 0
 AreOfKind bit_level options = All (λ (option : OptionForm). option.bit_level ≡ bit_level) options
 

@@ -72,8 +72,8 @@ fn judge_digits(front: u8, value: &[u8], size: bool, bits: u8) -> Result<u64, Wh
     }
 }
 
-/// Returns the number that the characters write, or the first reason why they do not write a number without leading zeros that
-/// is at most the greatest and has room in this many bits.
+/// Returns the number that the characters write, or the first reason against it. The number has no leading zeros, is at most
+/// the greatest, and fits in this many bits.
 fn judge_number(value: &[u8], greatest: u64, bits: u8) -> Result<u64, Why>
     ensures reason { IsJudged result (why_not (Num bits greatest) value.now) }
     ensures number { IfOk result (λ number. number ≡ decimal_value value.now) }

@@ -7,7 +7,7 @@ use Rattle.gs_ambig.specs.declared.machine.Edge.{Edge}
 use Rattle.gs_grammar_compile.specs.Tables.{edge}
 use Rattle.gs_grammar_compile.specs.CodeTables.{edge_where}
 
--- how many states a layer has
+-- the number of states of a layer
 abbrev pub layer_states : ℕ → ℕ
 layer_states hi = 2 + 2 * hi
 

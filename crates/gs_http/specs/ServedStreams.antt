@@ -29,7 +29,7 @@ writes_when Memory count = count
 
 -- ---- a whole connection
 
--- trusted, own: a fact for a connection that was served whole
+-- trusted, own: holds if the connection was not served whole, or `fact` holds
 abbrev pub OnDone : Served → Type 0 → Type 0
 OnDone Done fact = fact
 OnDone ReadFault fact = ⊤

@@ -19,7 +19,7 @@ abbrev pub reads_at : Turn → ℕ → ℕ
 reads_at Stays count = count
 reads_at (Over served) count = reads_when served count
 
--- the same of the writes
+-- the same for the writes
 abbrev pub writes_at : Turn → ℕ → ℕ
 writes_at Stays count = count
 writes_at (Over served) count = writes_when served count

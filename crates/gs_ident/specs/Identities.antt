@@ -27,7 +27,7 @@ stands_for_none table pair =
 abbrev pub counted : List AiRow → List Pair → List Pair
 counted table pairs = filter (λ pair. not (stands_for_none table pair)) pairs
 
--- trusted, own: an earlier pair has the code and another value
+-- trusted, own: holds if a pair of `earlier` has the code of `pair` and another value
 abbrev pub contradicts : List Pair → Pair → Bool
 contradicts earlier pair = list_any (λ other. bytes_eq other.code pair.code && not (bytes_eq other.value pair.value)) earlier
 
@@ -48,11 +48,11 @@ other_key table pairs key = find (λ pair. is_key_of table pair.code && not (byt
 abbrev pub listed : List AiRow → Pair → List (List ℕ)
 listed table key = option_map_or (λ row. row.qualifiers) (find (has_code key.code) table) []
 
--- trusted, own: the pair's code is neither the key's nor listed
+-- trusted, own: holds if the code of `pair` is neither that of `key` nor in `codes`
 abbrev pub is_other : List (List ℕ) → Pair → Pair → Bool
 is_other codes key pair = not (bytes_eq key.code pair.code) && not (list_any (bytes_eq pair.code) codes)
 
--- trusted, own: each pair with its code
+-- trusted, own: the list of each pair with its code
 abbrev pub keyed : List Pair → List (List ℕ × Pair)
 keyed pairs = map (λ pair. (pair.code, pair)) pairs
 
@@ -92,11 +92,11 @@ identity_of_counted table pairs = by_contradiction table pairs (contradiction pa
 abbrev pub identity_of_pairs : List AiRow → List Pair → Result Elements IdentFault
 identity_of_pairs table pairs = identity_of_counted table (counted table pairs)
 
--- trusted, own: The value is one of its code's.
+-- trusted, own: holds if the value of `pair` is valid for its code
 pub record IsInOrder (table : List AiRow) (pair : Pair) : Type 0 where
   pub fits : value_error table pair.code pair.value ≡ None
 
--- trusted, own: The identity was made with the table: each of its pairs is valid, and its pairs have this identity.
+-- trusted, own: holds if each pair of `identity` is valid by `table`, and its pairs have this identity
 pub record IsMadeWith (table : List AiRow) (identity : Elements) : Type 0 where
   pub in_order : All (IsInOrder table) (pairs_of identity)
   pub given_back : identity_of_pairs table (pairs_of identity) ≡ Ok identity

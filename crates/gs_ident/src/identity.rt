@@ -74,8 +74,8 @@ impl<'a> Identity<'a> {
         Ok(Identity::from_pairs(key, qualifiers, Vec::new(alloc)))
     }
 
-    /// Returns the identity of the key and the first `k` qualifiers, which lends none. Fails only with `Memory`. `k`, how many
-    /// qualifiers are kept, is at most their number.
+    /// Returns the identity of the key and the first `k` qualifiers, which lends none. Fails only with `Memory`. `k`, the
+    /// number of qualifiers that are kept, is at most theirs.
     pub fn prefix(&self, alloc: Global, k: usize) -> Result<Identity<'static>, Memory>
         requires { k ≤ length self.now.qualifiers }
         ensures { IfOk result (λ identity. identity ≡ first_qualifiers k self.now) }

@@ -10,7 +10,7 @@ use Rattle.gs_linkset.specs.declared.link_types.AttrValue.TheVariants.{One, Many
 use Rattle.gs_links.specs.Choices.{passing}
 use Rattle.gs_links.specs.declared.link.Link.{Link}
 
--- trusted, RFC 9264, section 4.2.4.1: a value of `hreflang` is a list of language tags
+-- trusted, RFC 9264, section 4.2.4.1: the language tags of a value of `hreflang`, which is a list
 abbrev pub texts_of : AttrValue → List (List ℕ)
 texts_of (Many texts) = texts
 texts_of (One text) = []
@@ -25,11 +25,12 @@ tags_among (attr ∷ attrs) = if bytes_eq attr.name (codes "hreflang") then text
 abbrev pub tags_of : Link → List (List ℕ)
 tags_of link = tags_among link.target.attrs
 
--- trusted, RFC 4647, section 2: tags and ranges are compared without regard to the case of ASCII letters
+-- trusted, RFC 4647, section 2: the text in lower case, since tags and ranges are compared without regard to the case of ASCII
+-- letters
 abbrev pub lowered : List ℕ → List ℕ
 lowered text = map to_ascii_lowercase text
 
--- trusted, RFC 4647, section 3.3.1: nothing or a hyphen comes next
+-- trusted, RFC 4647, section 3.3.1: holds if the text is empty or begins with a hyphen
 abbrev pub is_cut : List ℕ → Bool
 is_cut [] = true
 is_cut (c ∷ rest) = c == 45
@@ -38,11 +39,11 @@ is_cut (c ∷ rest) = c == 45
 abbrev pub is_in_range : List ℕ → List ℕ → Bool
 is_in_range range tag = bytes_eq (lowered (take (length range) tag)) (lowered range) && is_cut (drop (length range) tag)
 
--- trusted, RFC 4647, section 2.1: the range `*` is that of every language
+-- trusted, RFC 4647, section 2.1: holds if `range` is `*`, that of every language
 abbrev pub is_any : List ℕ → Bool
 is_any range = bytes_eq range (codes "*")
 
--- trusted, own: a link matches the range `*`, and a range that one of its tags is in
+-- trusted, own: holds if `range` is `*`, or one of the tags of `link` is in it
 unfoldable pub matches : List ℕ → Link → Bool
 matches range link = is_any range || list_any (is_in_range range) (tags_of link)
 

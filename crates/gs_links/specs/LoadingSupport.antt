@@ -8,7 +8,7 @@ use Rattle.gs_linkset.specs.declared.link_types.Relation.{Relation}
 use Rattle.gs_links.specs.declared.error.StoreFault.{StoreFault}
 use Rattle.gs_links.specs.Loads.{context_errors, OrMemory}
 
--- how many targets the relations, and the contexts have
+-- the number of targets of the relations, and of the contexts
 abbrev pub relations_count : List Relation → ℕ
 relations_count relations = length (flat_map (λ relation. relation.targets) relations)
 

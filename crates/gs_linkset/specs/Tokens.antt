@@ -34,7 +34,7 @@ pub record Begins {A : Type 0} (found : Option (A × List Token)) (Has : A → T
   pub is : found ≡ Some (first, rest)
   pub has : Has first
 
--- holds if `result` is the answer to what is found, or `Memory`
+-- holds if `result` is the answer to the value that was found, or `Memory`
 abbrev pub Answers : {A X : Type 0} → (A → Result X JsonFault) → Option (A × List Token) → List Token → Result X JsonFault → Type 0
 Answers answer found rest result = Begins found (λ first. OrMemory result (answer first)) rest
 

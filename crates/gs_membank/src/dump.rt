@@ -30,7 +30,7 @@ pub struct Dump {
 /// The contents of a protocol control word (TDS 2.0, section 9).
 #[derive(Clone, Copy)]
 struct ControlWord {
-    /// How many words of 16 bits the encoding after it has, at most 31.
+    /// The number of words of 16 bits of the encoding after it, at most 31.
     pub words: u8,
     /// Whether user memory has contents.
     pub user: bool,

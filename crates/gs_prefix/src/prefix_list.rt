@@ -95,9 +95,9 @@ impl PrefixList {
         self.entries.len()
     }
 
-    /// Returns how many digits the company prefix has with which the digits begin: the length of the longest entry that is a
-    /// prefix of the digits. `None` is returned if and only if no entry is one, or the length of the longest is 0. Does not
-    /// allocate, and looks into the list at most twelve times.
+    /// Returns the length of the company prefix with which the digits begin: that of the longest entry that is a prefix of
+    /// them. `None` is returned if and only if no entry is one, or the length of the longest is 0. Does not allocate, and looks
+    /// into the list at most twelve times.
     #[tactic(auto, unfolding(crate::specs::Lengths::prefix_length))]
     pub fn length_of(&self, digits: &[u8]) -> Option<u8>
         ensures length { result ≡ prefix_length self.now digits.now }

@@ -50,7 +50,7 @@ pub record KeptOption (set : TableRows) (level : LevelName) (items : List Item) 
   pub serial : keeps_serial (serial_room set.ais of_kind.form kind.serial) (items_of_field Serial parts) ≡ true
   pub further : keeps_further of_kind.form (items_of_field Piece parts) (items_of_field Total parts) ≡ true
 
--- trusted, own: each option of a level satisfies the rules
+-- trusted, own: holds if each option of `level` satisfies the rules
 abbrev pub AreKept : TableRows → LevelName → Type 0
 AreKept set level =
     (i : ℕ) (items : List Item) (info : OptInfo) → slice_get (item_lists (level_rows level set).level.options) i ≡ Some items

@@ -19,7 +19,7 @@ use Rattle.gs_tables_document.specs.declared.document.OptionRow.{OptionRow}
 abbrev pub with_member : List ℕ → Data → Data → Data
 with_member name value d = option_map_or (λ members. object (put name value members)) (as_object d) d
 
--- trusted, own: a kind with no further fields
+-- trusted, own: the kind with an empty list of further fields
 abbrev pub with_fields : Data → Data
 with_fields kind = with_member (codes "fields") (array no_items) kind
 
@@ -38,20 +38,20 @@ second_version d =
 abbrev pub migrated : List ℕ → List ℕ
 migrated bytes = option_map_or (λ d. compact_text (second_version d)) (document_of bytes) []
 
--- trusted, own: the text is the migrated text of these bytes
+-- trusted, own: holds if `text` is the migrated text of `bytes`
 abbrev pub IsMigrated : List ℕ → List ℕ → Type 0
 IsMigrated bytes text = text ≡ migrated bytes
 
--- trusted, own: each place of an option's items has an item
+-- trusted, own: holds if each place of the items of `row` has an item
 abbrev pub has_items : OptionRow → Bool
 has_items row = list_all is_some row.items
 
--- trusted, own: a part that is one of the profile
+-- trusted, own: holds if the part is one of the profile
 abbrev pub is_known_part : Part → Bool
 is_known_part Other = false
 is_known_part _ = true
 
--- trusted, own: each part of an application identifier is one of the profile
+-- trusted, own: holds if each part of the application identifier `row` is one of the profile
 abbrev pub has_parts : AiRow → Bool
 has_parts row = list_all is_known_part row.parts
 

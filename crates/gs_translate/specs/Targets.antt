@@ -26,7 +26,7 @@ use Rattle.gs_translate.specs.declared.reason.Reason.TheVariants.{NoKind, Extra,
 
 -- ---- the kind of a key
 
--- trusted, own: the key of the kind has the code
+-- trusted, own: holds if the key of `kind` has the code `code`
 abbrev pub has_key : List ℕ → Kind → Bool
 has_key code kind = bytes_eq code kind.key
 
@@ -93,11 +93,11 @@ abbrev pub known_length : TableRows → List PrefixEntry → Options → Meaning
 known_length set prefixes options meaning kind =
     option_or meaning.gcp (option_or options.gcp (prefix_length prefixes (digits_from_prefix set kind meaning.identity.key.value)))
 
--- trusted, own: an option is of the kind and the length
+-- trusted, own: holds if the option `info` is of the kind `kind` and the company prefix length `n`
 abbrev pub is_option_of : ℕ → ℕ → OptInfo → Bool
 is_option_of kind n info = (info.kind == kind) && (info.gcp == n)
 
--- trusted, own: an option of any level is of the kind and the length
+-- trusted, own: holds if an option of any level is of the kind `kind` and the company prefix length `n`
 abbrev pub has_option : TableRows → ℕ → ℕ → Bool
 has_option set kind n =
     list_any (is_option_of kind n) set.binary.info || list_any (is_option_of kind n) set.tag.info || list_any (is_option_of kind n) set.pure.info
@@ -118,7 +118,7 @@ FitsFilter filter = IfSome filter (λ number. number ≤ 7)
 abbrev pub filter_for : Options → Meaning → Option ℕ
 filter_for options meaning = option_or meaning.filter options.filter
 
--- trusted, own: a filter value is missing; a pure identity needs none
+-- trusted, own: holds if there is no filter value, and the level is not that of pure identities
 abbrev pub lacks_filter : LevelName → Option ℕ → Bool
 lacks_filter Pure filter = false
 lacks_filter Tag filter = is_none filter

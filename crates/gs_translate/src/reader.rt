@@ -171,8 +171,8 @@ fn link_identity<'a>(alloc: Global, set: &TableSet, text: &'a [u8]) -> Result<Id
     identity_of(alloc, set, pairs)
 }
 
-/// Returns the identity that an element string or a link names, or why it names none, as `read` does for a text of at most 2,048
-/// bytes. A canonical link is a link.
+/// Returns the identity that an element string or a link names, or the reason, like `read` for a text of at most 2,048 bytes. A
+/// canonical link is a link.
 pub(crate) fn identity_in<'a>(
     alloc: Global,
     set: &TableSet,

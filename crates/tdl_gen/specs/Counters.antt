@@ -7,7 +7,7 @@ use Rattle.tdl_lines.specs.Printers.{PrintedAs}
 use Rattle.gs_tables.specs.Tables.{TableRows}
 use Rattle.tdl_gen.specs.Counts.{Generated}
 
--- trusted, own: the line of counts was written whole and the status is `Done`, or a prefix of it was written
+-- trusted, own: holds if the line of counts was written whole and `status` is `Done`, or a prefix of it after an error
 abbrev pub PrintsGenerated : TableRows → ℕ → List ℕ → Status → Type 0
 PrintsGenerated set lines output status = (line : List ℕ) × Generated set lines line × PrintedAs Done line output status
 

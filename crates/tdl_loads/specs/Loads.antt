@@ -249,13 +249,13 @@ Loading files asked Fact = (loaded : Loaded) × FilesGive files asked (Ok loaded
 abbrev pub Stopping : Option FilesInMemory → Asked → (Stop → Type 0) → Type 0
 Stopping files asked Fact = (stop : Stop) × FilesGive files asked (Err stop) × Fact stop
 
--- trusted, own: whether files are not loaded because memory ran out
+-- trusted, own: holds if files are not loaded because memory ran out
 abbrev pub is_short : Unloaded → Bool
 is_short (Refused rejection) = false
 is_short ReadFault = false
 is_short OutOfMemory = true
 
--- trusted, own: whether memory ran out in a load
+-- trusted, own: holds if memory ran out in a load
 abbrev pub is_load_short : {A : Type 0} → Result A Unloaded → Bool
 is_load_short (Ok a) = false
 is_load_short (Err unloaded) = is_short unloaded
