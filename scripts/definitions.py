@@ -205,7 +205,7 @@ def definitions_in(nodes):
 
 
 def kit_words(specs, nodes):
-    """The words of the kit's libraries that the formulas of nodes use: each a crate, a file and a name."""
+    """The words of the kit's libraries that the formulas of nodes use."""
     own = set(crates())
     places = {specs.imports[it.crate, it.file].get(name) for it in definitions_in(nodes) for name in it.uses()}
-    return {place for place in places if place and place[0] not in own}
+    return {place[2] for place in places if place and place[0] not in own}
