@@ -208,7 +208,7 @@ def sizes(specs):
         ("all clauses of `run`", specs.reached(run)),
         ("all public calls of all crates", specs.reached(specs.items)),
     ]
-    yield "| To read what this claims | Definitions | Lines | Words of the kit |\n|---|---:|---:|---:|\n"
+    yield "| What is claimed by | Definitions | Lines | Words of the kit |\n|---|---:|---:|---:|\n"
     for name, nodes in parts:
         found = definitions_in(nodes)
         yield f"| {name} | {len(found):,} | {sum(len(it.formula) for it in found):,} | {len(kit_words(specs, nodes)):,} |\n"
