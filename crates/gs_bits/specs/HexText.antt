@@ -32,7 +32,7 @@ pub record FirstBadDigit (text : List ℕ) (place : ℕ) : Type 0 where
 abbrev pub NeedsMoreThan : ℕ → List ℕ → Type 0
 NeedsMoreThan most text = (length text % 2 ≡ 0) × (2 * most < length text)
 
--- trusted, own: holds if the text has the length of at most `n` whole bytes; this is the place of its first byte that is not a
--- hexadecimal digit
+-- trusted, own: holds if the text has at most the length of `n` bytes, and its first byte that is not a hexadecimal digit is at
+-- this place
 abbrev pub HasBadDigitWithin : ℕ → List ℕ → ℕ → Type 0
 HasBadDigitWithin most text place = (length text % 2 ≡ 0) × (length text ≤ 2 * most) × FirstBadDigit text place

@@ -51,8 +51,8 @@ impl Model for ClassSet {
 }
 
 impl ClassSet {
-    /// Returns the set that a document in JSON gives: an object with exactly `version`, the number 1, and `classes`, an array
-    /// of objects with exactly `name`, `key`, `lead`, `element`, `gcp` and `items`. Returns the first rejection in this order.
+    /// Returns the set of a document in JSON. It is an object with exactly `version`, the number 1, and `classes`, an array of
+    /// objects with exactly `name`, `key`, `lead`, `element`, `gcp` and `items`. Returns the first rejection in this order.
     /// `Json`: the bytes are not JSON text, or the document or a row does not have this form. `Version`: the version is not 1.
     /// `Limit`: more than 256 classes, or 24 items of one. Then, row by row, four rejections. `BadItem`: its first bad item.
     /// `Size`. `Mismatch`: it breaks a rule given the table and the earlier rows. `Duplicate`: the first earlier row of one

@@ -1,8 +1,7 @@
-//! Class URIs: the class of things that a text names, such as a lot of a trade item, and the text that is written of its
-//! identity.
+//! Class URIs: the class of things that a text names, such as a lot of a trade item, and the text of its identity.
 //!
-//! - `ClassSet::load` reads a document of classes (JSON), or gives its first rejection; `ClassSet::builtin` makes the set of the built-in
-//!   rows, and `ClassSet::none` that of no class.
+//! - `ClassSet::load` reads a document of classes (JSON), or gives its first rejection. `ClassSet::builtin` makes the set of
+//!   the built-in rows, and `ClassSet::none` the empty set.
 //! - `read_class` gives the identity that a class URI names; `write_class` the class URI of an identity.
 //!
 //! # Example

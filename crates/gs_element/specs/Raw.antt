@@ -46,8 +46,8 @@ IsRaw table text pairs = Joined (IsRawElement table) pairs (body_of text) []
 
 -- ---- errors
 
--- trusted, GS1 General Specifications, section 7.8: the value that is cut after a code: the part that the predefined length
--- leaves to it, or all before the next byte 29; the whole rest if that is shorter
+-- trusted, GS1 General Specifications, section 7.8: The value that is cut after a code: the part that the predefined length
+-- leaves to it, or all before the next byte 29. It is the whole rest if that is shorter.
 abbrev pub raw_value : List ℕ → List ℕ → List ℕ
 raw_value code after =
     option_map_or (λ n. take (n - length code) after) (predefined_length code) (before_first (λ c. c == 29) after)

@@ -1,4 +1,4 @@
--- The consequence of the rules of tables for an EPC of the set: its fields have the lengths and characters of the key of its
+-- The consequence of the rules of tables for an EPC of the set. Its fields have the lengths and characters of the key of its
 -- kind.
 use Rattle.std.specs.Prelude.{◌≡◌, ◌≤◌, ◌-◌, ℕ, List, [], ◌∷◌, length, Option, Some, None, IsTrue}
 use Rattle.gs_chars.specs.Characters.{are_digits, are_in_set82}

@@ -17,8 +17,8 @@ use Rattle.gs_tables_document.specs.declared.document.SerialAt.TheVariants.{Nowh
 use Rattle.gs_tables.specs.Tables.{TableRows}
 use Rattle.gs_epc.specs.declared.epc.Epc.{Epc}
 
--- trusted, own: the fields of a key by its kind: the company prefix, the rest, the piece and the total, which are empty if the
--- kind has none, and the serial
+-- trusted, own: The fields of a key by its kind: the company prefix, the rest, the piece and the total, and the serial. Piece
+-- and total are empty if the kind has none.
 pub record KeyFields : Type 0 where
   pub prefix : List ℕ
   pub rest : List ℕ
@@ -45,8 +45,8 @@ abbrev pub zero_in_front : List Part → List ℕ
 zero_in_front (Zero ∷ _) = codes "0"
 zero_in_front _ = []
 
--- trusted, own: The digits of the key without its check digit: the indicator digit of a GTIN or the extension digit of an SSCC,
--- the company prefix, and the other digits of the reference.
+-- trusted, own: The digits of the key without its check digit. They are the indicator digit of a GTIN or the extension digit of
+-- an SSCC, the company prefix, and the other digits of the reference.
 abbrev pub key_digits : ℕ → List ℕ → List ℕ → List ℕ
 key_digits lead prefix rest = take lead rest ++ prefix ++ drop lead rest
 

@@ -24,8 +24,8 @@ has_bit n number = number / 2 ^ n % 2 == 1
 abbrev pub is_highest : ℕ → ℕ → Bool
 is_highest n number = nat_le (2 ^ n) number && nat_lt number (2 * 2 ^ n)
 
--- the edges with a first 1 after zeros, to the states of a count of digits: one if it is the highest bit of the least number,
--- and one if it is that of the greatest only
+-- The edges with a first 1 after zeros, to the states of a count of digits. One is there if it is the highest bit of the least
+-- number, and one if it is only that of the greatest.
 abbrev pub lead_edges : ℕ → ℕ → ℕ → ℕ → List Edge
 lead_edges n next power count =
     edge_where (is_highest n power) 1 (layer_state n next (2 * count)) ++ edge_where (nat_lt power (2 ^ n) && nat_lt (2 ^ n) (2 * power)) 1 (layer_state n next (2 * count + 1))

@@ -24,8 +24,8 @@ StandWithin [] w = Unit {0}
 StandWithin (place ∷ places) [] = ⊥
 StandWithin (place ∷ places) (symbol ∷ w) = MayStand place symbol × StandWithin places w
 
--- the places of the words of an item whose words have one length: those of a literal have one symbol each, those of digits the
--- digits, those of numbers and of packed characters the bits
+-- The places of the words of an item whose words have one length. Those of a literal have one symbol each, those of digits the
+-- digits, those of numbers and of packed characters the bits.
 abbrev pub places_of : Item → List Place
 places_of (Lit literal) = map (λ symbol. place_of symbol symbol) literal
 places_of (Pad n) = replicate n (place_of 48 57)

@@ -28,8 +28,8 @@ use Rattle.gs_http.specs.Heads.{Asked}
 use Rattle.gs_http.specs.LanguageRanges.{accepted_ranges}
 use Rattle.gs_http.specs.Wishes.{Wish, for_linkset, for_relation, wish_of}
 
--- trusted, RFC 9110, section 15: The answer to a request: the resolver description file; a linkset; several links to choose from;
--- one link to redirect to; or that the request is bad, that nothing is found, or that the method is not allowed.
+-- trusted, RFC 9110, section 15: The answer to a request: the resolver description file, a linkset, several links to choose
+-- from, or one link to redirect to. Or it is that the request is bad, that nothing is found, or that the method is not allowed.
 pub data Answer : Type 0 where
   linkset : Rendered → Answer
   described choices redirect : List ℕ → Answer

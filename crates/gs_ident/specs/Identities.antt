@@ -1,5 +1,6 @@
--- The identity of a list of elements: GS1 Digital Link URI Syntax, section 3 (keys, qualifiers and attributes), and GS1 General
--- Specifications, section 4.14 (elements used together). The treatment of repeated elements is this project's own.
+-- The identity of a list of elements. The rules are those of GS1 Digital Link URI Syntax, section 3 (keys, qualifiers and
+-- attributes), and GS1 General Specifications, section 4.14 (elements used together). The treatment of repeated elements is
+-- this project's own.
 use Rattle.std.specs.Prelude.{◌≡◌, ℕ, Bool, false, not, ◌&&◌, List, [], All, take, map, filter, find, Option, Some, None, Result, Ok, Err, bytes_eq}
 use Rattle.std.specs.Cmp.Lexicographic.{slice_cmp}
 use Rattle.std.specs.FinMap.{from_entries, values}
@@ -60,8 +61,8 @@ keyed pairs = map (λ pair. (pair.code, pair)) pairs
 unfoldable pub ascending : List Pair → List Pair
 ascending pairs = values (from_entries {R = slice_cmp nat_cmp} (keyed pairs))
 
--- trusted, GS1 Digital Link URI Syntax, section 3; the order of the attributes is own: The key, the pairs of the listed
--- codes in the order of the list, and all other pairs in ascending order of their codes: each code once.
+-- trusted, GS1 Digital Link URI Syntax, section 3; the order of the attributes is own: The key, the pairs of the listed codes
+-- in the order of the list, and all other pairs in ascending order of their codes. Each code occurs once.
 unfoldable pub elements_of : List AiRow → List Pair → Pair → Elements
 elements_of table pairs key = record {
   key = key;

@@ -214,8 +214,8 @@ fn add_room(before: usize, pairs: &[Pair<'_>]) -> usize
 }
 
 impl Identity<'_> {
-    /// Returns the number of bytes of the codes and values of the pairs, with two more for each pair: the memory that is taken
-    /// for a text of them. It is 2 to the 64 less 1 if they are more.
+    /// Returns the number of bytes of the codes and values of the pairs, with two more for each pair. This is the memory that
+    /// is taken for a text of them. It is 2 to the 64 less 1 if they are more.
     pub fn room(&self) -> usize
         ensures { result ≡ min (room_of_pairs (pairs_of self.now)) (2 ^ 64 - 1) }
     {

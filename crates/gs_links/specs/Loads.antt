@@ -1,4 +1,4 @@
--- How the links of a linkset are loaded: the anchors are GS1 Digital Links (GS1 Digital Link URI Syntax, section 3) of a key
+-- How the links of a linkset are loaded. The anchors are GS1 Digital Links (GS1 Digital Link URI Syntax, section 3) of a key
 -- and its qualifiers. The limits and the order of the rejections are this project's own.
 use Rattle.std.specs.Prelude.{ℕ, Bool, not, ◌&&◌, ◌==◌, nat_le, nat_lt, if◌then◌else◌, List, [], ◌∷◌, ◌++◌, map, length, drop, codes, position, Option, Result, Ok, Err}
 use Rattle.std.specs.List.{enumerate_from, flat_map, list_all, starts_with}

@@ -1,4 +1,4 @@
--- The text of a linkset (RFC 9264, section 4.2): JSON (RFC 8259) with no space, and the members of each object in ascending
+-- The text of a linkset (RFC 9264, section 4.2): JSON (RFC 8259) with no space. The members of each object are in ascending
 -- order of name, which is this project's own rule.
 use Rattle.std.specs.Prelude.{ℕ, List, [], ◌∷◌, map, codes}
 use Rattle.serde_json.specs.Data.{Data, string, array, object, Members, no_members, member, put}

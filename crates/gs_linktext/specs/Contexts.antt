@@ -27,8 +27,8 @@ last_name [] = []
 last_name (relation ∷ []) = relation.name
 last_name (relation ∷ next ∷ relations) = last_name (next ∷ relations)
 
--- trusted, own: holds if a context cannot go on with the links of the next: their anchors differ, or the relation of the next
--- one's first link is below that of its last link
+-- trusted, own: Holds if a context cannot go on with the links of the next. Their anchors differ, or the relation of the next
+-- one's first link is below that of its last link.
 abbrev pub is_apart : Context → Context → Bool
 is_apart context next = not (bytes_eq context.anchor next.anchor) || is_below (first_name next.relations) (last_name context.relations)
 
@@ -42,8 +42,8 @@ are_apart (context ∷ next ∷ contexts) = is_apart context next && are_apart (
 abbrev pub ascends : Context → Bool
 ascends context = ascend (relation_names context.relations)
 
--- trusted, own: holds if the contexts have these links, each has a link, and the names of the relations ascend in each; a new
--- context begins only if it has to
+-- trusted, own: Holds if the contexts have these links, each has a link, and the names of the relations ascend in each. A new
+-- context begins only if it has to.
 pub record IsCut (links : List (List ℕ × List ℕ × Target)) (contexts : List Context) : Type 0 where
   pub same : links_of_document contexts ≡ links
   pub ascending : list_all ascends contexts ≡ true

@@ -10,8 +10,8 @@ use Rattle.gs_linktext_grammar.specs.declared.lexeme.Lexeme.TheVariants.{Comma, 
 abbrev pub with_byte : ℕ → Option (List ℕ × List ℕ) → Option (List ℕ × List ℕ)
 with_byte c read = option_map (λ pair. (c ∷ pair.0, pair.1)) read
 
--- trusted, RFC 9110, section 5.6.4: the text of a quoted string after its first quotation mark, without its backslashes, and the
--- rest after its last mark; none if it does not end, or has a byte that is not allowed
+-- trusted, RFC 9110, section 5.6.4: The text of a quoted string after its first quotation mark, without its backslashes, and
+-- the rest after its last mark. It is none if the string does not end, or has a byte that is not allowed.
 abbrev pub unquoted : List ℕ → Option (List ℕ × List ℕ)
 unquoted [] = None
 unquoted (c ∷ []) = if c == 34 then Some ([], []) else None

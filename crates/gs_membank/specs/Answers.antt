@@ -1,5 +1,5 @@
--- The answers to dumps and to the lines that show them: TDS 2.0, sections 9 (the control word), 12 (tag URIs), 14 (bits) and 15
--- (the contents of the bank). The order of errors and the form of the lines are this project's own.
+-- The answers to dumps and to the lines that show them. They follow TDS 2.0, sections 9 (the control word), 12 (tag URIs), 14
+-- (bits) and 15 (the contents of the bank). The order of errors and the form of the lines are this project's own.
 use Rattle.std.specs.Prelude.{◌≡◌, ◌<◌, ◌≤◌, ◌*◌, ℕ, Bool, true, false, List, ◌++◌, length, Result, Ok, Err}
 use Rattle.gs_bits.specs.HexText.{bits_of_hex, hex_of_bits}
 use Rattle.gs_grammar.specs.Derivations.{Derivation}

@@ -1,5 +1,5 @@
--- The merged document of the links of stores: RFC 9264, section 4.2, with the canonical link of an anchor as its one name
--- (GS1 Digital Link URI Syntax, section 5). No standard says how link documents are merged: this is the project's own.
+-- The merged document of the links of stores (RFC 9264, section 4.2). An anchor is written only by its canonical link (GS1
+-- Digital Link URI Syntax, section 5). No standard says how link documents are merged: this is the project's own.
 use Rattle.std.specs.Prelude.{◌≡◌, ◌⊎◌, ℕ, Bool, not, nat_lt, if◌then◌else◌, List, [], ◌++◌, codes, filter, fold, map, Result, Ok, Err}
 use Rattle.std.specs.BTreeSet.{insert_key}
 use Rattle.std.specs.Cmp.Lexicographic.{slice_cmp}

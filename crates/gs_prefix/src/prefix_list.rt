@@ -51,10 +51,10 @@ impl PrefixList {
         }
     }
 
-    /// Returns the list that a document in JSON gives: an object with exactly `version`, the number 1, and `prefixes`, an array
-    /// of objects with exactly `prefix`, a text, and `length`, a number. Of the rejections the first in this order is the answer.
-    /// `Json`: the bytes are not JSON text; the document, its version or an entry has not this form. `Limit`: more than 65,536
-    /// entries. Then entry by entry `BadPrefix`, `BadLength`, `Twice`. May return `Memory` instead.
+    /// Returns the list of a document in JSON. It is an object with exactly `version`, the number 1, and `prefixes`, an array
+    /// of objects with exactly `prefix`, a text, and `length`, a number. Of the rejections the first in this order is the
+    /// answer. `Json`: the bytes are not JSON text; the document, its version or an entry has not this form. `Limit`: more than
+    /// 65,536 entries. Then entry by entry `BadPrefix`, `BadLength`, `Twice`. May return `Memory` instead.
     pub fn load(alloc: Global, bytes: &[u8]) -> Result<PrefixList, PrefixFault>
         ensures { OrMemory result (load_answer bytes.now) }
     {

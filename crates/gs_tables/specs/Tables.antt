@@ -100,8 +100,8 @@ fits ais kinds level row =
 unfoldable pub is_same : OptionRow → OptionRow → Bool
 is_same a b = bytes_eq a.kind b.kind && bytes_eq a.encoding b.encoding && (a.gcp == b.gcp)
 
--- trusted, own: the rejections of option i of a level, in their order: its first bad item, its size, a rule of its kind, and
--- the first earlier option that is the same
+-- trusted, own: The rejections of option i of a level, in their order. They are its first bad item, its size, a rule of its
+-- kind, and the first earlier option that is the same.
 unfoldable pub option_rejections : List AiRow → List KindRow → LevelName → List OptionRow → ℕ × OptionRow → List LoadFault
 option_rejections ais kinds level rows row =
     option_to_list (option_map (λ k. BadItem level row.0 k) (position (is_bad_item (is_bits level)) row.1.items))

@@ -1,5 +1,5 @@
--- Table documents of version 1 as documents of version 2, this project's own: the same tree with the version 2 and, in each
--- kind, no further fields.
+-- Table documents of version 1 as documents of version 2, this project's own. The tree is the same, with the version 2 and, in
+-- each kind, no further fields.
 use Rattle.std.specs.Prelude.{◌≡◌, ℕ, ◌==◌, ◌||◌, Bool, true, false, if◌then◌else◌, List, [], map, codes, is_some}
 use Rattle.std.specs.List.{list_all}
 use Rattle.std.specs.Option.{option_map_or}
@@ -33,8 +33,8 @@ second_version d =
     if is_second d then d
     else with_member (codes "version") (number (unsigned 2)) (with_member (codes "kinds") (kinds_with_fields d) d)
 
--- trusted, own: the migrated text of a document: the JSON text of its second version, with no space and the members of each
--- object in ascending order of name; and nothing of bytes that are not JSON text
+-- trusted, own: The migrated text of a document: the JSON text of its second version, with no space and the members of each
+-- object in ascending order of name. It is empty for bytes that are not JSON text.
 abbrev pub migrated : List ℕ → List ℕ
 migrated bytes = option_map_or (λ d. compact_text (second_version d)) (document_of bytes) []
 

@@ -136,9 +136,9 @@ with_tag options level meaning epc =
 
 -- ---- the EPC
 
--- trusted, TDS 2.0, section 7; the order is own: The EPC that is written of a meaning as a tag or an EPC URI, or the first reason
--- why there is none: the key has no kind; a pair is neither the key nor the serial; the company prefix length is missing; no
--- option of any level has it; the serial is missing; a filter value is missing.
+-- trusted, TDS 2.0, section 7; the order is own: The EPC that is written of a meaning as a tag or an EPC URI, or the first
+-- reason why there is none. The reasons: the key has no kind; a pair is neither the key nor the serial; the company prefix
+-- length is missing. Further: no option of any level has it; the serial is missing; a filter value is missing.
 abbrev pub epc_for : TableRows → List PrefixEntry → Options → LevelName → Meaning → Result Epc Reason
 epc_for set prefixes options level meaning =
     and_then (kind_for set meaning.identity) (λ kind.

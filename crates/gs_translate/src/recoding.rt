@@ -35,8 +35,8 @@ pub(crate) fn read_as(form: Form) -> Written
     }
 }
 
-/// Appends the text of a level for an EPC, with the filter value and the encoding of the options or its own, or returns the
-/// first reason against it.
+/// Appends the text of a level for an EPC, or returns the first reason against it. The filter value and the encoding are those
+/// of the options, or its own.
 fn append_recoded(
     alloc: Global,
     set: &TableSet,

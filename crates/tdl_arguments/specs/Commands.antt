@@ -94,8 +94,8 @@ names_of DumpRead = optional Tables ∷ []
 names_of DumpWrite = optional Tables ∷ []
 names_of Merge = needed Links ∷ needed Second ∷ optional Third ∷ optional Tables ∷ optional Voc ∷ []
 
--- trusted, own: the work of a command: on the lines of the input, on its request heads like those of one connection, on the
--- listener, or on none of these
+-- trusted, own: The work of a command. It is on the lines of the input, on its request heads like those of one connection, on
+-- the listener, or on none of these.
 pub data Work : Type 0 where
   on_lines : Work
   on_heads : Work

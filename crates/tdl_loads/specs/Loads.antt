@@ -63,8 +63,8 @@ abbrev pub of_verdict : {A : Type 0} → FileKind → Result A FileFault → Res
 of_verdict kind (Ok a) = Ok a
 of_verdict kind (Err error) = Err (rejected (record { kind = kind; error = error }))
 
--- trusted, own: holds if this is the result of the named file of a kind: it is missing, it has more bytes than its kind may
--- have, or its bytes have this verdict
+-- trusted, own: Holds if this is the result of the named file of a kind. It is missing, it has more bytes than its kind may
+-- have, or its bytes have this verdict.
 pub data FileGives {A : Type 0} (files : Option FilesInMemory) (kind : FileKind) (Judges : List ℕ → Result A FileFault → Type 0) (name : List ℕ) (answer : Result A Stop) : Type 0 where
   absent : IsAbsent files name → answer ≡ Err (missing kind) → FileGives files kind Judges name answer
   too_large : (bytes : List ℕ) → IsFile files name bytes → file_limit kind < length bytes → answer ≡ of_verdict kind (Err Over) → FileGives files kind Judges name answer
@@ -207,8 +207,8 @@ pub record JudgesClasses (Answer : Result ClassRows ClassLoadFault → Type 0) (
   pub is_answer : Answer answer
   pub is : verdict ≡ classes_verdict answer
 
--- trusted, own: holds if this is the verdict on classes if no file of them is named: the built-in ones for a command on class URIs,
--- otherwise none
+-- trusted, own: Holds if this is the verdict on classes if no file of them is named. It is the built-in ones for a command on
+-- class URIs, otherwise none.
 abbrev pub UnnamedClasses : List AiRow → Bool → Result ClassRows FileFault → Type 0
 UnnamedClasses ais true verdict = JudgesClasses (BuiltInClasses ais) verdict
 UnnamedClasses ais false verdict = verdict ≡ Ok (set_of [])
@@ -276,7 +276,7 @@ named_up_to kind.Describe files = tables_named files ++ (links_named files ++ de
 named_up_to kind.Classes files = names_in_order files
 named_up_to other files = tables_named files ++ links_named files
 
--- trusted, own: holds if only the first of the named files were opened, in their order; if the files are known, none was opened
+-- trusted, own: Holds if only the first of the named files were opened, in their order. If the files are known, none was opened
 -- after the one at which the run stops. The opened ones may be unknown instead only if memory was lost
 pub record OpensUpTo (lost : Bool) (files : Option FilesInMemory) (asked : Asked) (before now : Option (List (List ℕ))) : Type 0 where
   pub first : OpensFirst lost (names_in_order asked.files) before now
@@ -286,8 +286,8 @@ pub record OpensUpTo (lost : Bool) (files : Option FilesInMemory) (asked : Asked
 abbrev pub Opens : {A : Type 0} → List (List ℕ) → Option (List (List ℕ)) → Option (List (List ℕ)) → Result A Unloaded → Type 0
 Opens names before now answer = IfOk answer (λ _. now ≡ with_names before names)
 
--- trusted, own: the place of an ambiguity, at which a text has two derivations: a level of the tables and a pair of its
--- options, or a pair of classes
+-- trusted, own: The place of an ambiguity, at which a text has two derivations. It is a level of the tables and a pair of its
+-- options, or a pair of classes.
 pub data Ambiguity : Type 0 where
   of_tables : LevelName → ℕ → ℕ → Ambiguity
   of_classes : ℕ → ℕ → Ambiguity

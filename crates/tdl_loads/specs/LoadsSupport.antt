@@ -149,7 +149,7 @@ abbrev pub files_known : Option FilesInMemory → Option (List (List ℕ)) → �
 files_known files opened errors = record { files = files; opened = opened; errors = errors }
 
 -- trusted, own: Holds if a load of the files of these names had this answer between two moments: the result of the files. The
--- first of the names were opened, in their order, and all if the load succeeded; the opened ones may be unknown only if memory
+-- first of the names were opened, in their order, and all if the load succeeded. The opened ones may be unknown only if memory
 -- ran out. If there are no names, the files are unchanged.
 pub record Loads {A : Type 0} (Give : Option FilesInMemory → Result A Stop → Type 0) (names : List (List ℕ)) (AsTheyWere : Type 0) (before now : FilesKnown) (answer : Result A Unloaded) : Type 0 where
   pub loaded : LoadedBy (Give before.files) before.errors now.errors answer
@@ -159,8 +159,8 @@ pub record Loads {A : Type 0} (Give : Option FilesInMemory → Result A Stop →
   pub known : now.files ≡ before.files
   pub counts : before.errors ≤ now.errors
 
--- trusted, own: holds if no file was opened after the one at which the load stops, if the files are known; `up_to` gives the names up
--- to the file of a kind. The opened names may be unknown only if memory was lost
+-- trusted, own: Holds if no file was opened after the one at which the load stops, if the files are known. The function `up_to`
+-- gives the names up to the file of a kind. The opened names may be unknown only if memory was lost
 pub record StopsOpening {A : Type 0} (Give : Option FilesInMemory → Result A Stop → Type 0) (up_to : FileKind → List (List ℕ)) (lost : Bool) (before now : FilesKnown) : Type 0 where
   pub decided : (known : FilesInMemory) (stop : Stop) → before.files ≡ Some known → Give before.files (Err stop) → OpensFirst lost (up_to (kind_of stop)) before.opened now.opened
 

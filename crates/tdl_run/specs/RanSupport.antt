@@ -70,8 +70,8 @@ abbrev pub WorkCause : Work → Type 0 → Type 0 → Type 0
 WorkCause on_door OfInput OfDoor = OfDoor
 WorkCause work OfInput OfDoor = OfInput
 
--- holds if a command opened the listener once, at this address, finished the first of the waiting connections, and left none
--- open; the addresses may be unknown only if memory was lost
+-- Holds if a command opened the listener once, at this address, finished the first of the waiting connections, and left none
+-- open. The addresses may be unknown only if memory was lost.
 pub record UsesDoor (lost : Bool) (listen : List ℕ) (open_now : Bool) (before now : Aside) : Type 0 where
   pub closed : open_now ≡ false
   pub waiting : FinishesFirst before now

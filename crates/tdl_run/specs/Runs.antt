@@ -116,8 +116,8 @@ IsMissing words files = Asking words (λ asked. (kind : FileKind) × FilesGive f
 abbrev pub IsRejected : List (List ℕ) → Option FilesInMemory → Type 0
 IsRejected words files = Asking words (λ asked. (rejection : Rejection) × FilesGive files asked (Err (rejected rejection)))
 
--- trusted, own: holds if a read error has a cause between two moments: the input, the listener itself or the files counted an
--- error, or a file is missing
+-- trusted, own: Holds if a read error has a cause between two moments. The input, the listener itself or the files counted an
+-- error, or a file is missing.
 abbrev pub RunCause : List (List ℕ) → Option FilesInMemory → Counts → Counts → Type 0
 RunCause words files before now =
     (Rises before.input_errors now.input_errors ⊎ Rises before.door_errors now.door_errors)
@@ -131,8 +131,8 @@ ReadsToEnd words ending left = AsksFor answers_lines words → OnTrue (is_answer
 abbrev pub TakesFew : List (List ℕ) → Option (List ℕ) → Option (List ℕ) → Type 0
 TakesFew words before now = AsksFor answers_lines words → TakesAtMost (input_limit + 1) before now
 
--- trusted, own: holds if nothing was written after a read error and the input is unchanged; or if the input counted an error,
--- and the sink gained an output with this property
+-- trusted, own: Holds if nothing was written after a read error and the input is unchanged. It also holds if the input counted
+-- an error, and the sink gained an output with this property.
 abbrev pub WritesAfterError : Type 0 → Type 0 → Option (List ℕ) → Option (List ℕ) → (List ℕ → Type 0) → Type 0
 WritesAfterError AsItWas Counted held held' Ended =
     (AsItWas × Appends held held' (λ output. output ≡ [])) ⊎ (Counted × Appends held held' Ended)
@@ -142,13 +142,13 @@ WritesAfterError AsItWas Counted held held' Ended =
 abbrev pub OpensAll : Status → List (List ℕ) → Option (List (List ℕ)) → Option (List (List ℕ)) → Type 0
 OpensAll ending words before now = OnTrue (is_answered ending) (Asking words (λ asked. now ≡ with_names before (names_in_order asked.files)))
 
--- trusted, own: holds if only the first of the files that the words name were opened, and none after the one at which the run
--- stops; and no file if the words are invalid. Only if memory ran out the opened names may be unknown instead
+-- trusted, own: Holds if only the first of the files that the words name were opened, and none after the one at which the run
+-- stops. If the words are invalid, no file was opened. Only if memory ran out the opened names may be unknown instead
 abbrev pub OpensNamed : List (List ℕ) → Status → Option FilesInMemory → Option (List (List ℕ)) → Option (List (List ℕ)) → Type 0
 OpensNamed words ending files before now = AskingOr words (λ asked. OpensUpTo (is_status ending status.Memory) files asked before now) (now ≡ before)
 
--- trusted, own: holds if the listener was to be opened once, at the address that the words ask for; or not at all, if the run
--- stops at its files. Only if memory ran out the addresses may be unknown instead
+-- trusted, own: Holds if the listener was to be opened once, at the address that the words ask for. If the run stops at its
+-- files, it was not to be opened. Only if memory ran out the addresses may be unknown instead
 abbrev pub ListensAt : List (List ℕ) → Status → Option (List (List ℕ)) → Option (List (List ℕ)) → Type 0
 ListensAt words ending before now = Asking words (λ asked. AddsNames (is_status ending status.Memory) before (asked.values.listen ∷ []) now ⊎ ((now ≡ before) × (is_answered ending ≡ false)))
 

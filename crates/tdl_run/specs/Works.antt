@@ -47,8 +47,8 @@ Leaves held held' ended ended' status fact =
     (finished : List Finished) × (ended' ≡ option_map (λ before. before ++ finished) ended)
     × Appends held held' (λ output. fact (record { output = output; finished = finished; status = status }))
 
--- trusted, own: holds if the first of the waiting connections were finished between two moments, and the others still wait; as
--- many follow those that were finished before
+-- trusted, own: Holds if the first of the waiting connections were finished between two moments, and the others still wait. As
+-- many follow those that were finished before.
 pub record FinishesFirst (before now : Aside) : Type 0 where
   pub inputs : List (List ℕ)
   pub entries : List Finished
@@ -134,8 +134,8 @@ doorway_of aside reads writes = record { waiting = aside.waiting; reads = reads;
 abbrev pub served_outcome : List Visit → Outcome
 served_outcome visits = record { output = line_of visits; finished = entries_of visits; status = Done }
 
--- trusted, own: holds if the outcome is that of the first `count` waiting connections, or of all if fewer wait; each is served
--- to its end or to an error
+-- trusted, own: Holds if the outcome is that of the first `count` waiting connections, or of all if fewer wait. Each is served
+-- to its end or to an error.
 pub record Serves (site : SiteData) (count : ℕ) (door : Doorway) (outcome : Outcome) : Type 0 where
   pub visits : List Visit
   pub reads : ℕ
@@ -146,8 +146,8 @@ pub record Serves (site : SiteData) (count : ℕ) (door : Doorway) (outcome : Ou
   pub whole : wants_memory visits ≡ false
   pub is : outcome ≡ served_outcome visits
 
--- trusted, own: holds if the first of the waiting connections were served and finished, at most `count`; memory ran out only at
--- the last of them, and only with the status `Memory`
+-- trusted, own: Holds if the first of the waiting connections were served and finished, at most `count`. Memory ran out only at
+-- the last of them, and only with the status `Memory`.
 pub record ServesFirst (site : SiteData) (count : ℕ) (door : Doorway) (status : Status) (finished : List Finished) : Type 0 where
   pub visits : List Visit
   pub reads : ℕ
@@ -159,8 +159,8 @@ pub record ServesFirst (site : SiteData) (count : ℕ) (door : Doorway) (status 
   pub last : wants_memory (take (length visits - 1) visits) ≡ false
   pub entries : finished ≡ entries_of visits
 
--- trusted, own: the work of a command: to answer each line of the input, the heads of the input, or a number of connections; or
--- to write an output with this property
+-- trusted, own: The work of a command: to answer each line of the input, the heads of the input, or a number of connections. Or
+-- it is to write an output with this property.
 pub data Doing : Work → Type 1 where
   answers : (List ℕ → LineAnswer → Type 0) → Doing on_lines
   resolves : Doing on_heads
