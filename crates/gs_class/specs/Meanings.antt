@@ -1,5 +1,5 @@
--- The meaning of a class URI (TDS 2.0, 'EPC Class URIs'), by the derivations of TDT 2.0, section 3, and the key layout of TDS
--- 2.0, section 7.
+-- The meaning of a class URI (TDS 2.0, 'EPC Class URIs'). It follows from derivations (TDT 2.0, section 3) and the key layout
+-- (TDS 2.0, section 7).
 use Rattle.std.specs.Prelude.{◌≡◌, ℕ, List, [], Some, slice_get, Result, Ok, Err}
 use Rattle.gs_ai.specs.declared.row.AiRow.{AiRow}
 use Rattle.gs_ident.specs.Elements.{Elements}

@@ -1,4 +1,4 @@
-//! Class URIs: the class of things that a text names, such as a lot of a trade item, and the text of its identity.
+//! Class URIs: the class of things that a text names, such as a lot of a trade item, and the text written of an identity.
 //!
 //! - `ClassSet::load` reads a document of classes (JSON), or gives its first rejection. `ClassSet::builtin` makes the set of
 //!   the built-in rows, and `ClassSet::none` the empty set.

@@ -48,8 +48,8 @@ abbrev pub rest_in : List Part → ℕ → ℕ → List ℕ → List ℕ
 rest_in (Set _ ∷ []) lead n value = drop n value
 rest_in parts lead n value = take lead (digits_in parts value) ++ drop n (drop lead (digits_in parts value))
 
--- trusted, own: the value of a key, by the kind of this index, from the company prefix on: the rest after a leading zero and
--- the lead digits
+-- trusted, own: the value of a key, by the kind of this index, from the company prefix on: after a leading zero and the lead
+-- digits
 abbrev pub value_from_prefix : TableRows → ℕ → List ℕ → List ℕ
 value_from_prefix set kind value =
     option_map_or (λ (row : Kind). drop row.lead (behind_zero (parts_at set.ais row.key) value)) (slice_get set.kinds kind) []

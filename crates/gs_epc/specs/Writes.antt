@@ -1,5 +1,5 @@
--- The texts of an EPC by the options of TDT 2.0, section 3: TDS 2.0, sections 6 (pure identity URIs), 12 (tag URIs) and 14
--- (bits). That the first option that holds every field writes, and the choice of the named rejection, is this project's own.
+-- The texts of an EPC (TDS 2.0, sections 6, 12 and 14), by the options of TDT 2.0, section 3: pure identity URIs, tag URIs and
+-- bits. That the first option that holds every field writes, and the choice of the named rejection, is this project's own.
 use Rattle.std.specs.Prelude.{◌≡◌, ◌<◌, ◌⊎◌, ◌++◌, ℕ, List, Option, Some, None, option_and_then, slice_get, unwrap_or, Result, Ok, Err}
 use Rattle.gs_bits.specs.HexText.{hex_of_bits}
 use Rattle.gs_grammar.specs.declared.error.Why.{Why}
@@ -78,9 +78,9 @@ module _ (set : TableRows) (level : LevelName) (epc : Epc) where
     pub last : (i : ℕ) → option < i → Candidate set level epc i → ⊥
     pub none : (n : ℕ) → NoneHoldsBefore n
 
-  -- trusted, own: Holds if the result of writing an EPC in a level is the text of the first candidate that holds every field,
-  -- or that there is no candidate. Otherwise it is that none holds every field, with the field that the last does not hold.
-  -- `Memory` may be returned instead.
+  -- trusted, own: Holds if the result of writing an EPC is the text of the first candidate that holds every field, or that
+  -- there is no candidate. Otherwise it names the field that the last candidate does not hold. `Memory` may be returned
+  -- instead.
   abbrev pub WritesAs : Result (List ℕ) EpcWriteFault → Type 0
   WritesAs (Ok text) = Writes text
   WritesAs (Err NoOption) = (i : ℕ) → Candidate set level epc i → ⊥

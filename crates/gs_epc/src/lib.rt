@@ -9,8 +9,9 @@
 //!
 //! # Example
 //!
-//! The trade item of a tag URI: its kind, encoding and filter value, the number of digits of its company prefix, its prefix,
-//! item reference and serial number. The gate runs this case, for which crates/vectors_translation/src/epcs.rt makes the call.
+//! The trade item of a tag URI. It has its kind, encoding and filter value, the number of digits of its company prefix, its
+//! prefix, item reference and serial number. The gate runs this case, for which crates/vectors_translation/src/epcs.rt makes
+//! the call.
 //!
 //! ```text
 //! gs_epc::read_tag urn:epc:tag:sgtin-96:3.0614141.812345.6789

@@ -21,7 +21,7 @@ two_ranges = (50, 50) ∷ (53, 54) ∷ (70, 70) ∷ (102, 102) ∷ []
 abbrev pub three_ranges : List (ℕ × ℕ)
 three_ranges = (67, 67) ∷ (69, 70) ∷ (99, 99) ∷ (101, 102) ∷ []
 
--- The edges of the last symbol of a character: to the end if this may be the last character, and to the next character if that
+-- The edges of the last symbol of a character. They lead to the end if this may be the last character, and to the next if that
 -- many may follow. At least `lo` are to follow, with this one.
 abbrev pub last_or_next : ℕ → ℕ → List (ℕ × ℕ) → ℕ → ℕ → List Edge
 last_or_next lo zero ranges next end = with_ranges ranges end

@@ -11,7 +11,7 @@ use thiserror::Error;
 /// Why contexts are not a linkset. Contexts are counted from 0.
 #[derive(Debug, PartialEq, Drop, Error)]
 pub enum DocFault {
-    /// The context at this index breaks a rule of shape. A text is not valid UTF-8, or names of relations or attributes do not
+    /// The context at this index breaks a rule of shape: a text is not valid UTF-8, or names of relations or attributes do not
     /// ascend strictly. Or it has a relation `anchor`, an attribute `href`, or a value that is not of the kind of its
     /// attribute's name.
     #[error("context {0} breaks a rule of shape")]

@@ -8,8 +8,8 @@ use Rattle.gs_membank.specs.declared.dump.ControlWord.{ControlWord}
 abbrev pub bit_of : Bool → ℕ
 bit_of set = if set then 1 else 0
 
--- trusted, TDS 2.0, section 9: The bits of a control word. They are the length of the encoding in words in 5 bits, the user
--- memory bit, the extended bit, the toggle bit, and 8 attribute bits.
+-- trusted, TDS 2.0, section 9: The bits of a control word. They are 5 bits of the encoding's length in words, the user memory
+-- bit, the extended bit, the toggle bit, and 8 attribute bits.
 abbrev pub control_bits : ControlWord → List ℕ
 control_bits word =
     bits_of 5 word.words ++ bit_of word.user ∷ bit_of word.extended ∷ bit_of word.toggle ∷ bits_of 8 word.attributes

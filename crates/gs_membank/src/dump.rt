@@ -145,9 +145,14 @@ fn read_word(text: &[u8]) -> Result<ControlWord, DumpFault>
 }
 
 /// Reads a dump of the EPC memory bank. It is a text of at most 128 hexadecimal digits in either case that begins with the
-/// protocol control word (TDS 2.0, section 9). The errors are tried in the order of `DumpFault`: the text is not such a
-/// hexadecimal text; it has fewer than 16 bits; the extended bit is 1; the toggle bit is 1; the bits after the word are not 16
-/// times the length in it, and the error has both numbers; these bits have no derivation in the level of bits.
+/// protocol control word (TDS 2.0, section 9). The errors are tried in the order of `DumpFault`:
+///
+/// - The text is not such a hexadecimal text.
+/// - It has fewer than 16 bits.
+/// - The extended bit is 1.
+/// - The toggle bit is 1.
+/// - The bits after the word are not 16 times the length in it. The error has both numbers.
+/// - These bits have no derivation in the level of bits.
 pub fn read_dump(alloc: Global, set: &TableSet, text: &[u8]) -> Result<Dump, DumpFault>
     ensures answer { ReadsDump set.now text.now result }
     ensures of_set { IfOk result (λ dump. IsOfSet set.now dump.epc) }

@@ -23,9 +23,9 @@ pub enum DumpFault {
     /// The number of bits after the word is not that of its words of 16 bits.
     #[error("{said} words of 16 bits are announced, but {bits} bits follow")]
     Words {
-        /// The number of words that it says, at most 31.
+        /// How many words it says, at most 31.
         said: u8,
-        /// The number of bits after it, at most 496.
+        /// How many bits are after it, at most 496.
         bits: u16,
     },
     /// The bits after the word have no derivation in the level of bits.

@@ -23,8 +23,8 @@ digits_form (NumCheck k ∷ NumOpt most ∷ []) = Some (Digits (k - 1) (BehindTa
 digits_form _ = None
 
 -- trusted, TDS 2.0, section 6.3; GS1 General Specifications, section 3.2: The form of the parts of a key, if a kind can have
--- them. They are an optional zero, digits with a check digit and an optional tail; digits with a check digit, a piece and a
--- total; or only characters.
+-- them. It is an optional zero, digits with a check digit and an optional tail. Or it is digits with a check digit, a piece and
+-- a total, or only characters.
 abbrev pub key_form : List Part → Option KeyForm
 key_form (Zero ∷ parts) = digits_form parts
 key_form (Set most ∷ []) = Some (Characters most)

@@ -33,8 +33,8 @@ second_version d =
     if is_second d then d
     else with_member (codes "version") (number (unsigned 2)) (with_member (codes "kinds") (kinds_with_fields d) d)
 
--- trusted, own: The migrated text of a document: the JSON text of its second version, with no space and the members of each
--- object in ascending order of name. It is empty for bytes that are not JSON text.
+-- trusted, own: The migrated text of a document: the JSON text of its second version, with no space. The members of each object
+-- are in ascending order of name. It is empty for bytes that are not JSON text.
 abbrev pub migrated : List ℕ → List ℕ
 migrated bytes = option_map_or (λ d. compact_text (second_version d)) (document_of bytes) []
 

@@ -57,8 +57,8 @@ pairs_text options pairs.Bracketed identity = bracketed_text (pairs_of identity)
 pairs_text options pairs.Link identity = spelled options.stem identity
 pairs_text options pairs.Canon identity = canonical_link identity
 
--- holds if `answer` is the text of an EPC with the filter value and encoding of the options or its own, or the first reason
--- against it
+-- Holds if `answer` is the text of an EPC, or the first reason against it. The filter value and the encoding are those of the
+-- options, or its own.
 abbrev pub IsRecoded : TableRows → Options → LevelName → Epc → Elements → Result (List ℕ) Reason → Type 0
 IsRecoded set options to epc identity answer =
     Then (λ tagged. tagged ≡ with_tag options to (epc_meaning epc identity) epc)

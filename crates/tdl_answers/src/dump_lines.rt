@@ -99,9 +99,9 @@ pub enum DumpReason {
     /// The number of bits after the word is not that of the words in it.
     #[error("{said} words of 16 bits are announced, but {bits} bits follow")]
     Words {
-        /// The number of words that it says.
+        /// How many words it says.
         said: u8,
-        /// The number of bits after it.
+        /// How many bits are after it.
         bits: u16,
     },
     /// The line does not begin with the user memory bit and the attribute bits.
