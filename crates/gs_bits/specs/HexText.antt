@@ -28,11 +28,11 @@ pub record FirstBadDigit (text : List ℕ) (place : ℕ) : Type 0 where
   pub bad : hex_value (slice_index text place) ≡ None
   pub digits_before : AllPass is_hex_digit (take place text)
 
--- trusted, own: holds if the text has the length of whole bytes, and these are more than `n`
+-- trusted, own: holds if `text` has the length of more than `most` whole bytes
 abbrev pub NeedsMoreThan : ℕ → List ℕ → Type 0
 NeedsMoreThan most text = (length text % 2 ≡ 0) × (2 * most < length text)
 
--- trusted, own: holds if the text has at most the length of `n` bytes, and its first byte that is not a hexadecimal digit is at
--- this place
+-- trusted, own: holds if `text` has the length of at most `most` whole bytes, and its first byte that is not a hexadecimal
+-- digit is at `place`
 abbrev pub HasBadDigitWithin : ℕ → List ℕ → ℕ → Type 0
 HasBadDigitWithin most text place = (length text % 2 ≡ 0) × (length text ≤ 2 * most) × FirstBadDigit text place

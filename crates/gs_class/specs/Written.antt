@@ -97,8 +97,8 @@ by_length ais set identity class n =
 unfoldable pub length_for : List PrefixEntry → Option ℕ → Class → Elements → Option ℕ
 length_for prefixes gcp class identity = option_or gcp (prefix_length prefixes (drop class.lead identity.key.value))
 
--- trusted, own: The result by the class that names the identity. The identity has only the key and the element of the class as
--- pairs, and its company prefix has a length.
+-- trusted, own: The result by the class that names the identity. It is an error if the identity has a pair other than the key
+-- and the element, or no company prefix length.
 unfoldable pub by_name : List AiRow → ClassRows → List PrefixEntry → Option ℕ → Elements → Class → Result (List ℕ) ClassWriteFault
 by_name ais set prefixes gcp identity class =
     option_map_or (λ (pair : Pair). Err (Extra pair.code))

@@ -30,7 +30,7 @@ abbrev pub are_escapes : List ℕ → Bool
 are_escapes [] = true
 are_escapes (c ∷ text) = (not (c == 37) || begins_hex text) && are_escapes text
 
--- trusted, own: holds if `value` is a GTIN of 8, 12 or 13 digits
+-- trusted, own: holds if `value` is 8, 12 or 13 digits, as a short GTIN is
 abbrev pub is_short_gtin : List ℕ → Bool
 is_short_gtin value = ((length value == 8) || (length value == 12) || (length value == 13)) && are_digits value
 

@@ -79,7 +79,7 @@ module _ (set : TableRows) (level : LevelName) (epc : Epc) where
     pub none : (n : ℕ) → NoneHoldsBefore n
 
   -- trusted, own: Holds if the result of writing an EPC is the text of the first candidate that holds every field, or that
-  -- there is no candidate. Otherwise it names the field that the last candidate does not hold. `Memory` may be returned
+  -- there is no candidate. If none holds every field, it names the field that the last does not hold. `Memory` may be returned
   -- instead.
   abbrev pub WritesAs : Result (List ℕ) EpcWriteFault → Type 0
   WritesAs (Ok text) = Writes text

@@ -162,7 +162,7 @@ is_numeral _ = true
 abbrev pub is_number : ℕ → Item → Bool
 is_number most item = is_numeral item && has_room most item
 
--- trusted, own: holds if the values of `item` are not digits with leading zeros, and the longest has from 1 to `most`
+-- trusted, own: holds if the values of `item` are not digits that may have leading zeros, and the longest has from 1 to `most`
 -- characters
 abbrev pub is_free : ℕ → Item → Bool
 is_free most item = not (is_padded item) && has_room most item

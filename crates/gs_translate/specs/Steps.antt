@@ -3,7 +3,7 @@ use Rattle.std.specs.Prelude.{◌≡◌, ◌≢◌, ◌++◌, ℕ, List, Result,
 use Rattle.gs_translate.specs.declared.reason.Reason.{Reason}
 use Rattle.gs_translate.specs.declared.reason.Reason.TheVariants.{Memory}
 
--- trusted, own: holds if `answer` is a rejection of the step `First`, or that of the step `Next` after it
+-- trusted, own: holds if `answer` is a rejection of the step `First`, or is that of the step `Next` to the value of `First`
 pub data Then {A B E : Type 0} (First : Result A E → Type 0) (Next : A → Result B E → Type 0)
     (answer : Result B E) : Type 0 where
   rejects : (error : E) → First (Err error) → answer ≡ Err error → Then First Next answer
