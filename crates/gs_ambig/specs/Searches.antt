@@ -14,11 +14,11 @@ IfFound answer is_so = IfOk answer (λ found. IfSome found is_so)
 abbrev pub IfNotFound : {X E : Type 0} → Result (Option X) E → Type 0 → Type 0
 IfNotFound answer is_so = IfOk answer (λ found. IfNone found is_so)
 
--- both edges have the symbol
+-- holds if both edges have the symbol
 abbrev pub BothHave : Edge → Edge → ℕ → Type 0
 BothHave edge other symbol = (edge.lo ≤ symbol) × (symbol ≤ edge.hi) × (other.lo ≤ symbol) × (symbol ≤ other.hi)
 
--- the edges have no symbol in common
+-- holds if the edges have no symbol in common
 abbrev pub HaveNoneInCommon : Edge → Edge → Type 0
 HaveNoneInCommon edge other = (symbol : ℕ) → edge.lo ≤ symbol → symbol ≤ edge.hi → other.lo ≤ symbol → symbol ≤ other.hi → ⊥
 
@@ -54,11 +54,11 @@ pub record LeadsBehind (m n : AutoForm) (edge : Edge) (q least : ℕ) (symbols :
   pub high : least ≤ next
   pub leads : Leads m n edge.to next rest
 
--- no list leads on from this edge and one of these edges of the second machine whose state is not below the least
+-- holds if no list leads on from this edge and one of these edges of the second machine whose state is not below the least
 abbrev pub IsDeadBehind : AutoForm → AutoForm → Edge → List Edge → ℕ → Type 0
 IsDeadBehind m n edge edges least = (symbol next : ℕ) → edge.lo ≤ symbol → symbol ≤ edge.hi → Fits edges symbol next → least ≤ next → IsDead m n edge.to next
 
--- each number of the set is that of a pair from which no list leads
+-- holds if each number of the set is that of a pair from which no list leads
 abbrev pub MarksDead : AutoForm → AutoForm → List ℕ → Type 0
 MarksDead m n marks = (number : ℕ) → Contains marks number → IsDead m n (number / states_of n) (number % states_of n)
 
@@ -74,14 +74,14 @@ pub record HasTwoWalks (m : AutoForm) (p : ℕ) (symbols : List ℕ) : Type 0 wh
 abbrev pub IsSingle : AutoForm → ℕ → Type 0
 IsSingle m p = (symbols : List ℕ) → HasTwoWalks m p symbols → ⊥
 
--- two edges with one symbol to different states lead on to no list
+-- holds if two edges with one symbol to different states lead on to no list
 abbrev pub HasNoFork : AutoForm → List Edge → List Edge → Type 0
 HasNoFork m edges others = (symbol next other : ℕ) → Fits edges symbol next → Fits others symbol other → next < other → IsDead m m next other
 
--- no two edges of the state with one symbol to different states lead on to one list
+-- holds if no two edges of the state with one symbol to different states lead on to one list
 abbrev pub HasNoForkAt : AutoForm → ℕ → Type 0
 HasNoForkAt m p = HasNoFork m (edges_at m.table p) (edges_at m.table p)
 
--- each number of the set is that of a state from which no list has two different walks
+-- holds if each number of the set is that of a state from which no list has two different walks
 abbrev pub MarksSingle : AutoForm → List ℕ → Type 0
 MarksSingle m marks = (state : ℕ) → Contains marks state → IsSingle m state

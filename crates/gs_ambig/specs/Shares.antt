@@ -17,7 +17,7 @@ pub record Share (machines : List AutoForm) (i j : ℕ) (symbols : List ℕ) : T
   pub other_accepts : Accepts other other_run symbols
   pub differ : i ≡ j → run ≡ other_run → ⊥
 
--- no list of symbols is shared by machine i and machine j
+-- holds if no list of symbols is shared by machine i and machine j
 abbrev pub ShareNothing : List AutoForm → ℕ → ℕ → Type 0
 ShareNothing machines i j = (symbols : List ℕ) → Share machines i j symbols → ⊥
 
@@ -37,11 +37,11 @@ abbrev pub IsVerdict : List AutoForm → Verdict → Type 0
 IsVerdict machines Clear = (i j : ℕ) (symbols : List ℕ) → Share machines i j symbols → ⊥
 IsVerdict machines (Double i j word) = IsFirstDouble machines i j word
 
--- machine i shares no list of symbols with itself, or with a machine after it and before this one
+-- holds if machine i shares no list of symbols with itself, or with a machine after it and before this one
 abbrev pub SharesNone : List AutoForm → ℕ → ℕ → Type 0
 SharesNone machines i before = (j : ℕ) (symbols : List ℕ) → i ≤ j → j < before → Share machines i j symbols → ⊥
 
--- machine j is the first, from i on, that shares a list of symbols with machine i, and they share this word
+-- holds if machine j is the first, from i on, that shares a list of symbols with machine i, and they share this word
 pub record IsFirstFrom (machines : List AutoForm) (i j : ℕ) (word : List ℕ) : Type 0 where
   pub order : i ≤ j
   pub share : Share machines i j word

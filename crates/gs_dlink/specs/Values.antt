@@ -15,7 +15,7 @@ use Rattle.gs_dlink.specs.declared.error.LinkFault.TheVariants.{Element}
 use Rattle.gs_dlink.specs.declared.value.WrittenPair.{WrittenPair}
 use Rattle.gs_dlink.specs.Uris.{Written}
 
--- the row of the pair is that of its code
+-- holds if the row of the pair is that of its code
 abbrev pub IsPlaced : List AiRow → WrittenPair → Type 0
 IsPlaced table pair = pair.row ≡ position (has_code pair.code.now) table
 

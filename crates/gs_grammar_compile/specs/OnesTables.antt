@@ -16,11 +16,11 @@ abbrev pub layer_state : ℕ → ℕ → ℕ → ℕ
 layer_state zero next place = next
 layer_state (suc n) next place = next + place
 
--- a bit of a number: the one after which there are n more
+-- holds if the bit of `number` after which there are `n` more is set
 abbrev pub has_bit : ℕ → ℕ → Bool
 has_bit n number = number / 2 ^ n % 2 == 1
 
--- the bit is the highest of the number
+-- holds if the bit is the highest of the number
 abbrev pub is_highest : ℕ → ℕ → Bool
 is_highest n number = nat_le (2 ^ n) number && nat_lt number (2 * 2 ^ n)
 

@@ -59,30 +59,30 @@ narrowed links numbers (range ∷ ranges) = some_or (passing links (matches rang
 
 -- ---- the first range that decides
 
--- no range before the place is that of every language
+-- holds if no range before the place is that of every language
 abbrev pub NoneIsAny : List (List ℕ) → ℕ → Type 0
 NoneIsAny ranges n = (k : ℕ) (range : List ℕ) → k < n → slice_get ranges k ≡ Some range → is_any range ≡ false
 
--- the range at the place, if there is one, is that of every language
+-- holds if the range at the place, if there is one, is that of every language
 abbrev pub IsAnyAt : List (List ℕ) → ℕ → Type 0
 IsAnyAt ranges n = (range : List ℕ) → slice_get ranges n ≡ Some range → is_any range ≡ true
 
--- no range is that of every language
+-- holds if no range is that of every language
 abbrev pub NameLanguages : List (List ℕ) → Type 0
 NameLanguages ranges = (k : ℕ) (range : List ℕ) → slice_get ranges k ≡ Some range → is_any range ≡ false
 
--- the link matches no range from a place to another
+-- holds if the link matches no range from a place to another
 abbrev pub MatchesNone : List (List ℕ) → Link → ℕ → ℕ → Type 0
 MatchesNone ranges link from n = (k : ℕ) (range : List ℕ) → from ≤ k → k < n → slice_get ranges k ≡ Some range → matches range link ≡ false
 
--- the link matches the range at the place, if there is one
+-- holds if the link matches the range at the place, if there is one
 abbrev pub MatchesAt : List (List ℕ) → Link → ℕ → Type 0
 MatchesAt ranges link n = (range : List ℕ) → slice_get ranges n ≡ Some range → matches range link ≡ true
 
--- none of the links of the numbers matches a range before the place
+-- holds if none of the links of the numbers matches a range before the place
 abbrev pub NoneBefore : List Link → List ℕ → List (List ℕ) → ℕ → Type 0
 NoneBefore links numbers ranges n = (k : ℕ) (range : List ℕ) → k < n → slice_get ranges k ≡ Some range → passing links (matches range) numbers ≡ []
 
--- one of the links of the numbers matches the range at the place, if there is one
+-- holds if one of the links of the numbers matches the range at the place, if there is one
 abbrev pub SomeAt : List Link → List ℕ → List (List ℕ) → ℕ → Type 0
 SomeAt links numbers ranges n = (range : List ℕ) → slice_get ranges n ≡ Some range → 0 < length (passing links (matches range) numbers)

@@ -12,6 +12,6 @@ use Rattle.gs_links.specs.Loads.{context_errors, OrMemory}
 abbrev pub relations_count : List Relation → ℕ
 relations_count relations = length (flat_map (λ relation. relation.targets) relations)
 
--- an error is the first rejection of a context, or out of memory
+-- holds if an error is the first rejection of a context, or out of memory
 abbrev pub IsRejection : List AiRow → ℕ → Context → StoreFault → Type 0
 IsRejection table i context error = OrMemory {X = Unit {0}} (Err error) (first_or (context_errors table i context) (tt {0}))

@@ -15,7 +15,7 @@ pub data Part : Type 0 where
   itself : ℕ → Part
   place : List ℕ → Part
 
--- this many digits and then a closing brace
+-- holds if `text` begins with `n` digits and then a closing brace
 abbrev pub is_closed : ℕ → List ℕ → Bool
 is_closed n text = option_map_or (λ c. c == 125) (slice_get text n) false && are_digits (take n text)
 

@@ -99,11 +99,11 @@ pub record AreOfRows (rows : List NameRow) (words : List (List ℕ)) (pairs : Na
   pub are : ArePairs words pairs
   pub taken : AreTaken rows pairs
 
--- the arguments are pairs that the rows take, each row at most one
+-- holds if the arguments are pairs that the rows take, each row at most one
 abbrev pub HasPairs : List NameRow → List (List ℕ) → Type 0
 HasPairs rows words = (pairs : NamedPairs) × AreOfRows rows words pairs
 
--- the arguments are not pairs that the rows take, each row at most one
+-- holds if the arguments are not pairs that the rows take, each row at most one
 abbrev pub HasNoPairs : List NameRow → List (List ℕ) → Type 0
 HasNoPairs rows words = (pairs : NamedPairs) → AreOfRows rows words pairs → ⊥
 
