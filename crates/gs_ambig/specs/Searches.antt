@@ -6,11 +6,11 @@ use Rattle.gs_ambig.specs.Walks.{Fits, edges_at, Walk}
 use Rattle.gs_ambig.specs.Machines.{AutoForm, states_of, accept_of}
 use Rattle.gs_ambig.specs.MachinesSupport.{start_of}
 
--- trusted, own: holds if the search has found something with this property
+-- trusted, own: holds if the search has found something, and `is_so` holds of it; or it has found nothing, or failed
 abbrev pub IfFound : {X E : Type 0} → Result (Option X) E → (X → Type 0) → Type 0
 IfFound answer is_so = IfOk answer (λ found. IfSome found is_so)
 
--- trusted, own: holds if the search has found nothing, and this fact holds
+-- trusted, own: holds if the search has found nothing, and `is_so` holds; or it has found something, or failed
 abbrev pub IfNotFound : {X E : Type 0} → Result (Option X) E → Type 0 → Type 0
 IfNotFound answer is_so = IfOk answer (λ found. IfNone found is_so)
 

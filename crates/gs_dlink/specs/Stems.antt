@@ -11,7 +11,7 @@ is_stem_byte c = is_ascii_graphic c && not (c == 63) && not (c == 35)
 abbrev pub are_stem_bytes : List ℕ → Bool
 are_stem_bytes stem = list_all is_stem_byte stem
 
--- trusted, own: holds if there is a byte at this place, and it is not a slash
+-- trusted, own: holds if there is a byte at the place `n` of `stem`, and it is not a slash
 abbrev pub goes_on : List ℕ → ℕ → Bool
 goes_on stem n = nat_lt n (length stem) && not (slice_index stem n == 47)
 

@@ -13,8 +13,8 @@ Joined Element [] text rest = text ≡ rest
 Joined Element (pair ∷ pairs) text rest =
     (after : List ℕ) × Element pair text after × Joined Element pairs after rest
 
--- trusted, own: Holds if this is the error of a text that is not a join of elements. It is the error at the start of the rest,
--- after the longest prefix that is one. `whole` is the given text, and `text` its end.
+-- trusted, own: Holds if `error` is that of the rest, after the longest prefix of `text` that is a join of elements. `whole` is
+-- the given text, and `text` its end.
 pub record IsFirstError (Element : Form) (error_of : List ℕ → Option ElementFault) (whole text : List ℕ)
     (error : ElementFault) : Type 0 where
   -- the pairs of a prefix that is a join, and the rest

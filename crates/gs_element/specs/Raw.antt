@@ -39,8 +39,8 @@ pub record IsRawElement (table : List AiRow) (pair : Pair) (text after : List �
   pub predefined : (n : ℕ) → predefined_length pair.code ≡ Some n → length pair.code + length pair.value ≡ n
   pub closed : (closing ≡ 29 ∷ []) ⊎ ((closing ≡ []) × (IsSome (predefined_length pair.code) ⊎ (after ≡ [])))
 
--- trusted, GS1 General Specifications, section 7.8; that a byte 29 may follow any element is own: holds if the text,
--- without the bytes that a barcode scanner may send at the start, concatenates elements of these pairs
+-- trusted, GS1 General Specifications, section 7.8; that a byte 29 may follow any element is own: holds if `text`, without the
+-- bytes that a barcode scanner may send at the start, concatenates elements of `pairs`
 abbrev pub IsRaw : List AiRow → List ℕ → List Pair → Type 0
 IsRaw table text pairs = Joined (IsRawElement table) pairs (body_of text) []
 

@@ -23,7 +23,7 @@ pub record Says (set : TableRows) (level : LevelName) (symbols : List ℕ) (epc 
   pub said : slice_get (level_rows level set).info option ≡ Some info
   pub fields : epc ≡ epc_of info values
 
--- trusted, TDS 2.0, sections 6, 12 and 14: Holds if the result is the EPC of the one derivation of these symbols of a level, or
+-- trusted, TDS 2.0, sections 6, 12 and 14: Holds if the result is the EPC of the one derivation of `symbols` in `level`, or
 -- that there is none. `Memory` may be returned instead.
 abbrev pub ReadsAs : TableRows → LevelName → List ℕ → Result Epc EpcFault → Type 0
 ReadsAs set level symbols (Ok epc) = Says set level symbols epc
@@ -31,7 +31,7 @@ ReadsAs set level symbols (Err NoReading) = Derivation (options_of level set) sy
 ReadsAs set level symbols (Err Memory) = Unit {0}
 ReadsAs set level symbols (Err (Hex error)) = ⊥
 
--- trusted, own: holds if this is the first reason why `text` is not a hexadecimal text of at most 128 digits
+-- trusted, own: holds if the fault is the first reason why `text` is not a hexadecimal text of at most 128 digits
 abbrev pub IsHexFault : List ℕ → HexFault → Type 0
 IsHexFault text OddDigits = length text % 2 ≡ 1
 IsHexFault text Full = (length text % 2 ≡ 0) × (128 < length text)

@@ -42,7 +42,7 @@ module _ (set : TableRows) (level : LevelName) (epc : Epc) where
     pub first : IsFirstRejection candidate.items (values_for level epc candidate.info) k why
     pub stands_for : field ≡ field_at candidate.info.fields k
 
-  -- trusted, own: Holds if each item of a candidate holds its value, and this field has no item, so that only the empty text
+  -- trusted, own: Holds if each item of the candidate holds its value, and `field` has no item, so that only the empty text
   -- fits.
   pub record LeavesOut {i : ℕ} (candidate : Candidate set level epc i) (field : Field) (why : Why)
       : Type 0 where

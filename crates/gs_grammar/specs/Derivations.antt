@@ -33,7 +33,7 @@ pub record HasNumbers (items : List Item) (w numbers : List ℕ) : Type 0 where
   pub derives : Derives items w values words
   pub numbers_are : numbers ≡ numbers_of_words items words
 
--- trusted, own: holds if the result says whether the items derive the list, and if they do, by words of these numbers
+-- trusted, own: holds if `answer` says whether `items` derive `w`, and if they do, by words whose numbers are `numbers`
 abbrev pub GivesNumbers : Bool → List Item → List ℕ → List ℕ → Type 0
 GivesNumbers answer items w numbers = MatchBool answer (HasNumbers items w numbers) (IsDerived items w → ⊥)
 

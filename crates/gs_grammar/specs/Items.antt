@@ -14,7 +14,7 @@ is_symbol false c = is_visible c
 abbrev pub is_between : ℕ → ℕ → ℕ → Bool
 is_between low high n = nat_le low n && nat_le n high
 
--- trusted, own bounds: holds if the item is one of such a level and is within its bounds
+-- trusted, own bounds: holds if the item is of a level of the kind `bit_level` and is within its bounds
 abbrev pub is_in_bounds : Bool → Item → Bool
 is_in_bounds bit_level (Lit literal) = is_between 1 64 (length literal) && list_all (is_symbol bit_level) literal
 is_in_bounds bit_level (Pad n) = not bit_level && is_between 1 18 n

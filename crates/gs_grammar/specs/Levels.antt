@@ -31,7 +31,7 @@ pub record KeepBounds (bit_level : Bool) (items : List Item) : Type 0 where
   pub none_bad : position (is_bad bit_level) items ≡ None
   pub small : size_of_all items ≤ most_symbols
 
--- trusted, own: holds if this names the first bad item, or if none is bad, a size of more symbols than an option may have
+-- trusted, own: holds if the error names the first bad item, or if none is bad, a size of more symbols than an option may have
 abbrev pub IsErrorOf : Bool → List Item → OptFault → Type 0
 IsErrorOf bit_level items (BadItem k) = position (is_bad bit_level) items ≡ Some k
 IsErrorOf bit_level items Size = (position (is_bad bit_level) items ≡ None) × (most_symbols < size_of_all items)

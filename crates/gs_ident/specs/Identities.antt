@@ -97,7 +97,7 @@ identity_of_pairs table pairs = identity_of_counted table (counted table pairs)
 pub record IsInOrder (table : List AiRow) (pair : Pair) : Type 0 where
   pub fits : value_error table pair.code pair.value ≡ None
 
--- trusted, own: holds if each pair of `identity` is valid by `table`, and its pairs have this identity
+-- trusted, own: holds if each pair of `identity` is valid by `table`, and `identity` is that of its pairs
 pub record IsMadeWith (table : List AiRow) (identity : Elements) : Type 0 where
   pub in_order : All (IsInOrder table) (pairs_of identity)
   pub given_back : identity_of_pairs table (pairs_of identity) ≡ Ok identity

@@ -27,7 +27,7 @@ is_prefix prefix identity =
     is_empty prefix.attributes
     && (is_same_pair prefix.key identity.key && are_first prefix.qualifiers identity.qualifiers)
 
--- trusted, own: holds if the request wants all link types or this one
+-- trusted, own: holds if the request wants all link types or `relation`
 abbrev pub is_wanted : Want → List ℕ → Bool
 is_wanted All relation = true
 is_wanted (Relation wanted) relation = bytes_eq wanted.now relation

@@ -42,8 +42,8 @@ are_apart (context ∷ next ∷ contexts) = is_apart context next && are_apart (
 abbrev pub ascends : Context → Bool
 ascends context = ascend (relation_names context.relations)
 
--- trusted, own: Holds if the contexts have these links, each has a link, and the names of the relations ascend in each. A new
--- context begins only if it has to.
+-- trusted, own: Holds if `contexts` have the links `links`, each has a link, and the names of the relations ascend in each. A
+-- new context begins only if it has to.
 pub record IsCut (links : List (List ℕ × List ℕ × Target)) (contexts : List Context) : Type 0 where
   pub same : links_of_document contexts ≡ links
   pub ascending : list_all ascends contexts ≡ true

@@ -9,8 +9,7 @@ use Rattle.gs_linktext_grammar.specs.declared.error.LinkTextFault.{LinkTextFault
 use Rattle.gs_linktext_grammar.specs.declared.error.LinkTextFault.TheVariants.{Syntax, Anchor, Rel, Memory}
 use Rattle.gs_linktext_grammar.specs.declared.written_link.WrittenLink.{WrittenLink}
 
--- trusted, own: holds if `bytes` are a document of links without an error, and `contexts` are the cut of the links that these
--- give
+-- trusted, own: holds if `bytes` are a document of links without an error, and `contexts` are the cut of its links
 pub record IsReadAs (bytes : List ℕ) (contexts : List Context) : Type 0 where
   pub written : List WrittenLink
   pub document : IsDocument bytes written

@@ -37,8 +37,8 @@ pub record IsBank (set : TableRows) (bits : List ℕ) (dump : Dump) : Type 0 whe
   pub size : length encoding ≡ 16 * words
   pub says : Says set Binary encoding dump.epc
 
--- trusted, TDS 2.0, section 9; the order is own: holds if this is the first reason why a control word, `word`, and the bits
--- after it, `behind`, are not a dump
+-- trusted, TDS 2.0, section 9; the order is own: holds if the fault is the first reason why a control word, `word`, and the
+-- bits after it, `behind`, are not a dump
 abbrev pub IsWordError : TableRows → ControlWord → List ℕ → DumpFault → Type 0
 IsWordError set word behind Extended = word.extended ≡ true
 IsWordError set word behind Toggle = (word.extended ≡ false) × (word.toggle ≡ true)

@@ -21,7 +21,7 @@ IsClear level = IsUnambiguous (item_lists level.options)
 abbrev pub AreClear : (LevelName → LevelForm) → Type 0
 AreClear levels = (name : LevelName) → IsClear (levels name)
 
--- trusted, own: holds if none of the levels before this one is ambiguous, in the order binary, tag, pure
+-- trusted, own: holds if no level before the named one is ambiguous, in the order binary, tag, pure
 abbrev pub AreClearBefore : (LevelName → LevelForm) → LevelName → Type 0
 AreClearBefore levels Binary = Unit {0}
 AreClearBefore levels Tag = IsClear (levels Binary)

@@ -31,9 +31,9 @@ pub record KeptKind (ais : List AiRow) (kind : Kind) : Type 0 where
   pub serial : is_serial_of ais row form kind.serial ≡ true
   pub further : kind.further ≡ further_of form
 
--- trusted, TDT 2.0, sections 3 and 4; own rules: Holds if an option of these items and these facts satisfies the rules. Its
--- kind is one of the set, its items are within their bounds, and items without a field have no value. With their fields the
--- items fit the level and the key of the kind.
+-- trusted, TDT 2.0, sections 3 and 4; own rules: Holds if an option of `items` and `info` satisfies the rules. Its kind is one
+-- of the set, its items are within their bounds, and items without a field have no value. With their fields the items fit the
+-- level and the key of the kind.
 pub record KeptOption (set : TableRows) (level : LevelName) (items : List Item) (info : OptInfo) : Type 0 where
   pub kind : Kind
   pub named : slice_get set.kinds info.kind ≡ Some kind

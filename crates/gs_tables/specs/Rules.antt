@@ -73,7 +73,7 @@ abbrev pub fits_form : List AiRow → AiRow → KindRow → KeyForm → Bool
 fits_form ais row kind form =
     is_lead form kind.lead && is_serial_of ais row form (serial_at kind.serial) && are_fields_of form kind.fields
 
--- trusted, own: holds if `row` is a key whose form a kind can have, and `kind` fits this form
+-- trusted, own: holds if `row` is a key whose form a kind can have, and `kind` fits it
 abbrev pub fits_key : List AiRow → AiRow → KindRow → Bool
 fits_key ais row kind = is_key row.role && option_map_or (fits_form ais row kind) (key_form row.parts) false
 
@@ -85,7 +85,7 @@ is_kind ais earlier kind =
 
 -- ---- options
 
--- trusted, own: holds if the value of an item stands for this field
+-- trusted, own: holds if the value of an item stands for the given field
 abbrev pub is_field : Field → Option Field → Bool
 is_field Filter (Some Filter) = true
 is_field Gcp (Some Gcp) = true
@@ -188,7 +188,8 @@ keeps_serial None items = is_empty items
 keeps_serial (Some (room.Characters most)) items = is_one (has_room most) items
 keeps_serial (Some (room.Digits most)) items = is_one (is_number most) items
 
--- trusted, own: holds if there is one item each of the piece and the total, of that many digits, or none if the key has no pieces
+-- trusted, own: holds if there is one item each of the piece and the total, of the key's numbers of digits, or none if it has
+-- no pieces
 unfoldable pub keeps_further : KeyForm → List Item → List Item → Bool
 keeps_further (Digits _ (Further a b)) pieces totals = is_one (is_digits a) pieces && is_one (is_digits b) totals
 keeps_further (Digits _ Nothing) pieces totals = is_empty pieces && is_empty totals

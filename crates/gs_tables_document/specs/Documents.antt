@@ -87,7 +87,7 @@ Each Is _ _ = ⊥
 abbrev pub text_of : Data → List ℕ
 text_of d = unwrap_or (as_str d) []
 
--- trusted, own: holds if the value is this text
+-- trusted, own: holds if the value `d` is the text `text`
 abbrev pub IsText : Data → List ℕ → Type 0
 IsText d text = text ≡ text_of d
 

@@ -84,7 +84,7 @@ is_given pairs row = has_name (is_named pairs) row
 abbrev pub takes : List NameRow → List ℕ → List ℕ → NamedPairs → Bool
 takes rows name value others = list_any (λ (row : NameRow). not (is_given others row) && row_takes row name value) rows
 
--- trusted, own: holds if the arguments are these pairs, each a name and its value
+-- trusted, own: holds if the arguments are the pairs, each a name and its value
 pub data ArePairs : List (List ℕ) → NamedPairs → Type 0 where
   no_pair : ArePairs [] []
   one_pair : (name value : List ℕ) (words : List (List ℕ)) (pairs : NamedPairs) → ArePairs words pairs → ArePairs (name ∷ value ∷ words) ((name, value) ∷ pairs)

@@ -35,6 +35,6 @@ most_lines = 100000
 abbrev pub lines_of : List ℕ → Option ℕ
 lines_of word = number_within 0 most_lines word
 
--- trusted, own: holds if this is an expansion of `gs1:` in relations: 1 to 256 bytes from 33 to 126
+-- trusted, own: holds if `value` is an expansion of `gs1:` in relations: 1 to 256 bytes from 33 to 126
 abbrev pub is_vocabulary : List ℕ → Bool
 is_vocabulary value = nat_le 1 (length value) && (nat_le (length value) 256 && list_all is_ascii_graphic value)

@@ -29,7 +29,7 @@ abbrev pub IsLineAnswer : TableRows → List ℕ → Result (List ℕ) Reason �
 IsLineAnswer set line answer =
     Then (IsPlain set form.Pure target.Hex line) (IsPlain set form.Hex target.Canon) answer
 
--- trusted, own: holds if these are the answers to the first lines of the generator, in their order, one a line
+-- trusted, own: holds if the list is the answers to the first lines of the generator, in their order, one a line
 pub data AnswersFirst (set : TableRows) : ℕ → List (Result (List ℕ) Reason) → Type 0 where
   no_line : AnswersFirst set 0 []
   one_more : (n : ℕ) (answers : List (Result (List ℕ) Reason)) (answer : Result (List ℕ) Reason) → AnswersFirst set n answers → IsLineAnswer set (generated_line n) answer → AnswersFirst set (suc n) (answers ++ answer ∷ [])
@@ -51,7 +51,7 @@ abbrev pub counts_text : ℕ → ℕ → ℕ → List ℕ
 counts_text lines ok bytes =
     codes "lines " ++ decimal lines ++ codes " ok " ++ decimal ok ++ codes " bytes " ++ decimal bytes ++ 10 ∷ []
 
--- trusted, own: holds if the output is the line of counts of the answers to that many lines of the generator
+-- trusted, own: holds if `output` is the line of counts of the answers to the first `lines` lines of the generator
 pub record Generated (set : TableRows) (lines : ℕ) (output : List ℕ) : Type 0 where
   pub answers : List (Result (List ℕ) Reason)
   pub each : AnswersFirst set lines answers

@@ -148,9 +148,9 @@ pub record FilesKnown : Type 0 where
 abbrev pub files_known : Option FilesInMemory → Option (List (List ℕ)) → ℕ → FilesKnown
 files_known files opened errors = record { files = files; opened = opened; errors = errors }
 
--- trusted, own: Holds if a load of the files of these names had this answer between two moments: the result of the files. The
--- first of the names were opened, in their order, and all if the load succeeded. The opened ones may be unknown only if memory
--- ran out. If there are no names, the files are unchanged.
+-- trusted, own: Holds if `answer`, of a load of the files `names` between two moments, is the result of the files. The first of
+-- the names were opened, in their order, and all if the load succeeded. The opened ones may be unknown only if memory ran out.
+-- If there are no names, the files are unchanged.
 pub record Loads {A : Type 0} (Give : Option FilesInMemory → Result A Stop → Type 0) (names : List (List ℕ)) (AsTheyWere : Type 0) (before now : FilesKnown) (answer : Result A Unloaded) : Type 0 where
   pub loaded : LoadedBy (Give before.files) before.errors now.errors answer
   pub opened : OpensFirst (is_load_short answer) names before.opened now.opened

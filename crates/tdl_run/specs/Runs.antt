@@ -54,8 +54,8 @@ abbrev pub stopped : Stop → Outcome
 stopped (missing kind) = outcome_of [] status.ReadFault
 stopped (rejected rejection) = outcome_of (rejected_line rejection) status.Refused
 
--- trusted, own: Holds if a run with these words may leave this outcome in this world. It is that of the command over the loaded
--- files, or that of a run that stops at its files. If the words are invalid, it is the usage line.
+-- trusted, own: Holds if a run with `words` may leave `outcome` in `world`. It is that of the command over the loaded files, or
+-- that of a run that stops at its files. If the words are invalid, it is the usage line.
 abbrev pub DefinedRun : List (List ℕ) → World → Outcome → Type 0
 DefinedRun words world outcome = AskingOr words (λ asked.
     Loading world.files asked (λ loaded. DoingRun (doing_of asked.command asked.values loaded) (site_of loaded) world.input world.door outcome)
@@ -67,15 +67,15 @@ pub data AlikeVisits : List Visit → List Visit → Type 0 where
   no_visits : AlikeVisits [] []
   more_visits : (one other : Visit) (ones others : List Visit) → one.input ≡ other.input → (is_done one.served ≡ true → is_done other.served ≡ true → one.entry.written ≡ other.entry.written) → AlikeVisits ones others → AlikeVisits (one ∷ ones) (other ∷ others)
 
--- trusted, own: Holds if both outcomes are of the same connections, served by this site at this listener. The bytes read, the
--- errors, and the bytes written to a connection with an error may differ.
+-- trusted, own: Holds if both outcomes are of the same connections, served by `site` at `door`. The bytes read, the errors, and
+-- the bytes written to a connection with an error may differ.
 pub record AlikeServed (site : SiteData) (count : ℕ) (door : Doorway) (one other : Outcome) : Type 0 where
   pub served : Serves site count door one
   pub served_too : Serves site count door other
   pub alike : AlikeVisits served.visits served_too.visits
 
--- trusted, own: Holds if two outcomes of these words in this world are the same, or differ only in one of two ways. They differ
--- in errors of connections and their consequences, or in the text that shows that one place is ambiguous.
+-- trusted, own: Holds if two outcomes of `words` in `world` are the same, or differ only in one of two ways. They differ in
+-- errors of connections and their consequences, or in the text that shows that one place is ambiguous.
 pub data AreAlike (words : List (List ℕ)) (world : World) (one other : Outcome) : Type 0 where
   same : one ≡ other → AreAlike words world one other
   but_errors : Asking words (λ asked. Loading world.files asked (λ loaded. AlikeServed (site_of loaded) asked.values.count world.door one other)) → AreAlike words world one other
@@ -88,8 +88,8 @@ HasOneOutcome words =
     → DefinedRun words (known_world files input waiting reads writes) one → DefinedRun words (known_world files input waiting reads writes) other
     → AreAlike words (known_world files input waiting reads writes) one other
 
--- trusted, own: holds if a run that may be cut short has finished these connections: none, or those that the command finished
--- over the loaded files
+-- trusted, own: holds if the finished connections of `outcome`, which may be cut short, are none, or those that the command
+-- finished over the loaded files
 abbrev pub FinishedRun : List (List ℕ) → World → Outcome → Type 0
 FinishedRun words world outcome = AskingOr words (λ asked.
     (outcome.finished ≡ [])
@@ -104,7 +104,7 @@ BeginsRun words world output = BeginsOne (DefinedRun words world) output
 abbrev pub CutRun : List (List ℕ) → World → Outcome → Type 0
 CutRun words world outcome = CutShort (DefinedRun words world) outcome
 
--- trusted, own: holds if the command has written this after an error of the input, by the bytes that were taken from it
+-- trusted, own: holds if the command has written `output` after an error of the input, by the bytes that were taken from it
 abbrev pub EndedRun : List (List ℕ) → Option FilesInMemory → Option (List ℕ) → Option (List ℕ) → List ℕ → Type 0
 EndedRun words files before now output = Asking words (λ asked. Loading files asked (λ loaded. DoingEnded (doing_of asked.command asked.values loaded) (site_of loaded) before now output))
 
@@ -132,7 +132,7 @@ abbrev pub TakesFew : List (List ℕ) → Option (List ℕ) → Option (List ℕ
 TakesFew words before now = AsksFor answers_lines words → TakesAtMost (input_limit + 1) before now
 
 -- trusted, own: Holds if nothing was written after a read error and the input is unchanged. It also holds if the input counted
--- an error, and the sink gained an output with this property.
+-- an error, and the sink gained an output of which `Ended` holds.
 abbrev pub WritesAfterError : Type 0 → Type 0 → Option (List ℕ) → Option (List ℕ) → (List ℕ → Type 0) → Type 0
 WritesAfterError AsItWas Counted held held' Ended =
     (AsItWas × Appends held held' (λ output. output ≡ [])) ⊎ (Counted × Appends held held' Ended)

@@ -40,8 +40,8 @@ pub record Outcome : Type 0 where
 abbrev pub outcome_of : List ℕ → Status → Outcome
 outcome_of output status = record { output = output; finished = []; status = status }
 
--- trusted, own: holds if the sink gained the output of an outcome with this property, and the listener its finished
--- connections; contents that were unknown stay unknown
+-- trusted, own: Holds if the sink gained the output of an outcome of which `fact` holds, and the listener its finished
+-- connections. Contents that were unknown stay unknown.
 abbrev pub Leaves : Option (List ℕ) → Option (List ℕ) → Option (List Finished) → Option (List Finished) → Status → (Outcome → Type 0) → Type 0
 Leaves held held' ended ended' status fact =
     (finished : List Finished) × (ended' ≡ option_map (λ before. before ++ finished) ended)
@@ -182,21 +182,22 @@ doing_of DumpRead values loaded = answers (IsDumpReadLine loaded.tables)
 doing_of DumpWrite values loaded = answers (IsDumpWriteLine loaded.tables)
 doing_of Merge values loaded = prints (λ output. output ≡ merged_line loaded)
 
--- trusted, own: holds if the work may leave this outcome, with this site, input and listener
+-- trusted, own: holds if the work may leave `outcome`, with `site`, `input` and `door`
 abbrev pub DoingRun : {work : Work} → Doing work → SiteData → Option (List ℕ) → Doorway → Outcome → Type 0
 DoingRun (answers Is) site input door outcome = LinesAnswered Is input outcome
 DoingRun resolves site input door outcome = LeavesOutput (Resolves site input) outcome
 DoingRun (serves count) site input door outcome = Serves site count door outcome
 DoingRun (prints IsOutput) site input door outcome = LeavesOutput IsOutput outcome
 
--- trusted, own: holds if the work may have written this after an error of the input, by the bytes that were taken from it
+-- trusted, own: holds if the work may have written `output` after an error of the input, by the bytes that were taken from it
 abbrev pub DoingEnded : {work : Work} → Doing work → SiteData → Option (List ℕ) → Option (List ℕ) → List ℕ → Type 0
 DoingEnded (answers Is) site before now output = AnswersEnded Is input_limit before now output
 DoingEnded resolves site before now output = Resolved site before output ReadFault
 DoingEnded (serves count) site before now output = output ≡ []
 DoingEnded (prints IsOutput) site before now output = ⊥
 
--- trusted, own: holds if the work may have finished these connections, with a status after which the output may be cut short
+-- trusted, own: holds if the work may have finished the connections `finished`, with a status after which the output may be cut
+-- short
 abbrev pub DoingFinished : {work : Work} → Doing work → SiteData → Doorway → Status → List Finished → Type 0
 DoingFinished (answers Is) site door status finished = finished ≡ []
 DoingFinished resolves site door status finished = finished ≡ []

@@ -43,8 +43,8 @@ ServePrints _ count now visits output = ⊥
 abbrev pub CountsErrors : Status → Aside → Aside → Type 0
 CountsErrors status before now = now.errors ≡ count_if (is_status status ReadFault) before.errors
 
--- trusted, own: holds if the listener was to be opened once, at this address; its addresses may be unknown instead only if
--- memory was lost
+-- trusted, own: Holds if the listener was to be opened once, at `address`. Its addresses may be unknown instead only if `lost`
+-- is true.
 abbrev pub OpensAt : Bool → List ℕ → Aside → Aside → Type 0
 OpensAt lost address before now = AddsNames lost before.addresses (address ∷ []) now.addresses
 
