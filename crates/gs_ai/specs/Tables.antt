@@ -60,8 +60,8 @@ is_row row =
     && (not row.short || is_gtin row.parts)
     && (is_empty row.none || is_none (parts_error row.parts row.none))
 
--- trusted, own, after GS1 General Specifications section 3.2: holds if AI and value together have only the predefined length, if
--- the AI's start is listed
+-- trusted, own, after GS1 General Specifications section 3.2: holds if the code and each value of `row` together have the
+-- predefined length, if the code begins with a listed one
 unfoldable pub keeps_predefined : AiRow → Bool
 keeps_predefined row =
     option_map_or (λ n. (least_of row.parts == greatest_of row.parts) && (length row.code + greatest_of row.parts == n)) (predefined_length row.code) true

@@ -48,7 +48,7 @@ is_checked k digits =
 abbrev pub number_at : List ℕ → ℕ → ℕ
 number_at digits i = 10 * (slice_index digits i - 48) + (slice_index digits (i + 1) - 48)
 
--- trusted, own: Holds if the text is six digits YYMMDD with a month from 1 to 12 and a day from 0 to 31. The day 0 means no
+-- trusted, own: Holds if `digits` are six digits YYMMDD with a month from 1 to 12 and a day from 0 to 31. The day 0 means no
 -- day.
 abbrev pub is_date : List ℕ → Bool
 is_date digits = are_digits digits && (length digits == 6) && nat_le 1 (number_at digits 2) && nat_le (number_at digits 2) 12 && nat_le (number_at digits 4) 31

@@ -69,8 +69,8 @@ abbrev pub fits_parts : List AiRow → ClassRow → List Part → Bool
 fits_parts ais row parts =
     option_map_or (λ digits. option_map_or (λ most. keeps_items row digits most) (element_room ais row.element) false) (digits_alone parts) false
 
--- trusted, own: holds if the row is that of a key with at most one digit before the company prefix, lists the element, and the
--- items fit
+-- trusted, own: holds if `key` is the row of a key that lists the element of `row`, at most one digit precedes the company
+-- prefix, and the items fit
 unfoldable pub fits_key : List AiRow → ClassRow → AiRow → Bool
 fits_key ais row key =
     is_key key.role && nat_le row.lead 1 && list_any (bytes_eq row.element) key.qualifiers && fits_parts ais row key.parts
@@ -91,7 +91,7 @@ agrees row other =
 unfoldable pub is_same_row : ClassRow → ClassRow → Bool
 is_same_row row other = bytes_eq row.name other.name && (row.gcp == other.gcp)
 
--- trusted, own: holds if the row satisfies the rules of classes, given the earlier ones
+-- trusted, own: holds if `row` satisfies the rules of classes, given the `earlier` ones
 unfoldable pub is_class : List AiRow → List ClassRow → ClassRow → Bool
 is_class ais earlier row =
     not (is_empty row.name) && are_visible row.name && list_all (agrees row) earlier

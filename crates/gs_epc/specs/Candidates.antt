@@ -17,14 +17,14 @@ use Rattle.gs_epc.specs.Epcs.{options_of}
 
 -- ---- candidates
 
--- trusted, own: holds if the name of an encoding is the requested one: any if none is requested, and on the level of pure
+-- trusted, own: holds if the name of an encoding is the requested one: any if `asked` is empty, or on the level of pure
 -- identities
 abbrev pub is_asked : LevelName → List ℕ → List ℕ → Bool
 is_asked Pure asked name = true
 is_asked Tag asked name = is_empty asked || bytes_eq asked name
 is_asked Binary asked name = is_empty asked || bytes_eq asked name
 
--- trusted, own: holds if an option has the EPC's kind and company prefix length, and the requested encoding
+-- trusted, own: holds if the option `info` has the kind and the company prefix length of `epc`, and the requested encoding
 abbrev pub is_candidate : LevelName → Epc → OptInfo → Bool
 is_candidate level epc info =
     (info.kind == epc.kind) && (info.gcp == epc.gcp) && is_asked level epc.encoding info.encoding
@@ -50,7 +50,7 @@ abbrev pub HasFilter : Option ℕ → Type 0
 HasFilter None = ⊥
 HasFilter (Some filter) = filter ≤ 7
 
--- trusted, own: holds if there is a filter value, on the levels of tags
+-- trusted, own: holds if the level is that of pure identities, or there is a filter value, of 0 to 7
 abbrev pub HasFilterOn : LevelName → Option ℕ → Type 0
 HasFilterOn Pure filter = Unit {0}
 HasFilterOn Tag filter = HasFilter filter

@@ -131,7 +131,7 @@ epc_at set kind identity n =
     option_and_then (λ (row : Kind). option_map (epc_of_key kind n) (take_apart set.ais row identity n))
     (slice_get set.kinds kind)
 
--- trusted, TDS 2.0, section 7: holds if an identity has only the key of a kind and its serial
+-- trusted, TDS 2.0, section 7: holds if `identity` has only the key of `kind` and its serial
 pub record IsOfKind (kind : Kind) (identity : Elements) : Type 0 where
   pub key : identity.key.code ≡ kind.key
   pub qualifiers : (i : ℕ) (pair : Pair) → slice_get identity.qualifiers i ≡ Some pair → kind.serial ≡ Ai pair.code

@@ -12,12 +12,12 @@ pub record IsAmbiguous (level : List (List Item)) : Type 0 where
   pub w : List ℕ
   pub two : TwoDerivations level w
 
--- trusted, own: holds if the level is not ambiguous: no list of symbols has two different derivations in it
+-- trusted, own: holds if `level` is not ambiguous: no list of symbols has two different derivations in it
 abbrev pub IsUnambiguous : List (List Item) → Type 0
 IsUnambiguous level = IsAmbiguous level → ⊥
 
--- trusted, own: Holds if the two options share the list: it has a derivation by each. Two derivations by different options are
--- different; an option shares a list with itself if the list has two different derivations by it.
+-- trusted, own: Holds if options `i` and `j` share `w`: it has a derivation by each. Two derivations by different options are
+-- different. An option shares a list with itself if the list has two different derivations by it.
 pub record ShareList (level : List (List Item)) (i j : ℕ) (w : List ℕ) : Type 0 where
   pub one : Derivation level w
   pub other : Derivation level w

@@ -47,7 +47,7 @@ pub record Derivation (level : List (List Item)) (w : List ℕ) : Type 0 where
   pub of_level : slice_get level option ≡ Some items
   pub derives : Derives items w values words
 
--- trusted, own: holds if two derivations have the same option and the same words
+-- trusted, own: holds if the derivations `one` and `other` have the same option and the same words
 pub record AreSame (level : List (List Item)) (w : List ℕ) (one other : Derivation level w) : Type 0 where
   pub option : one.option ≡ other.option
   pub words : one.words ≡ other.words

@@ -20,7 +20,7 @@ first_reason char size zero large =
     else if large then Some Large
     else None
 
--- trusted, own: holds if the result is the reason, if there is one, and otherwise Ok
+-- trusted, own: holds if `answer` is the reason, if there is one, and otherwise `Ok`
 abbrev pub GivesReason : Result (Unit {0}) Why → Option Why → Type 0
 GivesReason answer reason = MatchResult answer (λ _. reason ≡ None) (λ why. reason ≡ Some why)
 
@@ -50,7 +50,7 @@ why_not _ value = first_reason false (not (length value == 0)) false false
 abbrev pub AreHeldBefore : List Item → List (List ℕ) → ℕ → Type 0
 AreHeldBefore items values n = (k : ℕ) (item : Item) (value : List ℕ) → k < n → slice_get items k ≡ Some item → slice_get values k ≡ Some value → why_not item value ≡ None
 
--- trusted, the order is own: holds if each item holds its value
+-- trusted, the order is own: holds if each of `items` holds its value
 abbrev pub AreHeld : List Item → List (List ℕ) → Type 0
 AreHeld items values = AreHeldBefore items values (length items)
 

@@ -32,7 +32,7 @@ pub record IsWhole (head : List ℕ) (h : RequestHead) : Type 0 where
 abbrev pub is_bare_line_feed : ℕ × ℕ → Bool
 is_bare_line_feed pair = pair.1 == 10 && not (pair.0 == 13)
 
--- trusted, RFC 9112, section 2.2: holds if some line feed has no carriage return before it
+-- trusted, RFC 9112, section 2.2: holds if some line feed of `head` has no carriage return before it
 abbrev pub has_bare_line_feed : List ℕ → Bool
 has_bare_line_feed head = list_any is_bare_line_feed (zip (0 ∷ head) head)
 

@@ -19,7 +19,7 @@ use Rattle.gs_ident.specs.Elements.{Elements, pairs_of}
 abbrev pub pair_with : List Pair → List ℕ → Option Pair
 pair_with pairs code = find (λ pair. bytes_eq code pair.code) pairs
 
--- trusted, own: holds if the value is the text that means none in the row of its code
+-- trusted, own: holds if the value of `pair` is the text that means none in the row of its code
 abbrev pub stands_for_none : List AiRow → Pair → Bool
 stands_for_none table pair =
     option_map_or (λ row. not (is_empty row.none) && bytes_eq row.none pair.value) (find (has_code pair.code) table) false

@@ -35,7 +35,7 @@ abbrev pub is_cut : List ℕ → Bool
 is_cut [] = true
 is_cut (c ∷ rest) = c == 45
 
--- trusted, RFC 4647, section 3.3.1: holds if the tag begins with the range, and nothing or a hyphen follows
+-- trusted, RFC 4647, section 3.3.1: holds if `tag` begins with `range`, case-insensitively, and nothing or a hyphen follows
 abbrev pub is_in_range : List ℕ → List ℕ → Bool
 is_in_range range tag = bytes_eq (lowered (take (length range) tag)) (lowered range) && is_cut (drop (length range) tag)
 

@@ -27,8 +27,8 @@ last_name [] = []
 last_name (relation ∷ []) = relation.name
 last_name (relation ∷ next ∷ relations) = last_name (next ∷ relations)
 
--- trusted, own: Holds if a context cannot go on with the links of the next. Their anchors differ, or the relation of the next
--- one's first link is below that of its last link.
+-- trusted, own: Holds if `context` cannot go on with the links of `next`. Their anchors differ, or the relation of the first
+-- link of `next` is below that of the last of `context`.
 abbrev pub is_apart : Context → Context → Bool
 is_apart context next = not (bytes_eq context.anchor next.anchor) || is_below (first_name next.relations) (last_name context.relations)
 

@@ -68,7 +68,7 @@ spelled contexts = spelled_links (links_of_document contexts)
 abbrev pub is_unspellable_href : List ℕ → Bool
 is_unspellable_href href = not (are_some is_target_byte href)
 
--- trusted, own: holds if the relation type is empty, or has a blank
+-- trusted, own: holds if the relation type `type` is empty, or has a blank
 abbrev pub is_unspellable_type : List ℕ → Bool
 is_unspellable_type type = length type == 0 || list_any is_blank type
 

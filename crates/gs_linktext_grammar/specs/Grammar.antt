@@ -115,6 +115,6 @@ written_links lexemes = every written_link (filter is_some_part (slice_split is_
 abbrev pub IsDocument : List ℕ → List WrittenLink → Type 0
 IsDocument text links = (lexemes : List Lexeme) × Lexed lexemes text × (written_links lexemes ≡ Some links)
 
--- trusted, RFC 8288, appendix B.1: holds if a text is not a document
+-- trusted, RFC 8288, appendix B.1: holds if `text` is not a document
 abbrev pub IsNoDocument : List ℕ → Type 0
 IsNoDocument text = (links : List WrittenLink) → IsDocument text links → ⊥

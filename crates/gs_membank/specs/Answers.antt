@@ -118,14 +118,14 @@ ShowsDump set dump (Err NoOption) = WritesAs set Tag dump.epc (Err NoOptionOf)
 ShowsDump set dump (Err (CannotHold field why)) = WritesAs set Tag dump.epc (Err (CannotHoldOf field why))
 ShowsDump set dump (Err WriteMemory) = Unit {0}
 
--- trusted, TDS 2.0, section 12; the form is own: holds if the text begins as a line of the dump, and the rest is a tag URI of its
+-- trusted, TDS 2.0, section 12; the form is own: holds if `text` begins as the line of `dump`, and the rest is a tag URI of its
 -- EPC
 pub record IsShown (set : TableRows) (text : List ℕ) (dump : Dump) : Type 0 where
   pub rest : List ℕ
   pub start : IsShownStart text dump.user dump.attributes rest
   pub says : Says set Tag rest dump.epc
 
--- trusted, own: holds if the text begins as a line of a dump, and the rest has no derivation in the level of tag URIs
+-- trusted, own: holds if `text` begins as a line of a dump, and the rest has no derivation in the level of tag URIs
 pub record ShowsNoTag (set : TableRows) (text : List ℕ) : Type 0 where
   pub user : Bool
   pub attributes : ℕ

@@ -21,8 +21,8 @@ use Rattle.gs_merge.specs.MergedDocuments.{links_at, links_by, targets_of}
 abbrev pub IsStore : List AiRow → List ℕ → List Link → Type 0
 IsStore table voc links = (contexts : List Context) × (load_answer table voc contexts ≡ Ok links)
 
--- trusted, own: Holds if the document loads to its links, by each table and vocabulary by which both lists are the links of a store.
--- The table satisfies the rules, and the vocabulary keeps names.
+-- trusted, own: Holds if `contexts` load to their links, by each table and vocabulary by which `a` and `b` are the links of a
+-- store. The table satisfies the rules, and the vocabulary keeps names.
 abbrev pub LoadsForBoth : List Link → List Link → List Context → Type 0
 LoadsForBoth a b contexts =
     (table : List AiRow) (voc : List ℕ) → KeepsRules table → keeps_names voc ≡ true → IsStore table voc a → IsStore table voc b

@@ -19,7 +19,7 @@ use Rattle.gs_chars.specs.Characters.{are_visible}
 use Rattle.gs_tables.specs.Rules.{has_no_value, is_lead, is_serial_of, items_of_field, keeps_further, keeps_gcp, keeps_level, keeps_rest, keeps_serial}
 use Rattle.gs_tables.specs.Tables.{TableRows, level_rows}
 
--- trusted, TDS 2.0, section 6.3; own rules: Holds if the key of the kind is a key row of the table. Its form fits the kind's lead
+-- trusted, TDS 2.0, section 6.3; own rules: Holds if the key of `kind` is a key row of the table. Its form fits the kind's lead
 -- digits and serial, and has the kind's further fields.
 pub record KeptKind (ais : List AiRow) (kind : Kind) : Type 0 where
   pub row : AiRow

@@ -36,16 +36,16 @@ has_name name kind = bytes_eq name kind.name
 abbrev pub has_key : List ℕ → KindRow → Bool
 has_key key kind = bytes_eq key kind.key
 
--- trusted, own: holds if the name is not empty, is visible, and differs from the earlier ones
+-- trusted, own: holds if `name` is not empty, is visible, and differs from the `earlier` ones
 abbrev pub is_new_name : List KindRow → List ℕ → Bool
 is_new_name earlier name = not (is_empty name) && are_visible name && not (list_any (has_name name) earlier)
 
--- trusted, own: holds if no digit precedes the company prefix, or one does and the key is digits
+-- trusted, own: holds if `lead` is 0, or at most 1 for a key of digits
 abbrev pub is_lead : KeyForm → ℕ → Bool
 is_lead (Digits _ _) lead = nat_le lead 1
 is_lead (Characters _) lead = lead == 0
 
--- trusted, own: holds if the AI is that of a row of only characters
+-- trusted, own: holds if `code` is that of a row of only characters
 abbrev pub is_characters : List AiRow → List ℕ → Bool
 is_characters ais code = option_map_or (λ row. is_some (characters_of row.parts)) (find (has_code code) ais) false
 
@@ -61,7 +61,7 @@ abbrev pub are_piece_and_total : List (List ℕ) → Bool
 are_piece_and_total (piece ∷ total ∷ []) = bytes_eq piece (codes "piece") && bytes_eq total (codes "total")
 are_piece_and_total _ = false
 
--- trusted, own: holds if the further fields are the piece and the total if the key has them, and otherwise none
+-- trusted, own: holds if `fields` are the piece and the total for a key that has them, and otherwise none
 abbrev pub are_fields_of : KeyForm → List (List ℕ) → Bool
 are_fields_of (Digits _ (Further _ _)) fields = are_piece_and_total fields
 are_fields_of (Digits _ Nothing) fields = is_empty fields
@@ -77,7 +77,7 @@ fits_form ais row kind form =
 abbrev pub fits_key : List AiRow → AiRow → KindRow → Bool
 fits_key ais row kind = is_key row.role && option_map_or (fits_form ais row kind) (key_form row.parts) false
 
--- trusted, own, after TDS 2.0 section 6.3: holds if the kind satisfies the rules of kinds, given the earlier ones
+-- trusted, own, after TDS 2.0 section 6.3: holds if `kind` satisfies the rules of kinds, given the `earlier` ones
 unfoldable pub is_kind : List AiRow → List KindRow → KindRow → Bool
 is_kind ais earlier kind =
     is_new_name earlier kind.name && not (list_any (has_key kind.key) earlier)
@@ -176,8 +176,8 @@ is_gcp (Characters _) lead n = is_between 1 12 n
 unfoldable pub keeps_gcp : KeyForm → ℕ → ℕ → List Item → Bool
 keeps_gcp form lead n items = is_gcp form lead n && is_one (is_digits n) items
 
--- trusted, own: holds if the digits or characters of the key after a company prefix of n digits are in one item. They are in
--- none if no digit is left
+-- trusted, own: Holds if the digits or characters of the key after a company prefix of `n` digits are in one item. They are in
+-- none if no digit is left.
 unfoldable pub keeps_rest : KeyForm → ℕ → List Item → Bool
 keeps_rest (Digits digits _) n items = if digits - n == 0 then is_empty items else is_one (is_digits (digits - n)) items
 keeps_rest (Characters most) n items = is_one (is_free (most - n)) items
@@ -188,8 +188,8 @@ keeps_serial None items = is_empty items
 keeps_serial (Some (room.Characters most)) items = is_one (has_room most) items
 keeps_serial (Some (room.Digits most)) items = is_one (is_number most) items
 
--- trusted, own: holds if there is one item each of the piece and the total, of the key's numbers of digits, or none if it has
--- no pieces
+-- trusted, own: holds if there is one item each of the piece and the total, with the key's numbers of digits, or none if it has
+-- none
 unfoldable pub keeps_further : KeyForm → List Item → List Item → Bool
 keeps_further (Digits _ (Further a b)) pieces totals = is_one (is_digits a) pieces && is_one (is_digits b) totals
 keeps_further (Digits _ Nothing) pieces totals = is_empty pieces && is_empty totals

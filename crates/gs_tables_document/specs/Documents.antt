@@ -76,8 +76,8 @@ is_bits Binary = true
 is_bits Tag = false
 is_bits Pure = false
 
--- trusted, own: holds if each item of the first list relates to the item of the second at its place, and the lists have one
--- length
+-- trusted, own: holds if `Is` relates each item of the first list to the item of the second at its place, and the lists have
+-- one length
 abbrev pub Each : {X Y : Type 0} → (X → Y → Type 0) → List X → List Y → Type 0
 Each Is [] [] = Unit {0}
 Each Is (x ∷ xs) (y ∷ ys) = Is x y × Each Is xs ys

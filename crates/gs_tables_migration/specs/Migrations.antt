@@ -55,7 +55,7 @@ is_known_part _ = true
 abbrev pub has_parts : AiRow → Bool
 has_parts row = list_all is_known_part row.parts
 
--- trusted, own: holds if the rows of the document of version 1 or 2 have only parts and items of the profile
+-- trusted, own: holds if the rows of `document`, of version 1 or 2, have only parts and items of the profile
 pub record IsKnown (document : Document) : Type 0 where
   pub version : (document.version == 1 || document.version == 2) ≡ true
   pub ais : list_all has_parts document.ais ≡ true

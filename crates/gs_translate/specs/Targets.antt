@@ -30,7 +30,7 @@ use Rattle.gs_translate.specs.declared.reason.Reason.TheVariants.{NoKind, Extra,
 abbrev pub has_key : List ℕ → Kind → Bool
 has_key code kind = bytes_eq code kind.key
 
--- trusted, own: holds if the pair is the serial, in a separate element
+-- trusted, own: holds if `pair` is the serial, in a separate element
 abbrev pub is_serial : SerialAt → Pair → Bool
 is_serial (Ai code) pair = bytes_eq code pair.code
 is_serial Nowhere pair = false
@@ -110,7 +110,7 @@ length_for set prefixes options meaning kind =
 
 -- ---- the facts of a tag apart from its key
 
--- trusted, own: holds if the filter value, if there is one, is one of 0 to 7
+-- trusted, own: holds if `filter` is nothing or a filter value of 0 to 7
 abbrev pub FitsFilter : Option ℕ → Type 0
 FitsFilter filter = IfSome filter (λ number. number ≤ 7)
 

@@ -47,7 +47,7 @@ IsOfLevel set prefixes options level meaning answer =
 
 -- ---- each form
 
--- trusted, own: holds if the result is the one spelling of a meaning in the requested form, or the first reason why there is none
+-- trusted, own: holds if `answer` is the one spelling of `meaning` in the requested form, or the first reason why there is none
 abbrev pub IsSpelling : TableRows → List PrefixEntry → Options → Target → Meaning → Result (List ℕ) Reason → Type 0
 IsSpelling set prefixes options Hex meaning answer = IsOfLevel set prefixes options level.Binary meaning answer
 IsSpelling set prefixes options Tag meaning answer = IsOfLevel set prefixes options level.Tag meaning answer
@@ -58,8 +58,8 @@ IsSpelling set prefixes options Link meaning answer = answer ≡ Ok (spelled opt
 IsSpelling set prefixes options Canon meaning answer = IsCanonical meaning answer
 
 -- trusted, TDS 2.0, sections 6, 7, 12 and 14; GS1 General Specifications, sections 4 and 7.8; GS1 Digital Link URI Syntax,
--- sections 4 and 5; the reasons are own: Holds if the result is the translation of a text of a form, or why it is rejected. The
--- translation is the spelling of its meaning, narrowed if only keys are kept.
+-- sections 4 and 5; the reasons are own: Holds if `answer` is the translation of `text`, or why it is rejected. The translation
+-- is the spelling of its meaning, narrowed if only keys are kept.
 abbrev pub IsTranslation : TableRows → List PrefixEntry → Options → Form → Target → List ℕ → Result (List ℕ) Reason → Type 0
 IsTranslation set prefixes options from to text answer =
     Then (IsRead set from text) (λ meaning. IsSpelling set prefixes options to (kept set options.keys_only meaning)) answer

@@ -111,6 +111,6 @@ HasNoPairs rows words = (pairs : NamedPairs) → AreOfRows rows words pairs → 
 abbrev pub OfPairs : List (List ℕ) → (NamedPairs → Type 0) → Type 0
 OfPairs words Fact = (pairs : NamedPairs) → ArePairs words pairs → Fact pairs
 
--- trusted, own: holds if each required row is given by one of its names
+-- trusted, own: holds if each required row of `rows` is given by one of its names
 abbrev pub has_required : List NameRow → NamedPairs → Bool
 has_required rows pairs = list_all (λ (row : NameRow). not row.required || is_given pairs row) rows

@@ -145,7 +145,7 @@ pub record WordsInOrder (words : List (List ℕ)) (asked : Asked) : Type 0 where
   pub in_range : operands_in_range command ≡ true
   pub asks : Asks command behind asked
 
--- trusted, own: holds if the words are invalid: they ask for nothing
+-- trusted, own: holds if `words` are invalid: they ask for nothing
 abbrev pub NotInOrder : List (List ℕ) → Type 0
 NotInOrder words = (asked : Asked) → WordsInOrder words asked → ⊥
 
@@ -159,7 +159,7 @@ pub record Asking (words : List (List ℕ)) (Fact : Asked → Type 0) : Type 0 w
 abbrev pub AskingOr : List (List ℕ) → (Asked → Type 0) → Type 0 → Type 0
 AskingOr words Fact Other = Asking words Fact ⊎ (NotInOrder words × Other)
 
--- trusted, own: holds if the words are valid, and the command that they ask for passes the test
+-- trusted, own: holds if `words` are valid, and the command that they ask for passes `test`
 abbrev pub AsksFor : (Command → Bool) → List (List ℕ) → Type 0
 AsksFor test words = Asking words (λ asked. test asked.command ≡ true)
 
@@ -204,7 +204,7 @@ classes_named files = option_to_list files.classes
 abbrev pub names_in_order : FileNames → List (List ℕ)
 names_in_order files = tables_named files ++ (links_named files ++ (description_named files ++ classes_named files))
 
--- trusted, own: holds if the words name no file
+-- trusted, own: holds if `words` are invalid or name no file
 abbrev pub NamesNoFile : List (List ℕ) → Type 0
 NamesNoFile words = (name : List ℕ) → Asking words (λ asked. Contains (names_in_order asked.files) name) → ⊥
 

@@ -19,7 +19,7 @@ use Rattle.tdl_gen.specs.Generator.{generated_line}
 abbrev pub filter_one : Options
 filter_one = record { filter = Some 1; gcp = None; encoding = []; keys_only = false; stem = canonical_stem }
 
--- trusted, own: holds if the result is the translation of a text with only filter value 1 and no company prefix lengths
+-- trusted, own: holds if `answer` is the translation of `text` with only filter value 1 and no company prefix lengths
 unfoldable pub IsPlain : TableRows → Form → Target → List ℕ → Result (List ℕ) Reason → Type 0
 IsPlain set from to text answer = IsTranslation set [] filter_one from to text answer
 

@@ -242,11 +242,11 @@ FilesGive files asked answer =
       classes = classes;
     }))))))))) answer
 
--- trusted, own: holds if the files give something that loads, and the fact holds of it
+-- trusted, own: holds if the files give contents that load, and `Fact` holds of them
 abbrev pub Loading : Option FilesInMemory → Asked → (Loaded → Type 0) → Type 0
 Loading files asked Fact = (loaded : Loaded) × FilesGive files asked (Ok loaded) × Fact loaded
 
--- trusted, own: holds if the run stops at its files, and the fact holds of the reason
+-- trusted, own: holds if the run stops at its files, and `Fact` holds of the reason
 abbrev pub Stopping : Option FilesInMemory → Asked → (Stop → Type 0) → Type 0
 Stopping files asked Fact = (stop : Stop) × FilesGive files asked (Err stop) × Fact stop
 
@@ -278,7 +278,7 @@ named_up_to kind.Classes files = names_in_order files
 named_up_to other files = tables_named files ++ links_named files
 
 -- trusted, own: Holds if only the first of the named files were opened, in their order. If the files are known, none was opened
--- after the one at which the run stops. The opened ones may be unknown instead only if memory was lost
+-- after the one at which the run stops. The opened ones may be unknown instead only if `lost` is true.
 pub record OpensUpTo (lost : Bool) (files : Option FilesInMemory) (asked : Asked) (before now : Option (List (List ℕ))) : Type 0 where
   pub first : OpensFirst lost (names_in_order asked.files) before now
   pub decided : (known : FilesInMemory) (stop : Stop) → files ≡ Some known → FilesGive files asked (Err stop) → OpensFirst lost (named_up_to (kind_of stop) asked.files) before now

@@ -126,8 +126,8 @@ PartsGive files asked answer = Then (TabledGive files asked.files) (GivesLinks f
 
 -- ---- loads
 
--- trusted, own: holds if the answer of a load is the result of the files, a read fault, or out of memory. A read fault occurs
--- only if the files counted an error or a file is missing
+-- trusted, own: Holds if the answer of a load is the result of the files, a read fault, or out of memory. A read fault occurs
+-- only if the files counted an error or a file is missing.
 abbrev pub LoadedBy : {A : Type 0} → (Result A Stop → Type 0) → ℕ → ℕ → Result A Unloaded → Type 0
 LoadedBy Give before now (Ok a) = Give (Ok a)
 LoadedBy Give before now (Err (Refused rejection)) = Give (Err (rejected rejection))

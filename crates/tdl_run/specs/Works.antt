@@ -84,11 +84,11 @@ PrintsLine line ending held held' = Appends held held' (λ output. PrintedAs Don
 abbrev pub PrintsMade : {E : Type 0} → Result (List ℕ) E → Status → Option (List ℕ) → Option (List ℕ) → Type 0
 PrintsMade made ending held held' = (line : List ℕ) → IfOk made (λ text. text ≡ line) → PrintsLine line ending held held'
 
--- trusted, own: holds if more than 4,294,967,296 bytes were taken from the input
+-- trusted, own: holds if more than 4,294,967,296 bytes were taken from the input between `before` and `now`
 abbrev pub PassesLimit : Option (List ℕ) → Option (List ℕ) → Type 0
 PassesLimit before now = TakesMoreThan input_limit before now
 
--- trusted, own: holds if the outcome is the answers to the lines of the input, with their status, and no finished connection
+-- trusted, own: holds if `outcome` has the answers to the lines of the input, with their status, and no finished connection
 abbrev pub LinesAnswered : (List ℕ → LineAnswer → Type 0) → Option (List ℕ) → Outcome → Type 0
 LinesAnswered Is input outcome =
     AnswersInput Is input_limit input outcome.output outcome.status × (outcome.finished ≡ [])
