@@ -41,8 +41,8 @@ BothAccept m n symbols = Leads m n (start_of m) (start_of n) symbols
 abbrev pub NoneInCommon : AutoForm → AutoForm → Type 0
 NoneInCommon m n = IsDead m n (start_of m) (start_of n)
 
--- Holds if the list takes this edge in the first machine, and in the second an edge to a state that is not below the least. Its
--- rest leads both to their accepting states.
+-- Holds if the list takes `edge` in the first machine, and in the second an edge to a state from `least` on. Its rest leads
+-- both to their accepting states.
 pub record LeadsBehind (m n : AutoForm) (edge : Edge) (q least : ℕ) (symbols : List ℕ) : Type 0 where
   pub symbol : ℕ
   pub rest : List ℕ

@@ -69,8 +69,8 @@ abbrev pub fits_parts : List AiRow → ClassRow → List Part → Bool
 fits_parts ais row parts =
     option_map_or (λ digits. option_map_or (λ most. keeps_items row digits most) (element_room ais row.element) false) (digits_alone parts) false
 
--- trusted, own: holds if `key` is the row of a key that lists the element of `row`, at most one digit precedes the company
--- prefix, and the items fit
+-- trusted, own: holds if `key` is a key's row that lists the element of `row`, at most one digit precedes the company prefix,
+-- and the items fit
 unfoldable pub fits_key : List AiRow → ClassRow → AiRow → Bool
 fits_key ais row key =
     is_key key.role && nat_le row.lead 1 && list_any (bytes_eq row.element) key.qualifiers && fits_parts ais row key.parts

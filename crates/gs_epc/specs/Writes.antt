@@ -1,5 +1,5 @@
--- The texts of an EPC (TDS 2.0, sections 6, 12 and 14), by the options of TDT 2.0, section 3: pure identity URIs, tag URIs and
--- bits. That the first option that holds every field writes, and the choice of the named rejection, is this project's own.
+-- The texts of an EPC, by options (TDT 2.0, section 3): pure identity URIs, tag URIs and bits (TDS 2.0, sections 6, 12 and 14).
+-- That the first option that holds every field writes, and the choice of the named rejection, is this project's own.
 use Rattle.std.specs.Prelude.{◌≡◌, ◌<◌, ◌⊎◌, ◌++◌, ℕ, List, Option, Some, None, option_and_then, slice_get, unwrap_or, Result, Ok, Err}
 use Rattle.gs_bits.specs.HexText.{hex_of_bits}
 use Rattle.gs_grammar.specs.declared.error.Why.{Why}

@@ -83,7 +83,7 @@ pub fn reply_with(
 /// Returns the reply to the head of a request (RFC 9112, section 2.1), whose bytes are all of `head`. The first case that
 /// applies decides:
 ///
-/// - 400 that closes the connection: the bytes are not a head with at most 64 fields, have a bare line feed, or announce a body.
+/// - 400 that closes the connection: the bytes are not a head of at most 64 fields, have a bare line feed, or announce a body.
 /// - 405: the method is neither `GET` nor `HEAD`.
 /// - 400: the target does not begin with a slash.
 /// - The resolver description file, or 404 without one: its path is the target's.
