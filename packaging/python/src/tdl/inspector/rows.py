@@ -1,4 +1,4 @@
-"""The rows of a table document (docs/FORMATS.md, 'The table document'), as far as a text is explained by them."""
+"""The rows of a table document (docs/TABLES.md, 'The table document'), as far as a text is explained by them."""
 from __future__ import annotations
 
 import json
