@@ -5,6 +5,8 @@ from pathlib import Path
 
 DOCUMENT = Path(__file__).resolve().parent.parent / "docs" / "MESSAGES.md"
 TEXT = re.compile(r"(?:([0-9,]+) times )?`([^`]*)`")
+# where the packages have the documents
+SITE = "/usr/share/doc/tdl/html"
 HEAD = """.Dd $Mdocdate: November 29 2026 $
 .Dt TDL-MESSAGES 7
 .Os
@@ -38,6 +40,7 @@ def rows():
 def plain(text):
     """A text of the document as lines of a manual page, each sentence on lines of its own."""
     text = re.sub(r"\[([^]]*)\]\([^)]*\)", r"\1", text).replace("`", "").replace("\\", "\\e")
+    text = re.sub(r"(?:docs/)?\b([A-Z]+)\.md", rf"{SITE}/docs/\1.html", text)
     lines = [line for sentence in re.split(r"(?<=[.;:]) (?=[A-Z])", text) for line in textwrap.wrap(sentence, 76, break_on_hyphens=False)]
     return "\n".join(f"\\&{line}" if line.startswith((".", "'")) else line for line in lines)
 
