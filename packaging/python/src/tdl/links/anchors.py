@@ -19,6 +19,11 @@ PLACED, NUMBER = re.compile(r"At bytes? [^:]*: "), re.compile("[0-9]+")
 EXTRA = re.compile("[?&]([0-9]+)=")
 
 
+def linked(anchor: str) -> str:
+    """Returns an anchor with a stem if it is a path."""
+    return STEM + anchor if anchor.startswith("/") else anchor
+
+
 def asked_of(entry: Entry) -> Tuple[Form, str]:
     """Returns the form and the text that the program is asked for what a row names.
 
@@ -28,9 +33,10 @@ def asked_of(entry: Entry) -> Tuple[Form, str]:
         (code, value), *others = entry.elements
         query = "&".join(f"{code}={quote(value, safe='')}" for code, value in others)
         return "link", f"{STEM}/{code}/{quote(value, safe='')}" + (f"?{query}" if query else "")
-    if entry.anchor.startswith("/"):
-        return "link", STEM + entry.anchor
-    return ("bracketed" if entry.anchor.startswith("(") else "link" if "://" in entry.anchor else "raw"), entry.anchor
+    if entry.anchor.startswith("("):
+        return "bracketed", entry.anchor
+    text = linked(entry.anchor)
+    return "link" if "://" in text else "raw", text
 
 
 def read_anchors(entries: Sequence[Entry], columns: Columns, tables: Optional[str]) -> Tuple[List[str], List[Fault]]:
@@ -61,7 +67,8 @@ def _fault(entry: Entry, answer: Answer, columns: Columns) -> Optional[Fault]:
     if not extra:
         return None
     name = extra[1] if entry.elements else "anchor"
-    return columns.fault(entry.row, name, "attributes", f"({extra[1]}) is not a qualifier of this key", dict(entry.elements).get(name, entry.anchor))
+    text = dict(entry.elements).get(name, entry.anchor)
+    return columns.fault(entry.row, name, "attributes", f"({extra[1]}) is not a qualifier of this key", text)
 
 
 def _anchor_fault(entry: Entry, rejected: Rejected, columns: Columns) -> Fault:

@@ -7,7 +7,7 @@ from typing import Any, Dict, Iterator, List, Sequence, Tuple
 
 from ..errors import FilesRejected
 from ..translator import Translator
-from .anchors import STEM
+from .anchors import STEM, linked
 from .columns import NAMES
 from .linkset import Options, check_file, check_part, context_of, parts_of
 from .table import NotATable
@@ -26,12 +26,13 @@ def table_of(path: str, options: Options) -> List[Sequence[str]]:
     """
     contexts = _contexts(path, options)
     with Translator("link", tables=options.tables) as run:
-        anchors = run.translate_list([f"{STEM}{it['anchor']}" if it["anchor"].startswith("/") else it["anchor"] for it in contexts])
+        anchors = run.translate_list([linked(context["anchor"]) for context in contexts])
     rows: List[Sequence[str]] = [NAMES]
     unfit: List[str] = []
     for number, (context, anchor) in enumerate(zip(contexts, anchors)):
         for place, relation, target in _links(context, options.voc or VOCABULARY):
-            cells = [str(anchor)[len(STEM) :], target["href"], relation, " ".join(_languages(target)), _text(target, "title"), _text(target, "type")]
+            texts = [" ".join(_languages(target)), _text(target, "title"), _text(target, "type")]
+            cells = [str(anchor)[len(STEM) :], target["href"], relation, *texts]
             rows.append(cells)
             unfit += [f"/linkset/{number}/{place}: {why}" for why in _misfits(cells, target)]
     if unfit:

@@ -68,7 +68,7 @@ def contexts_of(links: Sequence[Link]) -> List[Context]:
 
 def _too_large(contexts: Sequence[Context], entries: Sequence[Entry], links: Sequence[Link], columns: Columns) -> Iterator[Fault]:
     """Yields the first row of each item that has more links than one process serves."""
-    large = {context.anchor: context.links for context in contexts if context.links > MOST_LINKS or len(context.text.encode("utf-8")) > MOST_BYTES}
+    large = {it.anchor: it.links for it in contexts if it.links > MOST_LINKS or len(it.text.encode("utf-8")) > MOST_BYTES}
     for entry, link in zip(entries, links) if large else ():
         count = large.pop(link.anchor, 0)
         if count:

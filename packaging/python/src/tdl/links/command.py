@@ -15,9 +15,10 @@ from .table import csv_of, is_workbook
 from .workbook import workbook_of
 
 PURPOSE = "make a linkset of a table of links, or a table of a linkset"
-EPILOG = """Columns, in any order: `anchor` (a link, its path, or an element string), or one for each AI, `01`, `10`, `21` ..; `href`; `linkType`,
-where an empty cell means gs1:defaultLink; `hreflang`, languages separated by spaces; `title`; `type`. Other names begin with #. The status is
-1 if a row is wrong: all wrong rows are named, and nothing is written."""
+EPILOG = """\
+Columns, in any order: `anchor` (a link, its path, or an element string), or one for each AI, `01`, `10`, `21` ..; `href`; `linkType`, where
+an empty cell means gs1:defaultLink; `hreflang`, languages separated by spaces; `title`; `type`. Other names begin with #. The status is 1 if
+a row is wrong: all wrong rows are named, and nothing is written."""
 VOCABULARY = re.compile("[!-~]{1,256}")
 
 
@@ -33,10 +34,11 @@ def add_links(parser: argparse.ArgumentParser) -> None:
     parser.epilog = " ".join(EPILOG.split())
     source = parser.add_mutually_exclusive_group(required=True)
     source.add_argument("table", nargs="?", metavar="TABLE", help="the table: a workbook if its name ends in .xlsx, else CSV in UTF-8")
-    source.add_argument("--back", metavar="LINKSET", help="a linkset, of which a table is made, a workbook if the output's name ends in .xlsx")
+    source.add_argument("--back", metavar="LINKSET", help="make a table of this linkset; a workbook if FILE ends in .xlsx")
     parser.add_argument("-o", "--output", default="-", metavar="FILE", help="the file to write; else the standard output")
     parser.add_argument("--sheet", metavar="NAME", help="the sheet of the workbook; else the first")
-    parser.add_argument("--templates", choices=("yes", "no"), default="no", help="whether references are templates, as in https://shop.example/{01}")
+    templates = "whether target URIs are templates, such as https://shop.example/{01}"
+    parser.add_argument("--templates", choices=("yes", "no"), default="no", help=templates)
     parser.add_argument("--tables", metavar="FILE", help="a table document, such as tables/gs1.json; else the built-in tables")
     parser.add_argument("--voc", type=vocabulary, metavar="PREFIX", help="what gs1: means; else https://ref.gs1.org/voc/")
 

@@ -93,7 +93,8 @@ def _entry(number: int, texts: Dict[str, str], columns: Columns, faults: List[Fa
     has_anchor, has_key = "anchor" in texts, any(code in columns.keys for code in codes)
     anchor, elements = texts.get("anchor", ""), tuple((code, texts[code]) for code in codes)
     if has_anchor and codes:
-        faults.append(columns.fault(number, "anchor", "anchors", f"the row has elements too, in {', '.join(codes)}; leave one of both", anchor))
+        sentence = f"the row has elements too, in {', '.join(codes)}; leave one of both"
+        faults.append(columns.fault(number, "anchor", "anchors", sentence, anchor))
     elif not has_anchor and not has_key:
         faults.append(columns.fault(number, next(iter(columns.keys), "anchor"), "key", "no element is a key; add one, such as (01) GTIN"))
     if has_anchor == bool(codes) or not (has_anchor or has_key) or not all(text for _, text in elements):

@@ -36,12 +36,14 @@ def read_workbook(path: str, sheet: Optional[str]) -> Iterator[Sequence[Cell]]:
                 return
             sources = _rows(openpyxl.load_workbook(second, read_only=True), path, sheet)
             for row, cells in zip(values, sources):
-                yield [Damaged("formula", str(source)) if value is None and source is not None else _cell(value) for value, source in zip(row, cells)]
+                # (what has no value and is not empty is a formula)
+                yield [_cell(value) if value is not None or source is None else Damaged("formula", str(source)) for value, source in zip(row, cells)]
     except (NotATable, OSError, MemoryError):
         raise
     except Exception as error:
         # (a damaged archive or XML ends in errors of many types)
-        raise NotATable(f"{path} is not an XLSX workbook ({type(error).__name__}: {error}): save it as .xlsx without a password, or as CSV") from error
+        why = f"{type(error).__name__}: {error}"
+        raise NotATable(f"{path} is not an XLSX workbook ({why}): save it as .xlsx without a password, or as CSV") from error
 
 
 def _has_formulas(path: str) -> bool:
