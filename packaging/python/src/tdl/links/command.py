@@ -3,16 +3,6 @@ from __future__ import annotations
 
 import argparse
 import re
-import sys
-
-from ..errors import FilesRejected, ProgramError
-from ..tables import check
-from .back import table_of
-from .build import Built, build
-from .linkset import MOST_BYTES, MOST_LINKS, Options, check_part, parts_of, text_of
-from .output import write_whole
-from .table import csv_of, is_workbook
-from .workbook import workbook_of
 
 PURPOSE = "make a linkset of a table of links, or a table of a linkset"
 EPILOG = """\
@@ -45,43 +35,9 @@ def add_links(parser: argparse.ArgumentParser) -> None:
 
 def run_links(asked: argparse.Namespace) -> int:
     """Makes a linkset or a table, and returns the status."""
-    check(asked.tables)
-    options = Options(asked.tables, asked.voc, asked.templates == "yes")
-    if asked.back is not None:
-        return _back(asked, options)
-    built = build(asked.table, asked.sheet, options)
-    if built.faults:
-        return _rejected(built)
-    parts = list(parts_of(built.contexts))
-    for part in parts:
-        try:
-            check_part(part, options)
-        except FilesRejected as error:
-            raise ProgramError(f"`tdl check` rejects the linkset: {error}") from error
-    write_whole(asked.output, text_of(built.contexts).encode("utf-8"))
-    _tell(f"{_count(built.rows, 'row')}, {_count(len(built.contexts), 'anchor')}, 0 rejected")
-    if len(parts) > 1:
-        name = "FILE" if asked.output == "-" else asked.output
-        _tell(f"One process serves {MOST_LINKS:,} links in {MOST_BYTES:,} bytes. Split them: tdl-shard --shards auto --out DIR {name}")
-    return 0
+    # (only here, since other commands need nothing of it)
+    from .work import make_linkset, make_table
 
-
-def _back(asked: argparse.Namespace, options: Options) -> int:
-    rows = table_of(asked.back, options)
-    write_whole(asked.output, workbook_of(rows) if is_workbook(asked.output) else csv_of(rows).encode("utf-8"))
-    _tell(_count(len(rows) - 1, "row"))
-    return 0
-
-
-def _rejected(built: Built) -> int:
-    print(*built.faults, sep="\n", file=sys.stderr)
-    _tell(f"nothing is written: {_count(built.rows, 'row')}, {len({fault.row for fault in built.faults}):,} rejected")
-    return 1
-
-
-def _count(number: int, noun: str) -> str:
-    return f"{number:,} {noun}{'' if number == 1 else 's'}"
-
-
-def _tell(sentence: str) -> None:
-    print(sentence, file=sys.stderr)
+    if asked.back is not None and asked.sheet is not None:
+        raise ValueError("--sheet names the sheet that is read, and --back reads a linkset")
+    return make_linkset(asked) if asked.back is None else make_table(asked)
