@@ -47,7 +47,7 @@ class Table(NamedTuple):
 
 def read_rows(path: str, rows: Iterable[Sequence[Cell]], tables: Rows) -> Table:
     """Returns the rows of a table. Raises `NotATable` if it is empty."""
-    filled = ((number, cells) for number, cells in enumerate(rows, 1) if any(cells))
+    filled = ((number, cells) for number, cells in enumerate(rows, 1) if any(not isinstance(cell, str) or cell.strip() for cell in cells))
     number, cells = next(filled, (0, ()))
     if not cells:
         raise NotATable(f"{path} is empty: its first row has the names of the columns")
