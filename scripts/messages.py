@@ -24,15 +24,15 @@ def cells_of(line):
 
 def is_row(cells):
     """Whether these are the cells of a message: its text, an example, its meaning, and what to do."""
-    return len(cells) == 4 and bool(re.match(r"`(?:no|refused) ", cells[0]))
+    return len(cells) == 4 and bool(re.match(r"`(?:no|refused|row) ", cells[0]))
 
 
 def rows():
-    """The messages of the document, each with its example: the arguments and the text, or nothing."""
+    """The messages of the document, each with its example: the arguments and the text, or nothing. Those of tables show a cell instead."""
     for line in DOCUMENT.read_text("utf-8").splitlines():
         cells = cells_of(line)
         if is_row(cells):
-            texts = TEXT.findall(cells[1])
+            texts = [] if cells[0].startswith("`row ") else TEXT.findall(cells[1])
             content = "".join(text * int(times.replace(",", "") or 1) for times, text in texts[1:])
             yield cells[0].strip("`"), (texts[0][1].split(" "), content) if texts else None
 

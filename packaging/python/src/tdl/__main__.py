@@ -1,4 +1,5 @@
-"""`python3 -m tdl csv`: a column of a CSV file, translated. `python3 -m tdl inspect`: the page that shows what a code says."""
+"""`python3 -m tdl csv`: a column of a CSV file, translated. `python3 -m tdl links`: a linkset of a table. `python3 -m tdl inspect`: the page
+that shows what a code says."""
 from __future__ import annotations
 
 import argparse
@@ -8,6 +9,8 @@ import webbrowser
 from typing import List, Optional
 
 from .errors import FilesRejected
+from .links.command import PURPOSE as LINKS
+from .links.command import add_links, run_links
 from .options import FORMS, TARGETS
 from .records import Job, Wrong, translate_csv
 from .tables import SETS, check
@@ -45,6 +48,7 @@ def arguments(words: Optional[List[str]]) -> argparse.Namespace:
     files.add_argument("--prefixes", metavar="FILE", help="a list of company prefix lengths")
     purpose = "translate a column of a CSV file: each record gets a column with the answer and one with the reason"
     add_csv(commands.add_parser("csv", parents=[files], help=purpose, description=f"{purpose.capitalize()}."))
+    add_links(commands.add_parser("links", help=LINKS, description=f"{LINKS.capitalize()}."))
     purpose = "serve a page on 127.0.0.1 that shows what a code says"
     add_inspect(commands.add_parser("inspect", parents=[files], help=purpose, description=f"{purpose.capitalize()}."))
     return parser.parse_args(words)
@@ -109,7 +113,7 @@ def main(words: Optional[List[str]] = None) -> int:
     """Runs a command and returns its status, which is the program's if a file or the program is wrong."""
     asked = arguments(words)
     try:
-        return run_csv(asked) if asked.command == "csv" else run_inspect(asked)
+        return {"csv": run_csv, "links": run_links, "inspect": run_inspect}[asked.command](asked)
     except FilesRejected as error:
         return _failed(asked, f"the file of --{error.which} is rejected: {error.reason}", 3)
     except (Wrong, ValueError) as error:
