@@ -7,15 +7,16 @@ import os
 import re
 import shlex
 import socket
+import socketserver
 import ssl
 import subprocess
-from contextlib import nullcontext
+from contextlib import nullcontext, suppress
 from threading import Event, Thread
 from time import monotonic, sleep
 
-HOST, SECONDS, MOST_OPEN, PATIENCE = "127.0.0.1", 30, 50, 8
+HOST, SECONDS, MOST_OPEN, PATIENCE = "127.0.0.1", 60, 50, 8
 UNIT, EXAMPLES = "lib/systemd/system/tdl@.service", "usr/share/doc/tdl/examples"
-SHIPPED_PORTS = (8081, 8082, 8083, 8084)
+SHIPPED_PORTS, ENDED = (8081, 8082, 8083, 8084), "/ended"
 
 
 def listens(port, address=HOST):
@@ -34,11 +35,12 @@ def setting(root, name):
     return re.search(rf"^{name}=(.*)$", (root / UNIT).read_text("ascii"), re.MULTILINE)[1]
 
 
-def command_of(root, port, listen, links, divisor=1):
-    """Returns the unit's command for a port, and its environment; `listen` takes the address's place, and the count is divided."""
+def command_of(root, port, listen, links, divisor=1, count=None):
+    """Returns the unit's command for a port, and its environment; `listen` takes the address's place, and the unit's count is divided, or
+    `count` is in its place."""
     line = setting(root, "ExecStart").replace(":%i", f":{listen[1]}").replace("%i", str(port)).replace("%%", "%").replace("$$", "$")
     line = line.replace("/usr/bin/", f"{root}/usr/bin/").replace("/etc/tdl/links.json", str(links))
-    line = re.sub(r"\$\(\((.*)\)\)", rf"$(((\1) / {divisor}))", line)
+    line = re.sub(r"\$\(\((.*)\)\)", str(count) if count else rf"$(((\1) / {divisor}))", line)
     return shlex.split(line), dict(re.findall(r'"(\w+)=(.*?)"', setting(root, "Environment"))) | {"TDL_ADDRESS": listen[0]}
 
 
@@ -86,9 +88,9 @@ class Service:
             self.thread.join(0.05)
 
 
-def service(root, port, links, listen=None, divisor=1, **how):
+def service(root, port, links, listen=None, divisor=1, count=None, **how):
     """Starts a process of the unit for a port, which listens there or at the address `listen`."""
-    command, named = command_of(root, port, listen or (HOST, port), links, divisor)
+    command, named = command_of(root, port, listen or (HOST, port), links, divisor, count)
     prevented = {int(status) for status in setting(root, "RestartPreventExitStatus").split()}
     return Service(command, os.environ | named, float(setting(root, "RestartSec").removesuffix("ms")) / 1000, prevented, **how)
 
@@ -151,6 +153,11 @@ def request(path, fields=(), body=b""):
     return "\r\n".join([f"GET {path} HTTP/1.1", "Host: id.example", "Connection: close", *fields, *length, "", ""]).encode("ascii") + body
 
 
+def direct(port, sent):
+    """Returns the reply of a process to a request that no front has handed on."""
+    return asyncio.run(ask(port, sent, None))
+
+
 def reply_of(got):
     """Returns the status and the fields of a whole reply, or `None`."""
     head, end, body = got.partition(b"\r\n\r\n")
@@ -177,16 +184,50 @@ async def ask(front, sent, tls, ready=None):
     return reply_of(got) if got else None
 
 
-async def paced(front, sent, rate, doing):
-    """Asks `rate` times a second at most, and `MOST_OPEN` at once, until `doing` has returned, and returns the replies."""
+async def paced(front, sent, rate, doing, least=0):
+    """Asks `rate` times a second at most, and `MOST_OPEN` at once, until `doing` has returned and `least` times, and returns the replies."""
     tls, asked, work, room = context(), [], asyncio.create_task(asyncio.to_thread(doing)), asyncio.Semaphore(MOST_OPEN)
-    while not work.done():
+    while not work.done() or len(asked) < least:
         await room.acquire()
         asked.append(asyncio.create_task(ask(front, sent, tls)))
         asked[-1].add_done_callback(lambda _: room.release())
         await asyncio.sleep(1 / rate)
     await work
     return await asyncio.gather(*asked)
+
+
+async def next_reply(reader):
+    """Returns the status and the fields of the next reply on a connection that is kept, or `None`."""
+    try:
+        async with asyncio.timeout(SECONDS):
+            head = await reader.readuntil(b"\r\n\r\n")
+            length = re.search(rb"\r\ncontent-length: (\d+)", head.lower())
+            return reply_of(head + await reader.readexactly(int(length[1])))
+    except (OSError, asyncio.TimeoutError, asyncio.IncompleteReadError, TypeError):
+        return None
+
+
+async def kept(front, sent, count, told):
+    """Asks so many times over `MOST_OPEN` connections, a request at a time on each, and returns the replies; `told` gets their number."""
+    tls, left, replies = context(), iter(range(count)), []
+
+    async def client():
+        writer = None
+        for _ in left:
+            reply = None
+            with suppress(OSError):
+                if not writer:
+                    reader, writer = await asyncio.open_connection(HOST, front, ssl=tls)
+                writer.write(sent)
+                reply = await next_reply(reader)
+            replies.append(reply)
+            told(len(replies))
+            if writer and (not reply or reply[1].get("connection") == "close"):
+                writer.close()
+                writer = None
+
+    await asyncio.gather(*(client() for _ in range(MOST_OPEN)))
+    return replies
 
 
 async def at_once(front, sent, count):
@@ -214,6 +255,30 @@ class Barrier:
 def lost(replies, status):
     """Returns how many replies did not come whole, or with another status."""
     return sum(reply is None or reply[0] != status for reply in replies)
+
+
+class Ending(socketserver.ThreadingTCPServer):
+    """Stands in for a process that ends while it answers a request for ENDED, after more than half a second; others get 404."""
+
+    daemon_threads, allow_reuse_address = True, True
+
+    def __init__(self):
+        super().__init__((HOST, 0), EndingAnswer)
+        self.asked = 0
+        Thread(target=self.serve_forever, daemon=True).start()
+
+
+class EndingAnswer(socketserver.StreamRequestHandler):
+    """The answer of such a process."""
+
+    def handle(self):
+        """Ends the connection, or answers."""
+        head = b"".join(iter(self.rfile.readline, b"\r\n"))
+        if head.startswith(f"GET {ENDED}".encode("ascii")):
+            self.server.asked += 1
+            sleep(0.7)
+        else:
+            self.wfile.write(b"HTTP/1.1 404 Not Found\r\nContent-Length: 0\r\nConnection: close\r\n\r\n")
 
 
 def slow_reader(front, sent):
