@@ -104,15 +104,19 @@ def certificate(room):
     return room / "certificate.pem", room / "key.pem", room / "both.pem"
 
 
-def with_addresses(text, addresses, front):
-    """Returns a front's configuration with these addresses in place of the first processes', and without the others."""
+def with_addresses(text, addresses, front, plain=None):
+    """Returns a front's configuration with these addresses in place of the first processes', and without the others. It listens at a port,
+    and without TLS at another."""
     lines = []
     for line in text.splitlines():
         found = re.search(r"127\.0\.0\.1:808(\d)", line)
         if found and int(found[1]) > len(addresses):
             continue
         lines.append(line.replace(found[0], addresses[int(found[1]) - 1]) if found else line)
-    return "\n".join(lines).replace("listen 443", f"listen 127.0.0.1:{front}").replace("bind :443", f"bind 127.0.0.1:{front}") + "\n"
+    text = "\n".join(lines) + "\n"
+    more = (f" listen {HOST}:{plain};", f"    bind {HOST}:{plain}\n") if plain else ("", "")
+    text = text.replace("listen 443 ssl;", f"listen {HOST}:{front} ssl;{more[0]}")
+    return re.sub(r"bind :443 (.*\n)", rf"bind {HOST}:{front} \1{more[1]}", text)
 
 
 def nginx(room, main, more=""):
@@ -126,16 +130,18 @@ def nginx(room, main, more=""):
     return subprocess.Popen(words, stdout=subprocess.DEVNULL, stderr=subprocess.DEVNULL)
 
 
-def start_nginx(root, room, addresses, front, pems):
+def start_nginx(root, room, addresses, front, pems, plain=None):
     """Starts nginx with the shipped configuration."""
-    shipped = with_addresses((root / EXAMPLES / "nginx.conf").read_text("ascii"), addresses, front)
+    shipped = with_addresses((root / EXAMPLES / "nginx.conf").read_text("ascii"), addresses, front, plain)
     return nginx(room, shipped.replace("/etc/ssl/id.example.pem", str(pems[0])).replace("/etc/ssl/id.example.key", str(pems[1])))
 
 
-def start_haproxy(root, room, addresses, front, pems):
+def start_haproxy(root, room, addresses, front, pems, plain=None):
     """Starts HAProxy with the shipped configuration."""
-    shipped = with_addresses((root / EXAMPLES / "haproxy.cfg").read_text("ascii"), addresses, front)
-    (room / "haproxy.cfg").write_text(shipped.replace("/etc/ssl/id.example.pem", str(pems[2])), "ascii")
+    shipped = with_addresses((root / EXAMPLES / "haproxy.cfg").read_text("ascii"), addresses, front, plain)
+    # (its socket of a name is the machine's)
+    shipped = shipped.replace("abns@tdl", f"abns@tdl-{front}").replace("/etc/ssl/id.example.pem", str(pems[2]))
+    (room / "haproxy.cfg").write_text(shipped, "ascii")
     words = ["haproxy", "-db", "-f", room / "haproxy.cfg"]
     return subprocess.Popen(words, stdout=subprocess.DEVNULL, stderr=subprocess.DEVNULL)
 
@@ -184,10 +190,10 @@ async def ask(front, sent, tls, ready=None):
     return reply_of(got) if got else None
 
 
-async def paced(front, sent, rate, doing, least=0):
-    """Asks `rate` times a second at most, and `MOST_OPEN` at once, until `doing` has returned and `least` times, and returns the replies."""
+async def paced(front, sent, rate, doing):
+    """Asks `rate` times a second at most, and `MOST_OPEN` at once, until `doing` has returned, and returns the replies."""
     tls, asked, work, room = context(), [], asyncio.create_task(asyncio.to_thread(doing)), asyncio.Semaphore(MOST_OPEN)
-    while not work.done() or len(asked) < least:
+    while not work.done():
         await room.acquire()
         asked.append(asyncio.create_task(ask(front, sent, tls)))
         asked[-1].add_done_callback(lambda _: room.release())
@@ -207,13 +213,15 @@ async def next_reply(reader):
         return None
 
 
-async def kept(front, sent, count, told):
-    """Asks so many times over `MOST_OPEN` connections, a request at a time on each, and returns the replies; `told` gets their number."""
-    tls, left, replies = context(), iter(range(count)), []
+async def kept(front, sent, count, told, doing=None):
+    """Asks so many times, and until `doing` has returned, over `MOST_OPEN` connections, a request at a time on each, and returns the
+    replies; `told` gets their number."""
+    tls, replies, begun = context(), [], iter(range(1, 1 << 32))
+    work = asyncio.create_task(asyncio.to_thread(doing or (lambda: None)))
 
     async def client():
         writer = None
-        for _ in left:
+        while next(begun) <= count or not work.done():
             reply = None
             with suppress(OSError):
                 if not writer:
@@ -226,13 +234,13 @@ async def kept(front, sent, count, told):
                 writer.close()
                 writer = None
 
-    await asyncio.gather(*(client() for _ in range(MOST_OPEN)))
+    await asyncio.gather(work, *(client() for _ in range(MOST_OPEN)))
     return replies
 
 
-async def at_once(front, sent, count):
+async def at_once(front, sent, count, is_plain=False):
     """Opens so many connections, sends on all of them at once, or after `PATIENCE` on those that are open, and returns the replies."""
-    tls, ready = context(), Barrier(count)
+    tls, ready = None if is_plain else context(), Barrier(count)
     return await asyncio.gather(*(ask(front, sent, tls, ready) for _ in range(count)))
 
 
