@@ -1,0 +1,66 @@
+"""Signals that end a command at once: neither a process nor a part of a file is left of it."""
+from __future__ import annotations
+
+import os
+import signal
+import sys
+from contextlib import contextmanager, suppress
+from typing import Iterator, Set
+
+SIGNALS = (signal.SIGHUP, signal.SIGINT, signal.SIGTERM)
+# what a signal removes and kills: changed only while the signals are held
+DRAFTS: Set[str] = set()
+CHILDREN: Set[int] = set()
+_is_done = False
+
+
+def tell(sentence: str) -> None:
+    """Prints a line on standard error, if that can be written."""
+    with suppress(OSError):
+        os.write(2, f"{sentence}\n".encode("utf-8", "surrogateescape"))
+
+
+def end_by_signals() -> None:
+    """Lets the signals end this process, except those that it was started to ignore."""
+    for number in SIGNALS:
+        if signal.getsignal(number) is not signal.SIG_IGN:
+            signal.signal(number, _end)
+
+
+def _end(number: int, _: object) -> None:
+    """Ends the process with the status of a shell for this signal. It runs between two instructions of Python, so it raises nothing."""
+    if _is_done:
+        return
+    for child in CHILDREN:
+        with suppress(OSError):
+            os.kill(child, signal.SIGKILL)
+    for path in DRAFTS:
+        with suppress(OSError):
+            os.unlink(path)
+    clear = "\r\033[K" if os.isatty(2) else ""
+    tell(f"{clear}tdl {sys.argv[1]}: ended by {signal.Signals(number).name}{'; no file was written' if DRAFTS else ''}")
+    os._exit(128 + number)
+
+
+def finish() -> None:
+    """Lets a signal change nothing from now on: the files of the command have appeared."""
+    global _is_done
+    _is_done = True
+
+
+def leave_to_parent() -> None:
+    """Lets a child ignore the signals, which a terminal sends to it too: it ends with its parent, whose pipe closes."""
+    DRAFTS.clear()
+    CHILDREN.clear()
+    for number in SIGNALS:
+        signal.signal(number, signal.SIG_IGN)
+
+
+@contextmanager
+def held() -> Iterator[None]:
+    """Holds the signals back to the end of a block."""
+    before = signal.pthread_sigmask(signal.SIG_BLOCK, SIGNALS)
+    try:
+        yield
+    finally:
+        signal.pthread_sigmask(signal.SIG_SETMASK, before)
