@@ -1,11 +1,11 @@
-"""`python3 -m tdl csv`: columns of a CSV file, translated. `python3 -m tdl inspect`: the page that shows what a code says."""
+"""`python3 -m tdl csv`, `jsonl`: columns of a CSV file, or members of JSON lines, translated. `inspect`: the page that shows what a code says."""
 from __future__ import annotations
 
 import sys
 
 from . import interrupts
 
-if __name__ == "__main__" and sys.argv[1:2] == ["csv"]:
+if __name__ == "__main__" and sys.argv[1:2] in (["csv"], ["jsonl"]):
     # (first of all, since imports take time)
     interrupts.end_by_signals()
 
@@ -17,6 +17,7 @@ from .columns import Wrong  # noqa: E402
 from .columns.command import add_csv, run_csv  # noqa: E402
 from .errors import FilesRejected  # noqa: E402
 from .files import keep_standard_streams  # noqa: E402
+from .jsonl import add_jsonl, run_jsonl  # noqa: E402
 from .tables import SETS, check  # noqa: E402
 
 PORT = 8090
@@ -36,9 +37,11 @@ def arguments(words: Optional[List[str]]) -> argparse.Namespace:
     files = argparse.ArgumentParser(add_help=False)
     files.add_argument("--prefixes", metavar="FILE", help="a list of company prefix lengths")
     purpose = "translate columns of a CSV file: each record gets columns with the answers and one with the reason"
-    add_csv(commands.add_parser("csv", parents=[files], help=purpose, description=f"{purpose.capitalize()}."))
+    add_csv(commands.add_parser("csv", parents=[files], help=purpose, description=f"{purpose[0].upper()}{purpose[1:]}."))
+    purpose = "translate members of JSON lines: each line gets members with the answers or the reason, before the next has come"
+    add_jsonl(commands.add_parser("jsonl", parents=[files], help=purpose, description=f"{purpose[0].upper()}{purpose[1:]}."))
     purpose = "serve a page on 127.0.0.1 that shows what a code says"
-    add_inspect(commands.add_parser("inspect", parents=[files], help=purpose, description=f"{purpose.capitalize()}."))
+    add_inspect(commands.add_parser("inspect", parents=[files], help=purpose, description=f"{purpose[0].upper()}{purpose[1:]}."))
     return parser.parse_args(words)
 
 
@@ -71,7 +74,7 @@ def main(words: Optional[List[str]] = None) -> int:
     keep_standard_streams()
     asked = arguments(words)
     try:
-        return run_csv(asked) if asked.command == "csv" else run_inspect(asked)
+        return {"csv": run_csv, "jsonl": run_jsonl, "inspect": run_inspect}[asked.command](asked)
     except FilesRejected as error:
         return _failed(asked, f"the file of --{error.which} is rejected: {error.reason}", 3)
     except (Wrong, ValueError) as error:

@@ -11,7 +11,6 @@ SIGNALS = (signal.SIGHUP, signal.SIGINT, signal.SIGTERM)
 # what a signal removes and kills: changed only while the signals are held
 DRAFTS: Set[str] = set()
 CHILDREN: Set[int] = set()
-_is_done = False
 
 
 def tell(sentence: str) -> None:
@@ -29,8 +28,6 @@ def end_by_signals() -> None:
 
 def _end(number: int, _: object) -> None:
     """Ends the process with the status of a shell for this signal. It runs between two instructions of Python, so it raises nothing."""
-    if _is_done:
-        return
     for child in CHILDREN:
         with suppress(OSError):
             os.kill(child, signal.SIGKILL)
@@ -43,9 +40,10 @@ def _end(number: int, _: object) -> None:
 
 
 def finish() -> None:
-    """Lets a signal change nothing from now on: the files of the command have appeared."""
-    global _is_done
-    _is_done = True
+    """Lets the signals end the process no more: the files of the command have appeared."""
+    for number in SIGNALS:
+        if signal.getsignal(number) is _end:
+            signal.signal(number, signal.SIG_IGN)
 
 
 def leave_to_parent() -> None:

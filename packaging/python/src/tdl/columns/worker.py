@@ -2,7 +2,7 @@
 from __future__ import annotations
 
 from operator import add
-from typing import Dict, List, NamedTuple, Optional, Tuple
+from typing import List, NamedTuple, Optional, Tuple
 
 from .elements import Elements
 from .forms import Forms
@@ -19,26 +19,18 @@ class Written(NamedTuple):
     rejected: List[Tuple[int, bytes]]
 
 
-def _spread(cells: List[bytes], places: List[int], count: int) -> List[bytes]:
-    """Returns `count` fields that have these at their places, and are empty elsewhere."""
-    found = [b""] * count
-    for place, cell in zip(places, cells):
-        found[place] = cell
-    return found
-
-
 class Worker:
     """Writes records with their answers, by kept runs of the program."""
 
     def __init__(self, job: Job, layout: Layout, elements: Optional[Elements]) -> None:
         self._delimiter = encoded(job.delimiter)
         self._reader = Reader(job.delimiter, layout.width, layout.indexes)
-        self._elements, self._forms = elements, Forms(job)
+        self._forms = Forms(job, elements)
 
     def write(self, chunk: Chunk) -> Written:
         """Returns the records with their answers, and the rejected ones for the second file, without their numbers."""
         records = self._reader.read(chunk)
-        columns, reasons = self._answered(records)
+        columns, reasons = self._forms.answer(records.columns, records.reasons)
         cells = [self._quoted(column) for column in columns]
         told = [b""] * len(records.bodies)
         for place, reason in reasons.items():
@@ -46,26 +38,6 @@ class Worker:
         lines = map(self._delimiter.join, zip(records.bodies, *cells, told))
         rejected = [(place, self._rejected(records, place, told[place])) for place in sorted(reasons)]
         return Written(len(records.bodies), b"".join(map(add, lines, records.ends)), rejected)
-
-    def _answered(self, records: Records) -> Tuple[List[List[bytes]], Dict[int, bytes]]:
-        """Returns the new fields of the records, and the reasons of the rejected ones."""
-        texts, unasked = self._texts(records)
-        reasons = {**unasked, **records.reasons}
-        places = [place for place in range(len(texts)) if place not in reasons] if reasons else list(range(len(texts)))
-        asked = [texts[place] for place in places] if reasons else texts
-        columns, found = self._forms.answer(asked)
-        for number, reason in found.items():
-            reasons[places[number]] = self._elements.named(asked[number], reason) if self._elements else reason
-        if len(asked) < len(texts):
-            columns = [_spread(column, places, len(texts)) for column in columns]
-        return columns, reasons
-
-    def _texts(self, records: Records) -> Tuple[List[bytes], Dict[int, bytes]]:
-        """Returns the text of each record, and why there is none or it is not one line."""
-        if self._elements:
-            return self._elements.compose(records.columns)
-        (texts,) = records.columns
-        return texts, {place: b"line-feed" for place, text in enumerate(texts) if b"\n" in text}
 
     def _quoted(self, column: List[bytes]) -> List[bytes]:
         whole = b"".join(column)
