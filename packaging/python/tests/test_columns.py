@@ -13,7 +13,8 @@ from unittest import mock
 SRC = Path(__file__).resolve().parent.parent / "src"
 sys.path.insert(0, str(SRC))
 
-from tdl.columns import Job, Wrong, source, translate_csv  # noqa: E402
+from tdl import Translator  # noqa: E402
+from tdl.columns import Job, Wrong, forms, source, translate_csv  # noqa: E402
 from tdl.columns.records import Reader  # noqa: E402
 
 OWN = {"env": {**os.environ, "PYTHONPATH": str(SRC)}, "timeout": 300}
@@ -171,6 +172,13 @@ class Ways(unittest.TestCase):
         return Path(folder, "out").read_bytes(), Path(folder, "why").read_bytes()
 
     def test_generated_files(self):
+        kept = Translator("hex", "link")
+        self.addCleanup(kept.close)
+        # (one run of the program for all files; after a fork a process has a run of its own)
+        keeper = mock.Mock(print_answers=kept.print_answers)
+        changed = mock.patch.object(forms, "Translator", return_value=keeper)
+        changed.start()
+        self.addCleanup(changed.stop)
         dice = random.Random(7)
         shorter = 0
         for number in range(40):
@@ -178,7 +186,7 @@ class Ways(unittest.TestCase):
             wanted = self.oracle(data, delimiter, index)
             with tempfile.TemporaryDirectory() as folder, mock.patch.object(Reader, "_without_quotes", autospec=True, side_effect=Reader._without_quotes) as way:
                 Path(folder, "in").write_bytes(data)
-                for size, processes in ((262_144, 1), (dice.choice([16, 100, 1_000]), 1), (500, 1 + 3 * (number % 6 == 0))):
+                for size, processes in ((262_144, 1), (max(7, len(data) // 9), 1), (max(7, len(data) // 5), 4 if number % 10 == 0 else 1)):
                     with mock.patch.object(source, "BLOCK", size):
                         self.assertEqual(self.got(folder, data, delimiter, index, processes), wanted, (number, size, data))
                 shorter += any(call.args[0]._without_quotes(call.args[1]) is not None for call in way.call_args_list[:1])
