@@ -5,12 +5,13 @@ import os
 import signal
 import sys
 from contextlib import contextmanager, suppress
-from typing import Iterator, Set
+from typing import Callable, Iterator, List, Set
 
 SIGNALS = (signal.SIGHUP, signal.SIGINT, signal.SIGTERM)
-# what a signal removes and kills: changed only while the signals are held
+# what a signal removes, the processes that it ends (both are changed only while the signals are held), and what it calls before
 DRAFTS: Set[str] = set()
 CHILDREN: Set[int] = set()
+AT_END: List[Callable[[], None]] = []
 
 
 def tell(sentence: str) -> None:
@@ -28,15 +29,32 @@ def end_by_signals() -> None:
 
 def _end(number: int, _: object) -> None:
     """Ends the process with the status of a shell for this signal. It runs between two instructions of Python, so it raises nothing."""
-    for child in CHILDREN:
-        with suppress(OSError):
-            os.kill(child, signal.SIGKILL)
+    _leave()
     for path in DRAFTS:
         with suppress(OSError):
             os.unlink(path)
     clear = "\r\033[K" if os.isatty(2) else ""
     tell(f"{clear}tdl {sys.argv[1]}: ended by {signal.Signals(number).name}{'; no file was written' if DRAFTS else ''}")
     os._exit(128 + number)
+
+
+def _leave() -> None:
+    """Ends the processes of this one. A run of the program is killed before its pipe breaks, which it would print."""
+    for call in AT_END:
+        call()
+    for child in CHILDREN:
+        end_child(child)
+
+
+def end_child(child: int) -> None:
+    """Lets a child end, and its own processes with it."""
+    with suppress(OSError):
+        os.kill(child, signal.SIGUSR1)
+
+
+def _end_as_child(_: int, __: object) -> None:
+    _leave()
+    os._exit(0)
 
 
 def finish() -> None:
@@ -47,9 +65,10 @@ def finish() -> None:
 
 
 def leave_to_parent() -> None:
-    """Lets a child ignore the signals, which a terminal sends to it too: it ends with its parent, whose pipe closes."""
+    """Lets a child ignore the signals, which a terminal sends to it too: its parent ends it, or it ends when the parent's pipe closes."""
     DRAFTS.clear()
     CHILDREN.clear()
+    signal.signal(signal.SIGUSR1, _end_as_child)
     for number in SIGNALS:
         signal.signal(number, signal.SIG_IGN)
 

@@ -9,6 +9,7 @@ import weakref
 from pathlib import Path
 from typing import List, Optional, Sequence, Union
 
+from . import interrupts
 from .errors import FilesRejected, ProgramError
 
 BLOCK = 65_536
@@ -131,6 +132,10 @@ class Run:
             self._process.kill()
             return self._process.wait()
 
+    def kill(self) -> None:
+        """Kills the run, whatever it does."""
+        self._process.kill()
+
     def forget(self) -> None:
         """Closes the pipes in a process that was forked off, which does not own the run."""
         self._input.close()
@@ -147,4 +152,10 @@ def _after_fork() -> None:
     _ALIVE.clear()
 
 
+def _kill_all() -> None:
+    for run in list(_ALIVE):
+        run.kill()
+
+
 os.register_at_fork(after_in_child=_after_fork)
+interrupts.AT_END.append(_kill_all)

@@ -108,18 +108,19 @@ class Child:
         raise ProgramError(f"a process of this command {how}")
 
     def end(self, is_killed: bool = False) -> int:
-        """Lets the process end, or kills it, and returns its status. A second call returns 0."""
-        with suppress(BrokenPipeError):
-            self._given.close()
-        self._found.close()
+        """Lets the process end, at once if `is_killed`, and returns its status. A second call returns 0."""
         pid, self._pid = self._pid, 0
         if not pid:
             return 0
         if is_killed:
-            os.kill(pid, signal.SIGKILL)
+            interrupts.end_child(pid)
+        with suppress(BrokenPipeError):
+            self._given.close()
         with interrupts.held():
             interrupts.CHILDREN.discard(pid)
-        return os.waitstatus_to_exitcode(os.waitpid(pid, 0)[1])
+        status = os.waitstatus_to_exitcode(os.waitpid(pid, 0)[1])
+        self._found.close()
+        return status
 
 
 class Pool:
