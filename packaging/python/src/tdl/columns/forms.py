@@ -54,10 +54,10 @@ class Forms:
         if self._elements:
             return self._elements.compose(columns)
         (texts,) = columns
-        return texts, {place: b"line-feed" for place, text in enumerate(texts) if b"\n" in text}
+        return texts, {place: b"line-feed" for place, text in enumerate(texts) if b"\n" in text} if b"\n" in b"".join(texts) else {}
 
     def _translated(self, texts: List[bytes]) -> Tuple[List[List[bytes]], Reasons]:
-        lines = b"".join([text + b"\r\n" for text in texts])
+        lines = b"\r\n".join([*texts, b""])
         columns: List[List[bytes]] = []
         reasons: Reasons = {}
         for run in self._runs + self._canon:

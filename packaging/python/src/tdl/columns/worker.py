@@ -1,7 +1,6 @@
 """Records with their answers."""
 from __future__ import annotations
 
-from operator import add
 from typing import List, NamedTuple, Optional, Tuple
 
 from .elements import Elements
@@ -32,12 +31,12 @@ class Worker:
         records = self._reader.read(chunk)
         columns, reasons = self._forms.answer(records.columns, records.reasons)
         cells = [self._quoted(column) for column in columns]
-        told = [b""] * len(records.bodies)
-        for place, reason in reasons.items():
-            told[place] = quoted(reason, self._delimiter)
-        lines = map(self._delimiter.join, zip(records.bodies, *cells, told))
-        rejected = [(place, self._rejected(records, place, told[place])) for place in sorted(reasons)]
-        return Written(len(records.bodies), b"".join(map(add, lines, records.ends)), rejected)
+        told = {place: quoted(reasons[place], self._delimiter) for place in sorted(reasons)}
+        rejected = [(place, self._rejected(records, place, reason)) for place, reason in told.items()]
+        last = list(records.ends)
+        for place, reason in told.items():
+            last[place] = reason + last[place]
+        return Written(len(last), b"".join(map(self._delimiter.join, zip(records.bodies, *cells, last))), rejected)
 
     def _quoted(self, column: List[bytes]) -> List[bytes]:
         whole = b"".join(column)
