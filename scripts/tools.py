@@ -29,6 +29,8 @@ PACKAGES = {
     "parallel": "parallel",
     "psql": "postgresql-15",
     "/usr/lib/postgresql/15/lib/plpython3.so": "postgresql-plpython3-15",
+    "/usr/lib/python3/dist-packages/dask/__init__.py": "python3-dask",
+    "/usr/lib/python3/dist-packages/distributed/__init__.py": "python3-distributed",
     "/usr/lib/python3/dist-packages/openpyxl/__init__.py": "python3-openpyxl",
     "/usr/lib/python3/dist-packages/pandas/__init__.py": "python3-pandas",
     "setpriv": "util-linux",
