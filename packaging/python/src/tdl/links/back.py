@@ -5,7 +5,7 @@ import json
 from pathlib import Path
 from typing import Any, Dict, Iterator, List, Sequence, Tuple
 
-from ..errors import FilesRejected
+from ..errors import FilesRejected, Rejected
 from ..translator import Translator
 from .anchors import STEM, linked
 from .columns import NAMES
@@ -32,7 +32,7 @@ def table_of(path: str, options: Options) -> List[Sequence[str]]:
     for number, (context, anchor) in enumerate(zip(contexts, anchors)):
         for place, relation, target in _links(context, options.voc or VOCABULARY):
             texts = [" ".join(_languages(target)), _text(target, "title"), _text(target, "type")]
-            cells = [str(anchor)[len(STEM) :], target["href"], relation, *texts]
+            cells = ["" if isinstance(anchor, Rejected) else anchor[len(STEM) :], target["href"], relation, *texts]
             rows.append(cells)
             unfit += [f"/linkset/{number}/{place}: {why}" for why in _misfits(cells, target)]
     if unfit:
@@ -105,7 +105,9 @@ def _is_tagged(value: object) -> bool:
 
 def _misfits(cells: Sequence[str], target: Target) -> Iterator[str]:
     """Yields why the cells of a link are not all of it."""
-    _, _, relation, languages, _, media = cells
+    anchor, _, relation, languages, _, media = cells
+    if not anchor:
+        yield "the anchor is too long with a host before it"
     if not relation or relation != relation.strip():
         yield "the link type is empty, or begins or ends with a space"
     if media != media.strip():
