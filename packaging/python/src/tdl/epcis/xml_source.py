@@ -25,9 +25,10 @@ class XmlEvents(NamedTuple):
         locator = Locator(self.encoding, {"x": XML_EVENTS})
         names = (f" xmlns{':' * bool(prefix)}{prefix or ''}={quoteattr(uri)}" for prefix, uri in self.namespaces)
         before = f"<x{''.join(names)}>".encode("ascii", "xmlcharrefreplace")
-        locator.held = before + self.text
-        locator.parser.Parse(locator.held, False)
+        locator.parser.Parse(before, False)
         locator.forget(len(before))
+        locator.held = self.text
+        locator.parser.Parse(self.text, False)
         return locator.located(len(before) + len(self.text))
 
 
