@@ -7,6 +7,8 @@ from __future__ import annotations
 
 from typing import Dict, List, Union
 
+from .parts import STRING, Found, style_of
+
 Tree = Dict[str, "Node"]
 Node = Union[str, Tree]
 
@@ -75,15 +77,18 @@ XML_EVENTS["extension"] = XML_EVENTS
 XML_DOCUMENT = _xml_document(XML_EVENTS)
 
 
-def json_identifiers(value: object, node: "Node | None", found: "List[tuple[str, str]]") -> None:
-    """Appends each identifier of a value, with its field, in the order of the document."""
+def json_identifiers(value: object, node: Node, number: int, found: List[Found]) -> None:
+    """Appends each identifier of a value in the event of a number, in the order of the document."""
     if value.__class__ is list:
         for item in value:  # type: ignore[attr-defined]
-            json_identifiers(item, node, found)
+            if item.__class__ is str and node.__class__ is str:
+                found.append((item, number, node, style_of(item, STRING)))  # type: ignore[arg-type]
+            else:
+                json_identifiers(item, node, number, found)
     elif isinstance(node, str):
         if isinstance(value, str):
-            found.append((value, node))
-    elif isinstance(value, dict) and node:
+            found.append((value, number, node, style_of(value, STRING)))
+    elif isinstance(value, dict):
         for name, member in value.items():
             if name in node:
-                json_identifiers(member, node[name], found)
+                json_identifiers(member, node[name], number, found)

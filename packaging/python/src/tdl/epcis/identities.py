@@ -12,7 +12,7 @@ Target = Literal["link", "uri"]
 STEM = "https://id.gs1.org"
 EPC, CLASS, PATTERN, LINK = "urn:epc:", "urn:epc:class:", "urn:epc:idpat:", "http"
 # reasons of a text that is not a Digital Link, and of a link that may be a class
-FOREIGN = ("path", "http")
+NOT_LINKS = ("path", "http")
 UNFIT = ("missing element", "class")
 # what makes an instance of a class of these kinds, by the kind and by its key: the end of the canonical link of the serial 0
 ENDS = {"sgtin": ("01", "/21/0"), "itip": ("8006", "/21/0"), "grai": ("8003", "0"), "gdti": ("253", "0"), "sgcn": ("255", "0")}
@@ -20,12 +20,8 @@ KEYS = {key: (kind, end) for kind, (key, end) in ENDS.items()}
 CLASS_OF = re.compile(r"urn:epc:idpat:(?:(sgtin|grai|gdti|sgcn):([0-9]+\.[0-9]*)|(itip):([0-9]+\.[0-9]*\.[0-9]+\.[0-9]+))\.\*")
 
 
-class Answer(NamedTuple):
-    """The identifier in the form that is asked for, or None with the reason, and its canonical link, if it has one and is asked for."""
-
-    text: Optional[str]
-    reason: str
-    canon: Optional[str] = None
+# the identifier in the form that is asked for, or None with the reason, and its canonical link, if it has one and is asked for
+Answer = Tuple[Optional[str], str, Optional[str]]
 
 
 class How(NamedTuple):
@@ -44,7 +40,7 @@ def _asked(run: Lines, texts: List[str]) -> List[Answer]:
     # (a text of JSON may have half a surrogate pair, which no encoding has)
     lines: List[Text] = [text if text.isascii() else text.encode("utf-8", "surrogatepass") for text in texts]
     found = run.translate_list(lines)
-    return [Answer(None, each.reason) if isinstance(each, Rejected) else Answer(each, "") for each in found]
+    return [(None, each.reason, None) if isinstance(each, Rejected) else (each, "", None) for each in found]
 
 
 def _kind(text: str) -> str:
@@ -52,6 +48,14 @@ def _kind(text: str) -> str:
     if text[:4].lower() == LINK:
         return LINK
     return CLASS if text.startswith(CLASS) else PATTERN if text.startswith(PATTERN) else EPC
+
+
+def _pattern(before: Answer, kind: str, instance: str) -> Answer:
+    """Returns the pattern of all serials of a class, whose instance has the serial 0; or the answer before without such an instance."""
+    begin = f"urn:epc:id:{kind}:"
+    if instance.startswith(begin) and instance.endswith(".0"):
+        return f"{PATTERN}{kind}:{instance[len(begin) : -1]}*", "", before[2]
+    return before
 
 
 class Identities:
@@ -76,7 +80,7 @@ class Identities:
         answers: Dict[str, Answer] = {}
         for text in dict.fromkeys(texts):
             if "\n" in text:
-                answers[text] = Answer(None, "line-feed")
+                answers[text] = None, "line-feed", None
             else:
                 kinds[_kind(text)].append(text)
         for kind, one in ((EPC, self._epcs), (CLASS, self._classes), (PATTERN, self._patterns), (LINK, self._links)):
@@ -90,14 +94,14 @@ class Identities:
             return answers
         if self._is_link:
             stem = self._how.stem or STEM
-            return [answer._replace(canon=answer.text and STEM + answer.text[len(stem) :]) for answer in answers]
-        return [answer._replace(canon=canon.text) for answer, canon in zip(answers, _asked(run, texts))]
+            return [(text, reason, text and STEM + text[len(stem) :]) for text, reason, _ in answers]
+        return [(text, reason, canon) for (text, reason, _), (canon, _, _) in zip(answers, _asked(run, texts))]
 
     def _of_canon(self, texts: List[str], canons: List[Answer]) -> List[Answer]:
         """Returns the answers to classes, of which the canonical links are known. As a URI a class stays as it is."""
         stem = self._how.stem or STEM
         return [
-            Answer(None, reason) if canon is None else Answer(stem + canon[len(STEM) :] if self._is_link else text, "", canon)
+            (None, reason, None) if canon is None else (stem + canon[len(STEM) :] if self._is_link else text, "", canon)
             for text, (canon, reason, _) in zip(texts, canons)
         ]
 
@@ -113,12 +117,11 @@ class Identities:
         kinds = [match and (match[1] or match[3]) for match in matches]
         pure = [f"urn:epc:id:{kind}:{match[2] or match[4]}.0" for kind, match in zip(kinds, matches) if match]
         found = iter(_asked(self._pure_canon, pure))
-        canons = []
+        canons: List[Answer] = []
         for kind in kinds:
-            answer = next(found) if kind else Answer(None, "reading")
+            link, reason, _ = next(found) if kind else (None, "", None)
             end = ENDS[kind][1] if kind else ""
-            is_class = answer.text is not None and answer.text.endswith(end)
-            canons.append(answer._replace(text=answer.text[: -len(end)]) if answer.text and is_class else Answer(None, answer.reason or "reading"))
+            canons.append((link[: -len(end)], "", None) if link and link.endswith(end) else (None, reason or "reading", None))
         return self._of_canon(texts, canons)
 
     def _links(self, texts: List[str]) -> List[Answer]:
@@ -126,7 +129,7 @@ class Identities:
         if self._is_link:
             return answers
         for again, reasons in ((self._lots, ("extra",)), (self._bare, ("missing serial",))):
-            places = [place for place, answer in enumerate(answers) if answer.reason.startswith(reasons)]
+            places = [place for place, (_, reason, _) in enumerate(answers) if reason and reason.startswith(reasons)]
             if places:
                 for place, answer in zip(places, again([texts[place] for place in places], [answers[place] for place in places])):
                     answers[place] = answer
@@ -134,25 +137,18 @@ class Identities:
 
     def _lots(self, texts: List[str], answers: List[Answer]) -> List[Answer]:
         """Returns the answers to links with an element that an EPC has no place for: class URIs, if it is a class."""
-        found = _asked(self._to_class, texts)
         return [
-            before if answer.reason in UNFIT or answer.reason.startswith("extra") else answer._replace(canon=before.canon)
-            for before, answer in zip(answers, found)
+            before if reason in UNFIT or reason.startswith("extra") else (text, reason, before[2])
+            for before, (text, reason, _) in zip(answers, _asked(self._to_class, texts))
         ]
 
     def _bare(self, texts: List[str], answers: List[Answer]) -> List[Answer]:
         """Returns the answers to links without a serial: the pattern of all serials."""
-        parts = [(answer.text or "").split("/") for answer in _asked(self._link_canon, texts)]
+        parts = [(link or "").split("/") for link, _, _ in _asked(self._link_canon, texts)]
         kinds = [KEYS.get(part[3]) if len(part) == 5 and "?" not in part[4] else None for part in parts]
         instances = ["/".join(part) + kind[1] for part, kind in zip(parts, kinds) if kind]
         found = iter(_asked(self._link, instances))
-        return [self._pattern(before, kind[0], next(found)) if kind else before for before, kind in zip(answers, kinds)]
-
-    def _pattern(self, before: Answer, kind: str, answer: Answer) -> Answer:
-        begin = f"urn:epc:id:{kind}:"
-        if answer.text and answer.text.startswith(begin) and answer.text.endswith(".0"):
-            return before._replace(text=f"{PATTERN}{kind}:{answer.text[len(begin) : -1]}*", reason="")
-        return before
+        return [_pattern(before, kind[0], next(found)[0] or "") if kind else before for before, kind in zip(answers, kinds)]
 
     def close(self) -> None:
         """Ends the runs."""

@@ -2,6 +2,7 @@
 from __future__ import annotations
 
 import csv
+import gc
 import io
 import os
 import signal
@@ -15,9 +16,9 @@ from typing import BinaryIO, Deque, Dict, Iterable, Iterator, List, NamedTuple, 
 
 from ..tables import check
 from .files import writing
-from .identities import FOREIGN, Answer, How, Identities
+from .identities import NOT_LINKS, Answer, How, Identities
 from .json_source import JsonSource
-from .parts import CHUNK, STAYING, Found, Located, Part, Style, Wrong, spelled
+from .parts import CHUNK, DIVIDED, FOREIGN, STRING, Part, Wrong, spelled
 from .xml_source import XmlSource
 
 # how an event's hash begins (CBV 2.0, section 8.9)
@@ -55,12 +56,16 @@ class Counts(NamedTuple):
         return Counts(*(one + more for one, more in zip(self, other)))
 
 
+# a rejected identifier: its event within the part, its field, its text and the reason
+Row = Tuple[int, str, str, str]
+
+
 class Written(NamedTuple):
-    """What is written of a part: its bytes, what is listed, and the rejected identifiers with their reasons."""
+    """What is written of a part: its bytes, what is listed, and the rejected identifiers."""
 
     data: bytes
     listed: List[str]
-    rejected: List[Tuple[Found, str]]
+    rejected: List[Row]
     counts: Counts
 
 
@@ -73,27 +78,28 @@ class Worker:
     def write(self, part: Part) -> Written:
         """Returns what is written of a part."""
         located = part.located()
-        answers = self._identities.answers(found.text for found in located.found if found.style not in STAYING)
-        pieces, rejected, same, foreign = [located.kept[0]], [], 0, 0
-        around = iter(zip(located.raw, located.kept[1:]))
-        for found in located.found:
-            if found.style in STAYING:
-                foreign += found.style is Style.FOREIGN
-                rejected += [(found, "markup")] * (found.style is Style.DIVIDED)
+        found, kept, raw = located.found, located.kept, located.raw
+        answers = self._identities.answers(text for text, _, _, style in found if style < FOREIGN)
+        pieces, rejected, same, foreign, place = [kept[0]], [], 0, 0, 0  # type: List[str], List[Row], int, int, int
+        for text, event, field, style in found:
+            if style >= FOREIGN:
+                foreign += style is FOREIGN
+                rejected += [(event, field, text, "markup")] * (style is DIVIDED)
                 continue
-            raw, after = next(around)
-            answer, reason, _ = answers[found.text]
+            answer, reason, _ = answers[text]
+            stands = raw[place]
+            place += 1
             if answer is None:
-                foreign += reason in FOREIGN
-                rejected += [(found, reason)] * (reason not in FOREIGN)
-            elif answer == found.text:
+                foreign += reason in NOT_LINKS
+                rejected += [(event, field, text, reason)] * (reason not in NOT_LINKS)
+            elif answer == text:
                 same += 1
             else:
-                raw = spelled(answer, found.style)
-            pieces += (raw, after)
-        listed = [_listed(found.text, answers) for found in located.found] if self._has_list else []
-        count, hashes = len(located.found), sum(text.count(HASH) for text in located.kept)
-        counts = Counts(located.events, count, count - same - foreign - len(rejected), same, foreign, len(rejected), hashes)
+                stands = f'"{answer}"' if style is STRING else spelled(answer, style)
+            pieces += (stands, kept[place])
+        listed = [_listed(text, answers) for text, _, _, _ in found] if self._has_list else []
+        hashes = sum(text.count(HASH) for text in kept)
+        counts = Counts(located.events, len(found), len(found) - same - foreign - len(rejected), same, foreign, len(rejected), hashes)
         return Written("".join(pieces).encode(located.codec), listed, rejected, counts)
 
     def close(self) -> None:
@@ -103,7 +109,7 @@ class Worker:
 
 def _listed(text: str, answers: Dict[str, Answer]) -> str:
     """Returns the canonical link of an identifier, or its text if it has none."""
-    return text if text not in answers else answers[text].canon or text
+    return answers[text][2] or text if text in answers else text
 
 
 _worker: Optional[Worker] = None
@@ -113,7 +119,7 @@ def _begin(how: How) -> None:
     """Makes the worker of a process, which ends with its parent."""
     global _worker
     signal.signal(signal.SIGINT, signal.SIG_IGN)
-    signal.signal(signal.SIGTERM, signal.SIG_DFL)
+    gc.disable()
     threading.Thread(target=_end_with_parent, daemon=True).start()
     _worker = Worker(how)
 
@@ -171,6 +177,8 @@ def source_of(stream: BinaryIO, is_inline: bool) -> Union[JsonSource, XmlSource]
 def translate(job: Job) -> Counts:
     """Translates a document, and returns what was counted. Raises `Wrong` for one that is not well-formed, and then writes no file."""
     check(job.how.tables, prefixes=job.how.prefixes)
+    # (what is made has no cycles, and the collector would take a third of the time)
+    gc.disable()
     counts = Counts()
     with ExitStack() as opened:
         is_input = job.document == "-"
@@ -182,6 +190,6 @@ def translate(job: Job) -> Counts:
         for written in _in_order(source_of(stream, job.processes == 1).parts(), job):
             output.write(written.data)
             listed.write(rows_of((text,) for text in written.listed))
-            rejected.write(rows_of((counts.events + found.event, found.field, found.text, reason) for found, reason in written.rejected))
+            rejected.write(rows_of((counts.events + event, *row) for event, *row in written.rejected))
             counts = counts.plus(written.counts)
     return counts

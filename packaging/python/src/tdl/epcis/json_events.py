@@ -2,15 +2,15 @@
 from __future__ import annotations
 
 import re
-from typing import Any, List, NamedTuple, Optional, Tuple
+from typing import Any, List, NamedTuple, Optional
 
 from .fields import JSON_EVENT, json_identifiers
 from .json_text import GAP, JsonText, decode
-from .json_walk import CODEC, Walker, cut, drain
-from .parts import BEGIN, Found, Located, Style, style_of
+from .json_walk import CODEC, Walker, drain
+from .parts import BEGIN, STRING, Found, Located, cut
 
 # a string of JSON without escapes that begins as a candidate does
-QUOTED = re.compile(f'"({BEGIN}[^"]*)"', re.ASCII)
+QUOTED = re.compile(f'("{BEGIN}[^"]*")', re.ASCII)
 
 
 class JsonEvents(NamedTuple):
@@ -26,31 +26,33 @@ class JsonEvents(NamedTuple):
         decoded = decode(f"[{self.text[: self.size]}]", 0)[0] if self.decoded is None else self.decoded
         found: List[Found] = []
         for number, event in enumerate(decoded, 1):
-            identifiers: List[Tuple[str, str]] = []
-            json_identifiers(event, JSON_EVENT, identifiers)
-            found += [Found(text, number, field, style_of(text)) for text, field in identifiers]
-        split = _split(self.text, [identifier.text for identifier in found if identifier.style is Style.PLAIN])
-        return Located(*split, found, len(decoded), CODEC) if split else _walked(self.text, self.size)
+            json_identifiers(event, JSON_EVENT, number, found)
+        candidates = [f'"{text}"' for text, _, _, style in found if style is STRING]
+        kept = _around(self.text, candidates)
+        return _walked(self.text, self.size) if kept is None else Located(kept, candidates, found, len(decoded), CODEC)
 
 
-def _split(text: str, candidates: List[str]) -> "Optional[Tuple[List[str], List[str]]]":
-    """Returns the texts around the candidates, and these, or None if one of them stands elsewhere too or has escapes.
+def _around(text: str, candidates: List[str]) -> Optional[List[str]]:
+    """Returns the texts around the candidates, or None if one of them stands elsewhere too or has escapes.
 
-    Without a backslash each match is a whole string, and each string that is a candidate is matched.
+    Without a backslash each match is a whole string, and each string that begins as a candidate does is matched.
     """
     if "\\" in text:
         return None
-    wanted, pieces = set(candidates), QUOTED.split(text)
+    pieces = QUOTED.split(text)
+    if pieces[1::2] == candidates:
+        return pieces[::2]
+    wanted = set(candidates)
     if [string for string in pieces[1::2] if string in wanted] != candidates:
         return None
     kept, before = [], pieces[0]
     for string, after in zip(pieces[1::2], pieces[2::2]):
         if string in wanted:
-            kept.append(f'{before}"')
-            before = f'"{after}'
+            kept.append(before)
+            before = after
         else:
-            before = f'{before}"{string}"{after}'
-    return [*kept, before], candidates
+            before += string + after
+    return [*kept, before]
 
 
 def _walked(text: str, size: int) -> Located:
@@ -61,4 +63,4 @@ def _walked(text: str, size: int) -> Located:
         walker.number += 1
         end = drain(walker.value(at, JSON_EVENT))
         at = GAP.match(text, end).end()  # type: ignore[union-attr]
-    return cut(text, walker.slots, walker.number)
+    return cut(text, walker.borders, walker.found, walker.number, CODEC)

@@ -8,8 +8,8 @@ from typing import Any, BinaryIO, Iterator, List, Tuple
 from .fields import JSON_DOCUMENT
 from .json_events import JsonEvents
 from .json_text import GAP, SPACE, JsonText, decode, fault, place
-from .json_walk import Walk, Walker, cut
-from .parts import CHUNK, Located, Part, Wrong
+from .json_walk import CODEC, Walk, Walker
+from .parts import CHUNK, Located, Part, Wrong, cut
 
 MARK = "\ufeff"
 TOPS = ("epcisBody", "epcisHeader")
@@ -39,25 +39,26 @@ class JsonSource:
 
     def parts(self) -> Iterator[Part]:
         """Yields the parts in order. Raises `Wrong` for a text that is not JSON or not EPCIS."""
-        text = self._text
-        at = text.skip(len(MARK) if text.text.startswith(MARK) else 0)
-        if text.text[at : at + 1] != "{":
-            text.value(at)
-            raise text.wrong(at, "not an EPCIS document: it is not an object")
-        at = text.skip((yield from self._walker.value(at, JSON_DOCUMENT)))
-        if at < len(text.text):
-            raise text.wrong(at, "not JSON: Extra data")
+        source = self._text
+        at = source.skip(len(MARK) if source.text.startswith(MARK) else 0)
+        if source.text[at : at + 1] != "{":
+            source.value(at)
+            raise source.wrong(at, "not an EPCIS document: it is not an object")
+        at = source.skip((yield from self._walker.value(at, JSON_DOCUMENT)))
+        if at < len(source.text):
+            raise source.wrong(at, "not JSON: Extra data")
         before = len(self._frames)
         frame = self._frame(at)
         is_event = self._judged()
-        yield frame._replace(events=1, found=[found._replace(event=1) for found in frame.found]) if is_event and not before else frame
+        one = [(text, 1, field, style) for text, _, field, style in frame.found]
+        yield frame._replace(events=1, found=one) if is_event and not before else frame
 
     def _frame(self, at: int) -> Located:
         """Returns the held text before a place, which is no longer held."""
         text = self._text
         self._frames.append((text.text[:at], text.place()))
-        located = cut(text.text[:at], self._walker.slots, 0)
-        self._walker.slots = []
+        located = cut(text.text[:at], self._walker.borders, self._walker.found, 0, CODEC)
+        self._walker.borders, self._walker.found = [], []
         text.drop(at)
         return located
 

@@ -2,31 +2,24 @@
 from __future__ import annotations
 
 import json
-from typing import Callable, Generator, List, NamedTuple, Optional
+from typing import Callable, Generator, List, Optional
 
 from .fields import JSON_EVENTS, Node, Tree
 from .json_text import JsonText
-from .parts import Found, Located, Part, Style, style_of
+from .parts import STRING, Found, Part, style_of
 
 Walk = Generator[Part, None, int]
 CODEC = "utf-8"
 
 
-class Slot(NamedTuple):
-    """An identifier between two places, with the number of its event."""
-
-    begin: int
-    end: int
-    found: Found
-
-
 class Walker:
     """Walks over a text along a tree. `events` walks over the events of a document, which are an array at a place. `number` is the number of
-    the event that is walked over."""
+    the event that is walked over. `found` and `borders` are what `cut` takes."""
 
     def __init__(self, source: JsonText, events: "Optional[Callable[[int], Walk]]" = None) -> None:
         self._source, self._events = source, events
-        self.slots: List[Slot] = []
+        self.found: List[Found] = []
+        self.borders: List[int] = []
         self.number = 0
 
     def value(self, at: int, node: Optional[Node]) -> Walk:
@@ -40,7 +33,9 @@ class Walker:
             return (yield from self._members(at, node))
         found, end = self._source.value(at)
         if isinstance(node, str) and isinstance(found, str):
-            self.slots.append(Slot(at + 1, end - 1, Found(found, self.number, node, style_of(found))))
+            style = style_of(found, STRING)
+            self.found.append((found, self.number, node, style))
+            self.borders += (at, end) if style is STRING else ()
         return end
 
     def _items(self, at: int, node: Node) -> Walk:
@@ -83,9 +78,3 @@ def drain(walk: Walk) -> int:
         except StopIteration as ended:
             return int(ended.value)
 
-
-def cut(text: str, slots: List[Slot], events: int) -> Located:
-    """Returns a text with its identifiers."""
-    borders = [0, *(border for slot in slots if slot.found.style is Style.PLAIN for border in (slot.begin, slot.end)), len(text)]
-    pieces = [text[begin:end] for begin, end in zip(borders, borders[1:])]
-    return Located(pieces[::2], pieces[1::2], [slot.found for slot in slots], events, CODEC)

@@ -2,8 +2,8 @@
 from __future__ import annotations
 
 import re
-from enum import Enum
-from typing import Dict, List, NamedTuple, Protocol
+from enum import IntEnum
+from typing import Dict, List, NamedTuple, Protocol, Tuple
 from xml.sax.saxutils import escape
 
 # the most that is held of a document for one event or one other piece of it, in characters of JSON or bytes of XML
@@ -19,37 +19,33 @@ class Wrong(Exception):
     """A document that is not well-formed, or not EPCIS."""
 
 
-class Style(Enum):
-    """How an identifier is written where it stands; or why it stays: it is neither an EPC nor a Digital Link, or markup divides it."""
+class Style(IntEnum):
+    """How an identifier is written where it stands; the last two stay: one is neither an EPC nor a Digital Link, one is divided by markup."""
 
-    PLAIN = 0
-    CONTENT = 1
-    ATTRIBUTE = 2
-    FOREIGN = 3
-    DIVIDED = 4
+    STRING = 0
+    CDATA = 1
+    CONTENT = 2
+    ATTRIBUTE = 3
+    FOREIGN = 4
+    DIVIDED = 5
 
 
-STAYING = (Style.FOREIGN, Style.DIVIDED)
+STRING, FOREIGN, DIVIDED = Style.STRING, Style.FOREIGN, Style.DIVIDED
 QUOTES: Dict[Style, Dict[str, str]] = {Style.CONTENT: {}, Style.ATTRIBUTE: {'"': "&quot;", "'": "&apos;"}}
 
 
 def spelled(answer: str, style: Style) -> str:
     """Returns an identifier as it is written in a document. In JSON and in CDATA no character of one is escaped."""
-    return answer if style is Style.PLAIN else escape(answer, QUOTES[style])
+    return f'"{answer}"' if style is Style.STRING else answer if style is Style.CDATA else escape(answer, QUOTES[style])
 
 
-def style_of(text: str, style: Style = Style.PLAIN) -> Style:
+def style_of(text: str, style: Style) -> Style:
     """Returns the style of a text that is an EPC or may be a Digital Link, and `FOREIGN` for any other."""
-    return style if _begin.match(text) else Style.FOREIGN
+    return style if _begin.match(text) else FOREIGN
 
 
-class Found(NamedTuple):
-    """An identifier: its text, the number of its event within the part, from 1, its field, and how it is written."""
-
-    text: str
-    event: int
-    field: str
-    style: Style
+# an identifier: its text, the number of its event within the part, from 1, its field, and how it is written
+Found = Tuple[str, int, str, Style]
 
 
 class Located(NamedTuple):
@@ -68,6 +64,13 @@ class Located(NamedTuple):
     def located(self) -> Located:
         """Returns itself."""
         return self
+
+
+def cut(text: str, borders: List[int], found: List[Found], events: int, codec: str) -> Located:
+    """Returns a text with identifiers, of which those that may be replaced have borders."""
+    places = [0, *borders, len(text)]
+    pieces = [text[begin:end] for begin, end in zip(places, places[1:])]
+    return Located(pieces[::2], pieces[1::2], found, events, codec)
 
 
 class Part(Protocol):

@@ -6,12 +6,13 @@ from typing import Dict, List, Tuple
 from xml.parsers import expat
 
 from .fields import XML_EVENT, XML_EVENTS, Tree
-from .parts import STAYING, Found, Located, Style, style_of
+from .parts import DIVIDED, FOREIGN, Found, Located, Style, cut, style_of
 
 # the bytes of a document as characters, one each: only what expat decodes is read as text
 CODEC = "latin-1"
 WHITE = " \t\r\n"
 NOTHING: Tree = {}
+CONTENT = Style.CONTENT
 EPCIS = "urn:epcglobal:epcis"
 # an attribute of a start tag that expat has read
 ATTRIBUTE = re.compile(rb"""\s+([^\s=]+)\s*=\s*("[^"]*"|'[^']*')""")
@@ -34,9 +35,8 @@ class Locator:
         self._runs: List[Tuple[int, int, bool]] = []
         self._texts: List[str] = []
         self._begin, self._is_cdata = -1, False
-        self._events, self._done = 0, 0
-        self._kept: List[str] = []
-        self._raw: List[str] = []
+        self._events = 0
+        self._borders: List[int] = []
         self._found: List[Found] = []
         self.listen()
 
@@ -116,18 +116,18 @@ class Locator:
 
     def _identifier(self) -> None:
         """Takes the text of an element."""
-        text = "".join(self._texts).strip(WHITE)
-        runs = self._runs
+        runs, text = self._runs, "".join(self._texts).strip(WHITE)
         if len(runs) > 1:
             runs = [run for run in runs if self.held[run[0] - self.base : run[1] - self.base].strip()]
         if not text:
             return
         begin, end, is_cdata = runs[0]
-        raw = self.held[begin - self.base : end - self.base]
-        end -= len(raw) - len(raw.rstrip())
-        begin += len(raw) - len(raw.lstrip())
-        style = style_of(text, Style.DIVIDED if len(runs) > 1 else Style.PLAIN if is_cdata else Style.CONTENT)
-        self._take(begin, end, Found(text, self._events, self._field, style))
+        if end - begin != len(text):
+            raw = self.held[begin - self.base : end - self.base]
+            end -= len(raw) - len(raw.rstrip())
+            begin += len(raw) - len(raw.lstrip())
+        style = style_of(text, DIVIDED if len(runs) > 1 else Style.CDATA if is_cdata else CONTENT)
+        self._take(begin, end, text, self._field, style)
 
     def _attributes(self, attributes: Dict[str, str]) -> None:
         """Takes the identifiers among the attributes of an element, in the order of its tag."""
@@ -142,30 +142,26 @@ class Locator:
             text = attributes[name].strip() if name in fields else ""
             if text:
                 place = self.base + attribute.start(2) + 1
-                self._take(place, place + len(attribute[2]) - 2, Found(text, self._events, str(fields[name]), style_of(text, Style.ATTRIBUTE)))
+                self._take(place, place + len(attribute[2]) - 2, text, str(fields[name]), style_of(text, Style.ATTRIBUTE))
 
-    def _take(self, begin: int, end: int, found: Found) -> None:
+    def _take(self, begin: int, end: int, text: str, field: str, style: Style) -> None:
         """Takes an identifier between two places of the document."""
-        self._found.append(found)
-        if found.style not in STAYING:
-            base = self.base
-            self._kept.append(self.held[self._done - base : begin - base].decode(CODEC))
-            self._raw.append(self.held[begin - base : end - base].decode(CODEC))
-            self._done = end
+        self._found.append((text, self._events, field, style))
+        if style < FOREIGN:
+            self._borders += (begin - self.base, end - self.base)
 
     def located(self, end: int) -> Located:
         """Returns what is located up to a place, and forgets it."""
-        kept = [*self._kept, self.held[self._done - self.base : end - self.base].decode(CODEC)]
-        part = Located(kept, self._raw, self._found, self._events, CODEC)
-        self._kept, self._raw, self._found, self._events = [], [], [], 0
+        part = cut(self.held[: end - self.base].decode(CODEC), self._borders, self._found, self._events, CODEC)
+        self._borders, self._found, self._events = [], [], 0
         self.forget(end)
         return part
 
     def forget(self, end: int) -> None:
         """Forgets the bytes before a place."""
-        self.held, self.base, self._done = self.held[end - self.base :], end, end
+        self.held, self.base = self.held[end - self.base :], end
 
     def settled(self) -> int:
         """Returns the place up to which nothing changes any more."""
         runs = [run[0] for run in self._runs[:1]] or [self._begin] * (self._begin >= 0)
-        return max(self._done, min([self.parser.CurrentByteIndex, *runs]))
+        return max(self.base, min([self.parser.CurrentByteIndex, *runs]))
