@@ -15,7 +15,11 @@ NEAR = 32
 
 
 class _Strict(ValueError):
-    """Something that Python's decoder lets through."""
+    """Something that Python's decoder lets through. `width` is that of what shows it."""
+
+    def __init__(self, why: str, width: int = 1) -> None:
+        super().__init__(why)
+        self.width = width
 
 
 def _object(pairs: List[Tuple[str, Any]]) -> Dict[str, Any]:
@@ -29,7 +33,7 @@ def _object(pairs: List[Tuple[str, Any]]) -> Dict[str, Any]:
 
 
 def _constant(word: str) -> Any:
-    raise _Strict(f"{word} is not JSON")
+    raise _Strict(f"{word} is not JSON", len(word))
 
 
 # (numbers stay texts: none is computed with, and Python bounds the digits of an integer)
@@ -60,7 +64,9 @@ def fault(text: str, at: int, error: Exception) -> Tuple[int, str]:
         except (_Strict, RecursionError):
             has_it = True
         least, most = (least, middle) if has_it else (middle + 1, most)
-    return least - 1, "too many arrays and objects in one another" if isinstance(error, RecursionError) else str(error)
+    if isinstance(error, _Strict):
+        return least - error.width, str(error)
+    return least - 1, "too many arrays and objects in one another"
 
 
 class JsonText:
