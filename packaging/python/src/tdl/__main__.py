@@ -1,5 +1,5 @@
 """`python3 -m tdl csv`, `jsonl`: columns of a CSV file, or members of JSON lines, translated. `links`: a linkset of a table. `inspect`: the page
-that shows what a code says."""
+that shows what a code says. `epcis`: an EPCIS document, each identifier in one form."""
 from __future__ import annotations
 
 import sys
@@ -16,6 +16,8 @@ from typing import List, Optional  # noqa: E402
 
 from .columns import Wrong  # noqa: E402
 from .columns.command import add_csv, run_csv  # noqa: E402
+from .epcis import Wrong as WrongDocument  # noqa: E402
+from .epcis import command as epcis  # noqa: E402
 from .errors import FilesRejected  # noqa: E402
 from .files import keep_standard_streams  # noqa: E402
 from .jsonl import add_jsonl, run_jsonl  # noqa: E402
@@ -46,6 +48,8 @@ def arguments(words: Optional[List[str]]) -> argparse.Namespace:
     add_links(commands.add_parser("links", help=LINKS, description=f"{LINKS[0].upper()}{LINKS[1:]}."))
     purpose = "serve a page on 127.0.0.1 that shows what a code says"
     add_inspect(commands.add_parser("inspect", parents=[files], help=purpose, description=f"{purpose[0].upper()}{purpose[1:]}."))
+    purpose = "translate the identifiers of an EPCIS document, JSON-LD or XML, to Digital Links or to EPC URIs"
+    epcis.add(commands.add_parser("epcis", parents=[files], help=purpose, description=f"{purpose[0].upper()}{purpose[1:]}."))
     return parser.parse_args(words)
 
 
@@ -78,10 +82,10 @@ def main(words: Optional[List[str]] = None) -> int:
     keep_standard_streams()
     asked = arguments(words)
     try:
-        return {"csv": run_csv, "jsonl": run_jsonl, "links": run_links, "inspect": run_inspect}[asked.command](asked)
+        return {"csv": run_csv, "jsonl": run_jsonl, "links": run_links, "inspect": run_inspect, "epcis": epcis.run}[asked.command](asked)
     except FilesRejected as error:
         return _failed(asked, f"the file of --{error.which} is rejected: {error.reason}", 3)
-    except (Wrong, ValueError) as error:
+    except (Wrong, WrongDocument, ValueError) as error:
         return _failed(asked, str(error), 2)
     except BrokenPipeError:
         os.dup2(os.open(os.devnull, os.O_WRONLY), 1)

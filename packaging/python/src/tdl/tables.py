@@ -20,6 +20,8 @@ def _shipped(name: str) -> str:
 
 
 BUILT_IN, GS1 = _shipped("builtin.json"), _shipped("gs1.json")
+# the built-in rows, and the kinds that only EPCIS events name
+EPCIS = _shipped("epcis.json")
 # the sets of tables/ (docs/TABLES.md, 'Which set to take')
 SETS = {name: _shipped(f"{name}.json") for name in ("gs1", "measures", "food", "healthcare", "logistics")}
 

@@ -1,0 +1,4 @@
+"""EPCIS documents: each identifier in one form."""
+from .parts import Wrong
+
+__all__ = ["Wrong"]
