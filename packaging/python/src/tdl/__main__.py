@@ -6,7 +6,7 @@ import sys
 
 from . import interrupts
 
-if __name__ == "__main__" and sys.argv[1:2] in (["csv"], ["jsonl"]):
+if __name__ == "__main__" and sys.argv[1:2] in (["csv"], ["jsonl"], ["links"]):
     # (first of all, since imports take time)
     interrupts.end_by_signals()
 

@@ -2,12 +2,16 @@
 from __future__ import annotations
 
 import os
+import secrets
 import stat
 import tempfile
 from contextlib import ExitStack, contextmanager, suppress
-from typing import BinaryIO, Dict, Iterator, Optional, Tuple
+from typing import BinaryIO, Iterator, List, Optional, Tuple
 
 from . import interrupts
+
+# how the name of a draft begins, as long as it has one
+PREFIX = ".tdl-"
 
 
 def keep_standard_streams() -> None:
@@ -37,13 +41,42 @@ def is_same(one: str, other: str) -> bool:
     return os.path.realpath(one) == os.path.realpath(other) or (os.path.exists(one) and os.path.exists(other) and os.path.samefile(one, other))
 
 
-def _draft(target: str, drafts: Dict[str, str]) -> BinaryIO:
-    """Makes the file that becomes the target, in its folder."""
-    with interrupts.held():
-        file, path = tempfile.mkstemp(prefix=".tdl-", dir=os.path.dirname(target))
-        drafts[path] = target
-        interrupts.DRAFTS.add(path)
-    return open(file, "wb")
+class _Draft:
+    """A file that becomes another. It has no name until then, so that it goes with its process, except on a file system without such files."""
+
+    def __init__(self, target: str) -> None:
+        self.target, self.path = target, ""
+        folder = os.path.dirname(target)
+        with interrupts.held():
+            try:
+                file = os.open(folder, os.O_WRONLY | os.O_TMPFILE | os.O_CLOEXEC, 0o600)
+            except OSError:
+                file, self.path = tempfile.mkstemp(prefix=PREFIX, dir=folder)
+            interrupts.DRAFTS[target] = self.path
+        self.stream: BinaryIO = open(file, "wb")
+
+    def put(self) -> None:
+        """Renames the file to its target, whose mode it takes. The signals are held meanwhile."""
+        if not self.path:
+            folder = os.path.dirname(self.target)
+            path, where = os.path.join(folder, f"{PREFIX}{secrets.token_hex(8)}"), os.open(folder, os.O_RDONLY | os.O_DIRECTORY)
+            try:
+                # (with a folder's number Python follows the link of /proc to the file)
+                os.link(f"/proc/self/fd/{self.stream.fileno()}", path, src_dir_fd=where)
+            finally:
+                os.close(where)
+            self.path = path
+        os.chmod(self.path, _mode(self.target))
+        os.replace(self.path, self.target)
+
+    def drop(self) -> None:
+        """Closes the file, and removes its name if it has one still."""
+        self.stream.close()
+        with interrupts.held():
+            if self.path:
+                with suppress(FileNotFoundError):
+                    os.unlink(self.path)
+            interrupts.DRAFTS.pop(self.target, None)
 
 
 def _mode(target: str) -> int:
@@ -55,38 +88,29 @@ def _mode(target: str) -> int:
     return 0o666 & ~mask
 
 
-def _drop(drafts: Dict[str, str]) -> None:
-    for path in drafts:
-        with interrupts.held():
-            with suppress(FileNotFoundError):
-                os.unlink(path)
-            interrupts.DRAFTS.discard(path)
-
-
 @contextmanager
 def writing(*paths: Optional[str]) -> Iterator[Tuple[BinaryIO, ...]]:
     """Opens files that appear together, by renames at the end; `-` is the standard output, and what is written for None goes nowhere.
 
     A file that is not a regular one, such as /dev/stderr, is written directly.
     """
-    drafts: Dict[str, str] = {}
-    try:
-        with ExitStack() as opened:
-            streams = []
-            for path in paths:
-                if path == "-":
-                    stream: BinaryIO = open(1, "wb", closefd=False)
-                elif path is None or (os.path.exists(path) and not os.path.isfile(path)):
-                    stream = open(path or os.devnull, "wb")
-                else:
-                    stream = _draft(os.path.realpath(path), drafts)
-                streams.append(opened.enter_context(stream))
-            yield tuple(streams)
+    drafts: List[_Draft] = []
+    with ExitStack() as opened:
+        streams: List[BinaryIO] = []
+        for path in paths:
+            if path == "-":
+                streams.append(opened.enter_context(open(1, "wb", closefd=False)))
+            elif path is None or (os.path.exists(path) and not os.path.isfile(path)):
+                streams.append(opened.enter_context(open(path or os.devnull, "wb")))
+            else:
+                drafts.append(_Draft(os.path.realpath(path)))
+                opened.callback(drafts[-1].drop)
+                streams.append(drafts[-1].stream)
+        yield tuple(streams)
+        for stream in streams:
+            stream.flush()
         with interrupts.held():
-            for path, target in drafts.items():
-                os.chmod(path, _mode(target))
-                os.replace(path, target)
+            for draft in drafts:
+                draft.put()
             if drafts:
                 interrupts.finish()
-    finally:
-        _drop(drafts)

@@ -5,11 +5,12 @@ import os
 import signal
 import sys
 from contextlib import contextmanager, suppress
-from typing import Callable, Iterator, List, Set
+from typing import Callable, Dict, Iterator, List, Set
 
 SIGNALS = (signal.SIGHUP, signal.SIGINT, signal.SIGTERM)
-# what a signal removes, the processes that it ends (both are changed only while the signals are held), and what it calls before
-DRAFTS: Set[str] = set()
+# the files that have not appeared yet, each with the path that a signal removes, if it has one; the processes that a signal ends (both are
+# changed only while the signals are held); and what it calls before
+DRAFTS: Dict[str, str] = {}
 CHILDREN: Set[int] = set()
 AT_END: List[Callable[[], None]] = []
 
@@ -30,7 +31,7 @@ def end_by_signals() -> None:
 def _end(number: int, _: object) -> None:
     """Ends the process with the status of a shell for this signal. It runs between two instructions of Python, so it raises nothing."""
     _leave()
-    for path in DRAFTS:
+    for path in filter(None, DRAFTS.values()):
         with suppress(OSError):
             os.unlink(path)
     clear = "\r\033[K" if os.isatty(2) else ""

@@ -6,19 +6,12 @@ from typing import List, Tuple
 
 from ..files import is_same
 from ..interrupts import tell
-from ..options import FORMS, TARGETS, Target
+from ..options import FORMS, TARGETS, Target, processes
 from .elements import judged
 from .job import Job, Total
 from .translation import translate_csv
 
 OPTIONS = ("tables", "prefixes", "filter", "gcp", "encoding", "stem", "keys_only")
-
-
-def processes(word: str) -> int:
-    """Returns a number of processes."""
-    if not word.isdigit() or not 1 <= int(word) <= 256:
-        raise argparse.ArgumentTypeError("the number of processes is 1 to 256")
-    return int(word)
 
 
 def delimiter(word: str) -> str:

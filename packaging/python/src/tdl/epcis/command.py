@@ -3,18 +3,13 @@ from __future__ import annotations
 
 import argparse
 import sys
+
+from ..options import processes
 from ..tables import EPCIS
 from .identities import How
 from .job import Counts, Job, translate
 
 OF_LINKS, OF_URIS = ("stem",), ("prefixes", "gcp")
-
-
-def processes(word: str) -> int:
-    """Returns a number of processes."""
-    if not word.isdigit() or not 1 <= int(word) <= 256:
-        raise argparse.ArgumentTypeError("the number of processes is 1 to 256")
-    return int(word)
 
 
 def add(parser: argparse.ArgumentParser) -> None:

@@ -14,8 +14,8 @@ from dataclasses import dataclass
 from multiprocessing import connection, parent_process
 from typing import BinaryIO, Deque, Dict, Iterable, Iterator, List, NamedTuple, Optional, Tuple, Union
 
+from ..files import writing
 from ..tables import check
-from .files import writing
 from .identities import NOT_LINKS, Answer, How, Identities
 from .json_source import JsonSource
 from .parts import CHUNK, DIVIDED, FOREIGN, STRING, Part, Wrong, spelled
@@ -183,7 +183,7 @@ def translate(job: Job) -> Counts:
     with ExitStack() as opened:
         is_input = job.document == "-"
         stream = opened.enter_context(open(0 if is_input else job.document, "rb", closefd=not is_input))
-        output, *others = (opened.enter_context(writing(path)) for path in (job.output, job.listed, job.rejected))
+        output, *others = opened.enter_context(writing(job.output, job.listed, job.rejected))
         listed, rejected = others
         listed.write(rows_of([LISTED]))
         rejected.write(rows_of([REJECTED]))

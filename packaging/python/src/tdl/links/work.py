@@ -5,11 +5,11 @@ import argparse
 import sys
 
 from ..errors import FilesRejected, ProgramError
+from ..files import writing
 from ..tables import check
 from .back import table_of
 from .build import Built, build
 from .linkset import MOST_BYTES, MOST_LINKS, Options, check_part, parts_of, text_of
-from .output import write_whole
 from .table import csv_of, is_workbook
 from .workbook import workbook_of
 
@@ -26,7 +26,8 @@ def make_linkset(asked: argparse.Namespace) -> int:
             check_part(part, options)
         except FilesRejected as error:
             raise ProgramError(f"`tdl check` rejects the linkset: {error}") from error
-    write_whole(asked.output, text_of(built.contexts).encode("utf-8"))
+    with writing(asked.output) as (stream,):
+        stream.write(text_of(built.contexts).encode("utf-8"))
     _tell(f"{_count(built.rows, 'row')}, {_count(len(built.contexts), 'anchor')}, 0 rejected")
     if len(parts) > 1:
         name = "FILE" if asked.output == "-" else asked.output
@@ -37,7 +38,8 @@ def make_linkset(asked: argparse.Namespace) -> int:
 def make_table(asked: argparse.Namespace) -> int:
     """Writes the table of a linkset, and returns the status."""
     rows = table_of(asked.back, _options(asked))
-    write_whole(asked.output, workbook_of(rows) if is_workbook(asked.output) else csv_of(rows).encode("utf-8"))
+    with writing(asked.output) as (stream,):
+        stream.write(workbook_of(rows) if is_workbook(asked.output) else csv_of(rows).encode("utf-8"))
     _tell(_count(len(rows) - 1, "row"))
     return 0
 
