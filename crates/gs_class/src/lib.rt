@@ -16,7 +16,7 @@
 //!
 //! # Differences from the standard
 //!
-//! - The document of classes and its rules are this project's own (docs/FORMATS.md, 'The class document'). A set by which a text has two
+//! - The document of classes and its rules are this project's own (docs/TABLES.md, 'The class document'). A set by which a text has two
 //!   readings is rejected, with such a text.
 //! - The length of the company prefix of an identity is given, or comes from a list of prefixes; a class URI carries it.
 //! - Limits: 256 classes, 24 items and 512 symbols of one.

@@ -1,4 +1,4 @@
-//! Replies to requests of HTTP/1 (RFC 9110, RFC 9112) by the links of a store, like those of a GS1-conformant resolver.
+//! Replies to requests of HTTP/1 (RFC 9110, RFC 9112) by the links of a store, in the manner of GS1's resolver standard.
 //!
 //! - `reply` answers one head: with a redirect, several links to choose from, a linkset, the resolver description file, or only a
 //!   status.

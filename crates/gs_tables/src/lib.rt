@@ -21,7 +21,7 @@
 //!
 //! # Differences from the standards
 //!
-//! - The form of the document and its rules are this project's own (docs/FORMATS.md, 'The table document'). GS1 EPC Tag Data
+//! - The form of the document and its rules are this project's own (docs/TABLES.md, 'The table document'). GS1 EPC Tag Data
 //!   Translation has its own files, which are not read.
 //! - Tables by which a text or bits have two readings are rejected, with such a text.
 //! - The built-in rows are the binary encodings of ten kinds that GS1 EPC Tag Data Standard 2.0 kept from versions 1.x. The
