@@ -3,9 +3,11 @@ use Rattle.std.proofs.Common.{◌≡◌, ℕ, zero, suc, ◌+◌, ◌<◌, Bool,
 use Rattle.std.specs.List.{position_or_len, list_any}
 use Rattle.std.specs.Option.{option_or}
 use Rattle.std.proofs.lemmas.Bool.Decides.{nat_tests}
-pub use Rattle.gs_chars.proofs.TruthsAndLists.{equal_bytes, same_bytes, within, get_take, get_of_take, read_at, false_from}
+use Rattle.gs_chars.proofs.TruthsAndLists.{read_at}
+use Rattle.std.proofs.lemmas.Option.{slice_get_within}
 
-cons_cases : (b : Bool) (n len : ℕ) → cond (nat_lt (cond (not b) (1 + n) 0) (suc len)) (Some (cond (not b) (1 + n) 0)) None ≡ (if b then Some 0 else option_map (λ i. 1 + i) (cond (nat_lt n len) (Some n) None))
+cons_cases : (b : Bool) (n len : ℕ)
+    → cond (nat_lt (cond (not b) (1 + n) 0) (suc len)) (Some (cond (not b) (1 + n) 0)) None ≡ (if b then Some 0 else option_map (λ i. 1 + i) (cond (nat_lt n len) (Some n) None))
 cons_cases true n len = grind (arith, nat_tests)
 cons_cases false n len = grind (arith, nat_tests)
 
@@ -16,17 +18,20 @@ shift_zero : (r : Option ℕ) → r ≡ option_map (λ i. 0 + i) r
 shift_zero None = refl
 shift_zero (Some i) = ap Some (omega arith)
 
-shift_more : (n : ℕ) (r s : Option ℕ) → option_map (λ i. 1 + i) (option_or r (option_map (λ i. n + i) s)) ≡ option_or (option_map (λ i. 1 + i) r) (option_map (λ i. suc n + i) s)
+shift_more : (n : ℕ) (r s : Option ℕ)
+    → option_map (λ i. 1 + i) (option_or r (option_map (λ i. n + i) s)) ≡ option_or (option_map (λ i. 1 + i) r) (option_map (λ i. suc n + i) s)
 shift_more n None None = refl
 shift_more n None (Some i) = ap Some (omega arith)
 shift_more n (Some j) s = refl
 
-pub position-append : {X : Type 0} (p : X → Bool) (xs ys : List X) → position p (xs ++ ys) ≡ option_or (position p xs) (option_map (λ i. length xs + i) (position p ys))
+pub position-append : {X : Type 0} (p : X → Bool) (xs ys : List X)
+    → position p (xs ++ ys) ≡ option_or (position p xs) (option_map (λ i. length xs + i) (position p ys))
 position-append p [] ys = shift_zero (position p ys)
 position-append p (x ∷ xs) ys =
     rw (position-cons p x (xs ++ ys), position-cons p x xs, position-append p xs ys) (by (p x))
   where
-    by : (b : Bool) → (if b then Some 0 else option_map (λ i. 1 + i) (option_or (position p xs) (option_map (λ i. length xs + i) (position p ys)))) ≡ option_or (if b then Some 0 else option_map (λ i. 1 + i) (position p xs)) (option_map (λ i. suc (length xs) + i) (position p ys))
+    by : (b : Bool)
+        → (if b then Some 0 else option_map (λ i. 1 + i) (option_or (position p xs) (option_map (λ i. length xs + i) (position p ys)))) ≡ option_or (if b then Some 0 else option_map (λ i. 1 + i) (position p xs)) (option_map (λ i. suc (length xs) + i) (position p ys))
     by true = refl
     by false = shift_more (length xs) (position p xs) (position p ys)
 
@@ -34,7 +39,8 @@ pub position-map : {X Y : Type 0} (p : Y → Bool) (f : X → Y) (xs : List X) �
 position-map p f [] = refl
 position-map p f (x ∷ xs) = rw (position-cons p (f x) (map f xs), position-cons (λ x. p (f x)) x xs, position-map p f xs)
 
-some_cases : (b : Bool) (r : Option ℕ) (i : ℕ) → (if b then Some 0 else option_map (λ k. 1 + k) r) ≡ Some i → ((b ≡ true) × (i ≡ 0)) ⊎ ((b ≡ false) × ((k : ℕ) × (i ≡ suc k) × (r ≡ Some k)))
+some_cases : (b : Bool) (r : Option ℕ) (i : ℕ) → (if b then Some 0 else option_map (λ k. 1 + k) r) ≡ Some i
+    → ((b ≡ true) × (i ≡ 0)) ⊎ ((b ≡ false) × ((k : ℕ) × (i ≡ suc k) × (r ≡ Some k)))
 some_cases true r i e = inl (refl, cc)
 some_cases false None i e = absurd (let g : None ≡ Some i = e in cc)
 some_cases false (Some k) i e = inr (refl, (k, let h : 1 + k ≡ i = cc in omega arith, refl))
@@ -45,7 +51,8 @@ none_cases false (Some k) e = absurd (let g : Some (1 + k) ≡ None = e in cc)
 none_cases false None e = (refl, refl)
 
 -- the place that `position` gives, and none
-pub position_is : {X : Type 0} (p : X → Bool) (xs : List X) (i : ℕ) (x : X) → slice_get xs i ≡ Some x → p x ≡ true → ((j : ℕ) (y : X) → j < i → slice_get xs j ≡ Some y → p y ≡ false) → position p xs ≡ Some i
+pub position_is : {X : Type 0} (p : X → Bool) (xs : List X) (i : ℕ) (x : X) → slice_get xs i ≡ Some x → p x ≡ true
+    → ((j : ℕ) (y : X) → j < i → slice_get xs j ≡ Some y → p y ≡ false) → position p xs ≡ Some i
 position_is p [] i x e h low = absurd (let f : None ≡ Some x = e in cc)
 position_is p (y ∷ ys) zero x e h low = let same : y ≡ x = cc in let test : p y ≡ true = rw same h in rw (position-cons p y ys, test)
 position_is p (y ∷ ys) (suc i) x e h low =
@@ -61,7 +68,8 @@ position_none p (y ∷ ys) none =
     rw (position-cons p y ys, first, rest)
 
 -- the first element passes, or the place is that of the others and one more
-pub cons_some : {X : Type 0} (p : X → Bool) (y : X) (ys : List X) (i : ℕ) → position p (y ∷ ys) ≡ Some i → ((p y ≡ true) × (i ≡ 0)) ⊎ ((p y ≡ false) × ((k : ℕ) × (i ≡ suc k) × (position p ys ≡ Some k)))
+pub cons_some : {X : Type 0} (p : X → Bool) (y : X) (ys : List X) (i : ℕ) → position p (y ∷ ys) ≡ Some i
+    → ((p y ≡ true) × (i ≡ 0)) ⊎ ((p y ≡ false) × ((k : ℕ) × (i ≡ suc k) × (position p ys ≡ Some k)))
 cons_some p y ys i e = some_cases (p y) (position p ys) i (sym (position-cons p y ys) ∙ e)
 
 pub cons_none : {X : Type 0} (p : X → Bool) (y : X) (ys : List X) → position p (y ∷ ys) ≡ None → (p y ≡ false) × (position p ys ≡ None)
@@ -96,7 +104,7 @@ any-map p f [] = refl
 any-map p f (x ∷ xs) = rw (any-map p f xs)
 
 pub position_within : {X : Type 0} (p : X → Bool) (xs : List X) (i : ℕ) → position p xs ≡ Some i → i < length xs
-position_within p xs i e = let s = position_some p xs i e in within xs i s.0 s.1
+position_within p xs i e = let s = position_some p xs i e in slice_get_within xs i s.0 s.1
 
 -- the element at the place that `position` gives is the one that `find` gives
 pub find_read : {X : Type 0} (p : X → Bool) (xs : List X) (i : ℕ) (x : X) → position p xs ≡ Some i → x ≡ get_or xs i x → find p xs ≡ Some x
