@@ -12,27 +12,28 @@ if __name__ == "__main__" and sys.argv[1:2] in (["csv"], ["jsonl"], ["links"]):
 
 import argparse  # noqa: E402
 import os  # noqa: E402
+from importlib import import_module  # noqa: E402
+from types import ModuleType  # noqa: E402
 from typing import List, Optional  # noqa: E402
 
-from .columns import Wrong  # noqa: E402
-from .columns.command import add_csv, run_csv  # noqa: E402
-from .epcis import Wrong as WrongDocument  # noqa: E402
-from .epcis import command as epcis  # noqa: E402
-from .errors import FilesRejected  # noqa: E402
+from .errors import FilesRejected, Wrong  # noqa: E402
 from .files import keep_standard_streams  # noqa: E402
-from .jsonl import add_jsonl, run_jsonl  # noqa: E402
-from .links.command import PURPOSE as LINKS  # noqa: E402
-from .links.command import add_links, run_links  # noqa: E402
-from .tables import SETS, check  # noqa: E402
 
-PORT = 8090
+# each command: the module with its arguments and its run, and what it is for
+COMMANDS = {
+    "csv": ("columns.command", "translate columns of a CSV file: each record gets columns with the answers and one with the reason"),
+    "jsonl": ("jsonl", "translate members of JSON lines: each line gets members with the answers or the reason, before the next has come"),
+    "links": ("links.command", "make a linkset of a table of links, or a table of a linkset"),
+    "inspect": ("inspector.command", "serve a page on 127.0.0.1 that shows what a code says"),
+    "epcis": ("epcis.command", "translate the identifiers of an EPCIS document, JSON-LD or XML, to Digital Links or to EPC URIs"),
+}
+# the command that takes no list of company prefix lengths
+WITHOUT_PREFIXES = "links"
 
 
-def port(word: str) -> int:
-    """Returns the number of a port."""
-    if not word.isdigit() or int(word) > 65_535:
-        raise argparse.ArgumentTypeError("a port is a number from 0 to 65535")
-    return int(word)
+def module_of(command: str) -> ModuleType:
+    """Returns the module of a command, which only that command imports."""
+    return import_module(f"{__package__}.{COMMANDS[command][0]}")
 
 
 def arguments(words: Optional[List[str]]) -> argparse.Namespace:
@@ -41,40 +42,13 @@ def arguments(words: Optional[List[str]]) -> argparse.Namespace:
     commands = parser.add_subparsers(dest="command", required=True)
     files = argparse.ArgumentParser(add_help=False)
     files.add_argument("--prefixes", metavar="FILE", help="a list of company prefix lengths")
-    purpose = "translate columns of a CSV file: each record gets columns with the answers and one with the reason"
-    add_csv(commands.add_parser("csv", parents=[files], help=purpose, description=f"{purpose[0].upper()}{purpose[1:]}."))
-    purpose = "translate members of JSON lines: each line gets members with the answers or the reason, before the next has come"
-    add_jsonl(commands.add_parser("jsonl", parents=[files], help=purpose, description=f"{purpose[0].upper()}{purpose[1:]}."))
-    add_links(commands.add_parser("links", help=LINKS, description=f"{LINKS[0].upper()}{LINKS[1:]}."))
-    purpose = "serve a page on 127.0.0.1 that shows what a code says"
-    add_inspect(commands.add_parser("inspect", parents=[files], help=purpose, description=f"{purpose[0].upper()}{purpose[1:]}."))
-    purpose = "translate the identifiers of an EPCIS document, JSON-LD or XML, to Digital Links or to EPC URIs"
-    epcis.add(commands.add_parser("epcis", parents=[files], help=purpose, description=f"{purpose[0].upper()}{purpose[1:]}."))
+    asked = (sys.argv[1:] if words is None else words)[:1]
+    for name, (_, purpose) in COMMANDS.items():
+        parents = [] if name == WITHOUT_PREFIXES else [files]
+        one = commands.add_parser(name, parents=parents, help=purpose, description=f"{purpose[0].upper()}{purpose[1:]}.")
+        if asked == [name]:
+            module_of(name).add(one)
     return parser.parse_args(words)
-
-
-def add_inspect(parser: argparse.ArgumentParser) -> None:
-    """Adds the arguments of `inspect`."""
-    sets = f"{', '.join(list(SETS)[1:-1])} and {list(SETS)[-1]}"
-    parser.add_argument("--tables", metavar="FILE", help=f"a table document of your own; else tables/gs1.json, and the page offers {sets} too")
-    parser.add_argument("--port", type=port, default=PORT, metavar="N", help=f"the port, {PORT} if none is given; 0 is any that is free")
-    opens = "open the page in a browser, also one that is served at the port already; without either option, only if a terminal and a desktop are there"
-    parser.add_argument("--open", action=argparse.BooleanOptionalAction, help=opens)
-
-
-def run_inspect(asked: argparse.Namespace) -> int:
-    """Serves the page, or opens one that is served at the port already, and returns the status."""
-    import webbrowser
-
-    from .inspector import address_of, is_served, serve
-
-    if asked.open and asked.port and is_served(asked.port):
-        webbrowser.open(address_of(asked.port))
-        return 0
-    check(asked.tables, prefixes=asked.prefixes)
-    has_desktop = sys.stdout.isatty() and any(os.environ.get(name) for name in ("DISPLAY", "WAYLAND_DISPLAY"))
-    serve(asked.port, tables=asked.tables, prefixes=asked.prefixes, is_opened=has_desktop if asked.open is None else asked.open)
-    return 0
 
 
 def main(words: Optional[List[str]] = None) -> int:
@@ -82,10 +56,10 @@ def main(words: Optional[List[str]] = None) -> int:
     keep_standard_streams()
     asked = arguments(words)
     try:
-        return {"csv": run_csv, "jsonl": run_jsonl, "links": run_links, "inspect": run_inspect, "epcis": epcis.run}[asked.command](asked)
+        return int(module_of(asked.command).run(asked))
     except FilesRejected as error:
         return _failed(asked, f"the file of --{error.which} is rejected: {error.reason}", 3)
-    except (Wrong, WrongDocument, ValueError) as error:
+    except (Wrong, ValueError) as error:
         return _failed(asked, str(error), 2)
     except BrokenPipeError:
         os.dup2(os.open(os.devnull, os.O_WRONLY), 1)

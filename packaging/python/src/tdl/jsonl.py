@@ -146,7 +146,7 @@ def translate_jsonl(job: Job, path: str, output: str) -> Total:
     return writer.total
 
 
-def add_jsonl(parser: argparse.ArgumentParser) -> None:
+def add(parser: argparse.ArgumentParser) -> None:
     """Adds the arguments of `jsonl`."""
     parser.epilog = "The status is 1 if a line was rejected. A written file appears when all is done."
     parser.add_argument("file", nargs="?", default="-", help="the file of JSON lines; else, or for -, the standard input")
@@ -156,6 +156,6 @@ def add_jsonl(parser: argparse.ArgumentParser) -> None:
     add_translation(parser)
 
 
-def run_jsonl(asked: argparse.Namespace) -> int:
+def run(asked: argparse.Namespace) -> int:
     """Translates a file, and returns the status."""
     return told(translate_jsonl(job_of(asked), asked.file, asked.output), "line")

@@ -50,7 +50,7 @@ def add_translation(parser: argparse.ArgumentParser) -> None:
     parser.add_argument("--keys-only", action="store_true", help="keep only the key and its serial")
 
 
-def add_csv(parser: argparse.ArgumentParser) -> None:
+def add(parser: argparse.ArgumentParser) -> None:
     """Adds the arguments of `csv`."""
     parser.epilog = "The status is 1 if a record was rejected. Written files appear when all is done."
     parser.add_argument("file", nargs="?", default="-", help="the CSV file in UTF-8; else, or for -, the standard input")
@@ -85,7 +85,7 @@ def told(total: Total, noun: str) -> int:
     return 1 if total.rejected else 0
 
 
-def run_csv(asked: argparse.Namespace) -> int:
+def run(asked: argparse.Namespace) -> int:
     """Translates a file, and returns the status."""
     if asked.rejected is not None and is_same(asked.rejected, asked.output):
         raise ValueError("--output and --rejected name the same file")

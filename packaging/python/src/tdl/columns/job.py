@@ -7,10 +7,6 @@ from typing import Any, Dict, NamedTuple, Optional, Tuple
 from ..options import Form, Target
 
 
-class Wrong(Exception):
-    """A file that is not CSV, or lacks a column."""
-
-
 @dataclass(frozen=True)
 class Job:
     """What is asked for. `options` are those of `Translator`; a column is a name, or a number from 1.

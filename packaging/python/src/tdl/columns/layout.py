@@ -3,7 +3,8 @@ from __future__ import annotations
 
 from typing import List, NamedTuple, Tuple
 
-from .job import Job, Wrong
+from ..errors import Wrong
+from .job import Job
 from .records import encoded, parted, quoted
 from .source import Source
 

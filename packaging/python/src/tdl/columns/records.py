@@ -5,7 +5,8 @@ import csv
 import io
 from typing import Dict, List, NamedTuple, Optional, Tuple
 
-from .job import Wrong
+from ..errors import Wrong
+
 
 class Chunk(NamedTuple):
     """Whole records as they stand in the file, and the number of the file's lines before them."""

@@ -6,7 +6,7 @@ import os
 import select
 from typing import Callable, Iterator, List, Optional, Tuple
 
-from .job import Wrong
+from ..errors import Wrong
 from .records import Chunk, count_lines, encoded, lines_of, not_csv
 
 BLOCK = 262_144

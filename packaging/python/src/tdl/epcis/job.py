@@ -8,18 +8,18 @@ import os
 import signal
 import threading
 from collections import deque
-from concurrent.futures import Future, ProcessPoolExecutor
 from contextlib import ExitStack
 from dataclasses import dataclass
-from multiprocessing import connection, parent_process
-from typing import BinaryIO, Deque, Dict, Iterable, Iterator, List, NamedTuple, Optional, Tuple, Union
+from typing import TYPE_CHECKING, BinaryIO, Deque, Dict, Iterable, Iterator, List, NamedTuple, Optional, Tuple
 
+from ..errors import Wrong
 from ..files import writing
 from ..tables import check
 from .identities import NOT_LINKS, Answer, How, Identities
-from .json_source import JsonSource
-from .parts import CHUNK, DIVIDED, FOREIGN, STRING, Part, Wrong, spelled
-from .xml_source import XmlSource
+from .parts import CHUNK, DIVIDED, FOREIGN, STRING, Part, spelled
+
+if TYPE_CHECKING:
+    from concurrent.futures import Future
 
 # how an event's hash begins (CBV 2.0, section 8.9)
 HASH = "ni:///sha-256;"
@@ -125,6 +125,8 @@ def _begin(how: How) -> None:
 
 
 def _end_with_parent() -> None:
+    from multiprocessing import connection, parent_process
+
     parent = parent_process()
     assert parent
     connection.wait([parent.sentinel])
@@ -144,6 +146,9 @@ def _in_order(parts: Iterable[Part], job: Job) -> Iterator[Written]:
         if job.processes == 1:
             yield from map(worker.write, parts)
             return
+        # (only here, since it takes time)
+        from concurrent.futures import ProcessPoolExecutor
+
         pool = ProcessPoolExecutor(job.processes, initializer=_begin, initargs=(job.how,))
         opened.callback(pool.shutdown, cancel_futures=True)
         ahead: Deque[Future[Written]] = deque()
@@ -162,14 +167,18 @@ def rows_of(rows: Iterable[Tuple[object, ...]]) -> bytes:
     return into.getvalue().encode("utf-8", "backslashreplace")
 
 
-def source_of(stream: BinaryIO, is_inline: bool) -> Union[JsonSource, XmlSource]:
+def parts_of(stream: BinaryIO, is_inline: bool) -> Iterator[Part]:
     """Returns the parts of a document, by its first character that is not white space."""
     head = stream.read(CHUNK)
     start = head.removeprefix(b"\xef\xbb\xbf").lstrip()[:1]
     if start == b"{":
-        return JsonSource(stream, head, is_inline)
+        from .json_source import JsonSource
+
+        return JsonSource(stream, head, is_inline).parts()
     if start == b"<" and b"\0" not in head[:4]:
-        return XmlSource(stream, head, is_inline)
+        from .xml_source import XmlSource
+
+        return XmlSource(stream, head, is_inline).parts()
     has_zero = b"\0" in head[:4]
     raise Wrong("line 1, column 1: neither JSON nor XML" + (": the document is UTF-16 or UTF-32, and has to be UTF-8" if has_zero else ""))
 
@@ -187,7 +196,7 @@ def translate(job: Job) -> Counts:
         listed, rejected = others
         listed.write(rows_of([LISTED]))
         rejected.write(rows_of([REJECTED]))
-        for written in _in_order(source_of(stream, job.processes == 1).parts(), job):
+        for written in _in_order(parts_of(stream, job.processes == 1), job):
             output.write(written.data)
             listed.write(rows_of((text,) for text in written.listed))
             rejected.write(rows_of((counts.events + event, *row) for event, *row in written.rejected))

@@ -5,11 +5,12 @@ from functools import lru_cache
 from itertools import accumulate
 from typing import Any, BinaryIO, Iterator, List, Tuple
 
+from ..errors import Wrong
 from .fields import JSON_DOCUMENT
 from .json_events import JsonEvents
 from .json_text import GAP, SPACE, JsonText, decode, fault, place
 from .json_walk import CODEC, Walk, Walker
-from .parts import CHUNK, Located, Part, Wrong, cut
+from .parts import CHUNK, Located, Part, cut
 
 MARK = "\ufeff"
 TOPS = ("epcisBody", "epcisHeader")

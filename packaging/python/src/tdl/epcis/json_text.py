@@ -7,7 +7,8 @@ import json
 import re
 from typing import Any, BinaryIO, Callable, Dict, List, Tuple
 
-from .parts import CHUNK, LARGEST, Wrong
+from ..errors import Wrong
+from .parts import CHUNK, LARGEST
 
 SPACE, GAP = re.compile(r"[ \t\n\r]*"), re.compile(r"[ \t\n\r,]*")
 # an error of the decoder this near to the end of a text may only mean that the text goes on

@@ -4,7 +4,6 @@ from __future__ import annotations
 import re
 from enum import IntEnum
 from typing import Dict, List, NamedTuple, Protocol, Tuple
-from xml.sax.saxutils import escape
 
 # the most that is held of a document for one event or one other piece of it, in characters of JSON or bytes of XML
 LARGEST = 1 << 24
@@ -13,10 +12,6 @@ CHUNK = 1 << 20
 # how a text begins that is an EPC or may be a Digital Link
 BEGIN = "(?i:urn:epc:|https?://)"
 _begin = re.compile(BEGIN, re.ASCII)
-
-
-class Wrong(Exception):
-    """A document that is not well-formed, or not EPCIS."""
 
 
 class Style(IntEnum):
@@ -36,7 +31,12 @@ QUOTES: Dict[Style, Dict[str, str]] = {Style.CONTENT: {}, Style.ATTRIBUTE: {'"':
 
 def spelled(answer: str, style: Style) -> str:
     """Returns an identifier as it is written in a document. In JSON and in CDATA no character of one is escaped."""
-    return f'"{answer}"' if style is Style.STRING else answer if style is Style.CDATA else escape(answer, QUOTES[style])
+    if style in QUOTES:
+        # (only here, since a document in JSON needs nothing of it)
+        from xml.sax.saxutils import escape
+
+        return escape(answer, QUOTES[style])
+    return f'"{answer}"' if style is Style.STRING else answer
 
 
 def style_of(text: str, style: Style) -> Style:

@@ -5,8 +5,9 @@ from typing import BinaryIO, Dict, Iterator, List, NamedTuple, Optional, Tuple
 from xml.parsers import expat
 from xml.sax.saxutils import quoteattr
 
+from ..errors import Wrong
 from .fields import XML_DOCUMENT, XML_EVENTS
-from .parts import CHUNK, LARGEST, Located, Part, Wrong
+from .parts import CHUNK, LARGEST, Located, Part
 from .xml_locator import Locator
 
 # the encodings whose bytes below 128 are ASCII, so that an identifier can be written in them

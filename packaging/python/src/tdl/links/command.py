@@ -4,7 +4,6 @@ from __future__ import annotations
 import argparse
 import re
 
-PURPOSE = "make a linkset of a table of links, or a table of a linkset"
 EPILOG = """\
 Columns, in any order: `anchor` (a link, its path, or an element string), or one for each AI, `01`, `10`, `21` ..; `href`; `linkType`, where
 an empty cell means gs1:defaultLink; `hreflang`, languages separated by spaces; `title`; `type`. Other names begin with #. The status is 1 if
@@ -19,7 +18,7 @@ def vocabulary(word: str) -> str:
     return word
 
 
-def add_links(parser: argparse.ArgumentParser) -> None:
+def add(parser: argparse.ArgumentParser) -> None:
     """Adds the arguments of `links`."""
     parser.epilog = " ".join(EPILOG.split())
     source = parser.add_mutually_exclusive_group(required=True)
@@ -33,7 +32,7 @@ def add_links(parser: argparse.ArgumentParser) -> None:
     parser.add_argument("--voc", type=vocabulary, metavar="PREFIX", help="what gs1: means; else https://ref.gs1.org/voc/")
 
 
-def run_links(asked: argparse.Namespace) -> int:
+def run(asked: argparse.Namespace) -> int:
     """Makes a linkset or a table, and returns the status."""
     # (only here, since other commands need nothing of it)
     from .work import make_linkset, make_table
