@@ -2,7 +2,7 @@
 from __future__ import annotations
 
 import threading
-from typing import Any, Dict, List, Tuple
+from typing import Any, Dict, Iterable, List, Tuple
 
 from .errors import Rejected
 from .options import Form, Target
@@ -49,22 +49,34 @@ class Column:
             return _RUNS[self._how]
 
     def __call__(self, series: Any) -> Any:
-        values, is_missing = series.tolist(), series.isna().tolist()
-        answers: List[Any] = [None] * len(values)
+        values = series.tolist()
         reasons: List[Any] = [None] * len(values)
-        places = []
-        for place, (value, is_none) in enumerate(zip(values, is_missing)):
-            if is_none:
-                continue
-            if not isinstance(value, (str, bytes)):
-                reasons[place] = f"type {type(value).__name__}"
-            elif b"\n" in value if isinstance(value, bytes) else "\n" in value:
-                reasons[place] = "line-feed"
-            else:
-                places.append(place)
-        for place, answer in zip(places, self._run().translate_list([values[place] for place in places])):
-            if isinstance(answer, Rejected):
-                reasons[place] = answer.reason
-            else:
+        if set(map(type, values)) <= {str} and not any("\n" in value for value in values):
+            # (most columns: no text has to be looked at)
+            answers: List[Any] = list(self._run().translate_list(values))
+            places: "Iterable[int]" = range(len(values)) if Rejected in set(map(type, answers)) else ()
+        else:
+            places = _texts_among(values, series.isna().tolist(), reasons)
+            found = self._run().translate_list([values[place] for place in places])
+            answers = [None] * len(values)
+            for place, answer in zip(places, found):
                 answers[place] = answer
+        for place in places:
+            if isinstance(answers[place], Rejected):
+                answers[place], reasons[place] = None, answers[place].reason
         return _frame(answers, reasons, series.index)
+
+
+def _texts_among(values: List[Any], is_missing: List[bool], reasons: List[Any]) -> List[int]:
+    """Returns the places of the texts, and puts a reason at each other place that is not missing."""
+    places = []
+    for place, (value, is_none) in enumerate(zip(values, is_missing)):
+        if is_none:
+            continue
+        if not isinstance(value, (str, bytes)):
+            reasons[place] = f"type {type(value).__name__}"
+        elif b"\n" in value if isinstance(value, bytes) else "\n" in value:
+            reasons[place] = "line-feed"
+        else:
+            places.append(place)
+    return places
