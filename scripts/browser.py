@@ -11,7 +11,7 @@ import tempfile
 from pathlib import Path
 from time import monotonic, sleep
 
-SECONDS = 240
+SECONDS = 900
 NAMES = ["chromium", "chromium-browser", "google-chrome"]
 FLAGS = ["--headless=new", "--remote-debugging-port=0", "--no-first-run", "--disable-gpu", "--hide-scrollbars", "--disable-extensions"]
 FLAGS += ["--disable-background-networking", "--disable-component-update", "--disable-sync", "--disable-default-apps", "--disable-dev-shm-usage"]

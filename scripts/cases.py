@@ -19,6 +19,7 @@ Each file of checks/cases is a list of cases:
   error    the text that is wanted on standard error; in its place one line that begins with `tdl: ` is wanted with a status of SAID, and
            nothing with any other
   status   the status that is wanted
+  heavy    true: without proofs it takes minutes, so bin/test leaves it out if nothing is proved
 
 A text has one character for each byte (latin-1). It is a string; or [TEXT, N], which is N times the text; or [TEXT, N, FIRST],
 which is N times the text with a number in the place of `{n}`, first FIRST and then one more each time; or a list of texts, which
@@ -34,7 +35,7 @@ from repository import TOP
 CASES = TOP / "checks" / "cases"
 NEEDED = {"name", "words", "status"}
 KNOWN = NEEDED | {"files", "lent", "sparse", "folders", "input", "stdin", "output", "pattern"}
-KNOWN |= {"lines", "turns", "stdout", "error"}
+KNOWN |= {"lines", "turns", "stdout", "error", "heavy"}
 SAID = {2, 4, 5, 6, 8, 9}
 APART = [("input", "stdin"), ("output", "stdout"), ("output", "pattern"), ("pattern", "stdout"), ("lines", "turns")]
 APART += [(pairs, f) for pairs in ("lines", "turns") for f in ("input", "stdin", "output", "pattern", "stdout")]

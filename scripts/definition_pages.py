@@ -1,12 +1,17 @@
-"""The pages of the definitions that public clauses reach: docs/DEFINITIONS.md and docs/definitions; and the formulas of docs/THEOREM.md."""
+"""The pages of the definitions that public clauses reach: docs/DEFINITIONS.md and docs/definitions; the formulas of docs/THEOREM.md; and in
+that page and docs/TRUST.md the parts between `<!-- written: NAME -->` and `<!-- end -->`: sizes, and what is used of the kit.
+"""
 import re
 
-from definitions import Definition, clause_of, definitions_in
-from repository import TOP, crates
+from definitions import Definition, clause_of, definitions_in, kit_words
+from repository import TOP, crates, kit_crates, kit_wanted
 
 DOCS = TOP / "docs"
-THEOREM = DOCS / "THEOREM.md"
+THEOREM, TRUST = DOCS / "THEOREM.md", DOCS / "TRUST.md"
 MOST_NAMED = 12
+PART = re.compile(r"(?<=<!-- written: )(\w+)( -->\n).*?(?=<!-- end -->)", re.DOTALL)
+CLAUSE_TABLE = r"```\n(?:(?!```|\|).*\n)*\| In the clause \|.*\n\|[-|]*\n((?:\|.*\n)*)"
+GLOSSED = re.compile(r"^```\n-- (\w+): (\w+), (\w+)\n((?:(?!```).*\n)*)" + CLAUSE_TABLE, re.MULTILINE)
 BLOCK = re.compile(r"^```\n(-- \w+: .*?)^```$", re.MULTILINE | re.DOTALL)
 HEAD = re.compile(r"^-- (\w+): (\w+)(?:, (\w+))?$", re.MULTILINE)
 ENTRY = re.compile(r"\[`(\w+)`\]\(definitions/[^)]*\)")
@@ -194,6 +199,38 @@ def theorem(specs, entries):
     return ENTRY.sub(linked, BLOCK.sub(filled, THEOREM.read_text("utf-8")))
 
 
+def sizes(specs):
+    """The table of how much has to be read to know what the clauses claim."""
+    run = specs.item("tdl_run", "run")
+    parts = [
+        ("[the core](definitions/kernel.md#the-core): which texts are accepted, and what they mean", specs.core()),
+        ("the clause `defined`, for `canon` and `translate`", specs.kernel()),
+        ("all clauses of `run`", specs.reached(run)),
+        ("all public calls of all crates", specs.reached(specs.items)),
+    ]
+    yield "| What is claimed by | Definitions | Lines | Words of the kit |\n|---|---:|---:|---:|\n"
+    for name, nodes in parts:
+        found = definitions_in(nodes)
+        yield f"| {name} | {len(found):,} | {sum(len(it.formula) for it in found):,} | {len(kit_words(specs, nodes)):,} |\n"
+
+
+def parted(specs, text):
+    """A document's text with its written parts as they are today."""
+    parts = {"sizes": "".join(sizes(specs)), "kit": f"`{kit_wanted()}`\n", "kit_crates": ", ".join(f"`{name}`" for name in kit_crates()) + "\n"}
+    return PART.sub(lambda found: f"{found[1]}{found[2]}{parts[found[1]]}", text)
+
+
+def unglossed(text):
+    """Each piece of a clause that a table under it explains and that the clause has not, and each word that no piece has."""
+    for _, name, clause, formula, rows in GLOSSED.findall(text):
+        left, place = " ".join(formula.split()), f"docs/THEOREM.md: the clause {clause} of {name}"
+        for piece in re.findall(r"^\| `([^`]*)` \|", rows, re.MULTILINE):
+            if piece not in left:
+                yield f"{place} has no {piece}"
+            left = left.replace(piece, "")
+        yield from (f"{place} has {word}, which no row of its table explains" for word in re.findall(r"[\w.]+", left) if word not in ("ensures", clause))
+
+
 def lost_formulas(specs):
     """Each formula of docs/THEOREM.md that no crate has or no public clause reaches, and each name that links to no entry."""
     reached = {(it.crate, it.name) for it in specs.reached(specs.items)}
@@ -202,7 +239,9 @@ def lost_formulas(specs):
             yield f"docs/THEOREM.md: {crate} has no {name}" + (f" with a clause {clause}" if clause else "")
         elif not clause and (crate, name) not in reached:
             yield f"docs/THEOREM.md: no public clause reaches {name} of {crate}"
-    for name in ENTRY.findall(THEOREM.read_text("utf-8")):
+    text = THEOREM.read_text("utf-8")
+    yield from unglossed(text)
+    for name in ENTRY.findall(text):
         if name not in {it for _, it in reached}:
             yield f"docs/THEOREM.md: no page of definitions has an entry {name}"
 
@@ -211,4 +250,4 @@ def pages(specs):
     """The path and the text of each page."""
     pages = Pages(specs)
     found = {DOCS / "DEFINITIONS.md": pages.index(), **{DOCS / "definitions" / f"{name}.md": pages.text(name) for name in PAGES}}
-    return {**found, THEOREM: theorem(specs, pages)}
+    return {**found, THEOREM: parted(specs, theorem(specs, pages)), TRUST: parted(specs, TRUST.read_text("utf-8"))}

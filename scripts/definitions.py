@@ -202,3 +202,10 @@ def clause_of(item, name):
 def definitions_in(nodes):
     """The definitions among nodes."""
     return [it for it in nodes if isinstance(it, Definition)]
+
+
+def kit_words(specs, nodes):
+    """The words of the kit's libraries that the formulas of nodes use."""
+    own = set(crates())
+    places = {specs.imports[it.crate, it.file].get(name) for it in definitions_in(nodes) for name in it.uses()}
+    return {place[2] for place in places if place and place[0] not in own}

@@ -7,15 +7,16 @@ import os
 import re
 import shlex
 import socket
+import socketserver
 import ssl
 import subprocess
-from contextlib import nullcontext
+from contextlib import nullcontext, suppress
 from threading import Event, Thread
 from time import monotonic, sleep
 
-HOST, SECONDS, MOST_OPEN, PATIENCE = "127.0.0.1", 30, 50, 8
+HOST, SECONDS, MOST_OPEN, PATIENCE = "127.0.0.1", 60, 50, 8
 UNIT, EXAMPLES = "lib/systemd/system/tdl@.service", "usr/share/doc/tdl/examples"
-SHIPPED_PORTS = (8081, 8082, 8083, 8084)
+SHIPPED_PORTS, ENDED = (8081, 8082, 8083, 8084), "/ended"
 
 
 def listens(port, address=HOST):
@@ -34,11 +35,12 @@ def setting(root, name):
     return re.search(rf"^{name}=(.*)$", (root / UNIT).read_text("ascii"), re.MULTILINE)[1]
 
 
-def command_of(root, port, listen, links, divisor=1):
-    """Returns the unit's command for a port, and its environment; `listen` takes the address's place, and the count is divided."""
+def command_of(root, port, listen, links, divisor=1, count=None):
+    """Returns the unit's command for a port, and its environment; `listen` takes the address's place, and the unit's count is divided, or
+    `count` is in its place."""
     line = setting(root, "ExecStart").replace(":%i", f":{listen[1]}").replace("%i", str(port)).replace("%%", "%").replace("$$", "$")
     line = line.replace("/usr/bin/", f"{root}/usr/bin/").replace("/etc/tdl/links.json", str(links))
-    line = re.sub(r"\$\(\((.*)\)\)", rf"$(((\1) / {divisor}))", line)
+    line = re.sub(r"\$\(\((.*)\)\)", str(count) if count else rf"$(((\1) / {divisor}))", line)
     return shlex.split(line), dict(re.findall(r'"(\w+)=(.*?)"', setting(root, "Environment"))) | {"TDL_ADDRESS": listen[0]}
 
 
@@ -86,9 +88,9 @@ class Service:
             self.thread.join(0.05)
 
 
-def service(root, port, links, listen=None, divisor=1, **how):
+def service(root, port, links, listen=None, divisor=1, count=None, **how):
     """Starts a process of the unit for a port, which listens there or at the address `listen`."""
-    command, named = command_of(root, port, listen or (HOST, port), links, divisor)
+    command, named = command_of(root, port, listen or (HOST, port), links, divisor, count)
     prevented = {int(status) for status in setting(root, "RestartPreventExitStatus").split()}
     return Service(command, os.environ | named, float(setting(root, "RestartSec").removesuffix("ms")) / 1000, prevented, **how)
 
@@ -102,15 +104,19 @@ def certificate(room):
     return room / "certificate.pem", room / "key.pem", room / "both.pem"
 
 
-def with_addresses(text, addresses, front):
-    """Returns a front's configuration with these addresses in place of the first processes', and without the others."""
+def with_addresses(text, addresses, front, plain=None):
+    """Returns a front's configuration with these addresses in place of the first processes', and without the others. It listens at a port,
+    and without TLS at another."""
     lines = []
     for line in text.splitlines():
         found = re.search(r"127\.0\.0\.1:808(\d)", line)
         if found and int(found[1]) > len(addresses):
             continue
         lines.append(line.replace(found[0], addresses[int(found[1]) - 1]) if found else line)
-    return "\n".join(lines).replace("listen 443", f"listen 127.0.0.1:{front}").replace("bind :443", f"bind 127.0.0.1:{front}") + "\n"
+    text = "\n".join(lines) + "\n"
+    more = (f" listen {HOST}:{plain};", f"    bind {HOST}:{plain}\n") if plain else ("", "")
+    text = text.replace("listen 443 ssl;", f"listen {HOST}:{front} ssl;{more[0]}")
+    return re.sub(r"bind :443 (.*\n)", rf"bind {HOST}:{front} \1{more[1]}", text)
 
 
 def nginx(room, main, more=""):
@@ -124,16 +130,18 @@ def nginx(room, main, more=""):
     return subprocess.Popen(words, stdout=subprocess.DEVNULL, stderr=subprocess.DEVNULL)
 
 
-def start_nginx(root, room, addresses, front, pems):
+def start_nginx(root, room, addresses, front, pems, plain=None):
     """Starts nginx with the shipped configuration."""
-    shipped = with_addresses((root / EXAMPLES / "nginx.conf").read_text("ascii"), addresses, front)
+    shipped = with_addresses((root / EXAMPLES / "nginx.conf").read_text("ascii"), addresses, front, plain)
     return nginx(room, shipped.replace("/etc/ssl/id.example.pem", str(pems[0])).replace("/etc/ssl/id.example.key", str(pems[1])))
 
 
-def start_haproxy(root, room, addresses, front, pems):
+def start_haproxy(root, room, addresses, front, pems, plain=None):
     """Starts HAProxy with the shipped configuration."""
-    shipped = with_addresses((root / EXAMPLES / "haproxy.cfg").read_text("ascii"), addresses, front)
-    (room / "haproxy.cfg").write_text(shipped.replace("/etc/ssl/id.example.pem", str(pems[2])), "ascii")
+    shipped = with_addresses((root / EXAMPLES / "haproxy.cfg").read_text("ascii"), addresses, front, plain)
+    # (its socket of a name is the machine's)
+    shipped = shipped.replace("abns@tdl", f"abns@tdl-{front}").replace("/etc/ssl/id.example.pem", str(pems[2]))
+    (room / "haproxy.cfg").write_text(shipped, "ascii")
     words = ["haproxy", "-db", "-f", room / "haproxy.cfg"]
     return subprocess.Popen(words, stdout=subprocess.DEVNULL, stderr=subprocess.DEVNULL)
 
@@ -149,6 +157,11 @@ def request(path, fields=(), body=b""):
     """Returns the bytes of a request."""
     length = [f"Content-Length: {len(body)}"] if body else []
     return "\r\n".join([f"GET {path} HTTP/1.1", "Host: id.example", "Connection: close", *fields, *length, "", ""]).encode("ascii") + body
+
+
+def direct(port, sent):
+    """Returns the reply of a process to a request that no front has handed on."""
+    return asyncio.run(ask(port, sent, None))
 
 
 def reply_of(got):
@@ -189,9 +202,45 @@ async def paced(front, sent, rate, doing):
     return await asyncio.gather(*asked)
 
 
-async def at_once(front, sent, count):
+async def next_reply(reader):
+    """Returns the status and the fields of the next reply on a connection that is kept, or `None`."""
+    try:
+        async with asyncio.timeout(SECONDS):
+            head = await reader.readuntil(b"\r\n\r\n")
+            length = re.search(rb"\r\ncontent-length: (\d+)", head.lower())
+            return reply_of(head + await reader.readexactly(int(length[1])))
+    except (OSError, asyncio.TimeoutError, asyncio.IncompleteReadError, TypeError):
+        return None
+
+
+async def kept(front, sent, count, told, doing=None):
+    """Asks so many times, and until `doing` has returned, over `MOST_OPEN` connections, a request at a time on each, and returns the
+    replies; `told` gets their number."""
+    tls, replies, begun = context(), [], iter(range(1, 1 << 32))
+    work = asyncio.create_task(asyncio.to_thread(doing or (lambda: None)))
+
+    async def client():
+        writer = None
+        while next(begun) <= count or not work.done():
+            reply = None
+            with suppress(OSError):
+                if not writer:
+                    reader, writer = await asyncio.open_connection(HOST, front, ssl=tls)
+                writer.write(sent)
+                reply = await next_reply(reader)
+            replies.append(reply)
+            told(len(replies))
+            if writer and (not reply or reply[1].get("connection") == "close"):
+                writer.close()
+                writer = None
+
+    await asyncio.gather(work, *(client() for _ in range(MOST_OPEN)))
+    return replies
+
+
+async def at_once(front, sent, count, is_plain=False):
     """Opens so many connections, sends on all of them at once, or after `PATIENCE` on those that are open, and returns the replies."""
-    tls, ready = context(), Barrier(count)
+    tls, ready = None if is_plain else context(), Barrier(count)
     return await asyncio.gather(*(ask(front, sent, tls, ready) for _ in range(count)))
 
 
@@ -214,6 +263,30 @@ class Barrier:
 def lost(replies, status):
     """Returns how many replies did not come whole, or with another status."""
     return sum(reply is None or reply[0] != status for reply in replies)
+
+
+class Ending(socketserver.ThreadingTCPServer):
+    """Stands in for a process that ends while it answers a request for ENDED, after more than half a second; others get 404."""
+
+    daemon_threads, allow_reuse_address = True, True
+
+    def __init__(self):
+        super().__init__((HOST, 0), EndingAnswer)
+        self.asked = 0
+        Thread(target=self.serve_forever, daemon=True).start()
+
+
+class EndingAnswer(socketserver.StreamRequestHandler):
+    """The answer of such a process."""
+
+    def handle(self):
+        """Ends the connection, or answers."""
+        head = b"".join(iter(self.rfile.readline, b"\r\n"))
+        if head.startswith(f"GET {ENDED}".encode("ascii")):
+            self.server.asked += 1
+            sleep(0.7)
+        else:
+            self.wfile.write(b"HTTP/1.1 404 Not Found\r\nContent-Length: 0\r\nConnection: close\r\n\r\n")
 
 
 def slow_reader(front, sent):

@@ -1,11 +1,11 @@
 """launcher [ARGUMENT..]: what bin/tdl does if it cannot just start the proved program.
 
 It starts a program that fits its sources. If none is built, or it is older, the texts in the program's sources answer --help, --version
-and words that are not a command. For everything else `rt try` builds and runs the sources without proofs, with each check at run
-time on, which takes a minute or two. One line on standard error says so; standard output, status and the line of standard error are the
-program's. `rt try` keeps no program from one call to the next, prints the output once the program has ended, and has limits: 1 MiB of
-output, 60 seconds, 64 MiB of input, and no server. What it cannot do ends with a line on standard error and the status 70, and never
-with a part of an answer.
+and words that are not a command; without arguments, on a terminal, the documents' first commands follow with their recorded answers. For
+everything else `rt try` builds and runs the sources without proofs, with each check at run time on, which takes a minute or two. One line on
+standard error says so; standard output, status and the line of standard error are the program's. `rt try` keeps no program from one call to
+the next, prints the output once the program has ended, and has limits: 1 MiB of output, an hour, 64 MiB of input, and no server. What it
+cannot do ends with a line on standard error and the status 70, and never with a part of an answer.
 
 bin/tdl passes standard input on as INPUT, since Python does not start if that is a folder.
 
@@ -22,7 +22,10 @@ import sys
 import tempfile
 from pathlib import Path
 
+import costs
+import recorded
 import repository
+from pace import between
 from repository import CRATES, GIGABYTE, PROGRAM
 
 # the commands that read standard input
@@ -36,11 +39,9 @@ USAGE = CRATES / "tdl_run" / "src" / "runner.rt"
 USAGE_LINE = re.compile(r'b"(usage: tdl [^"]*)\\n"')
 INPUT = 3
 USAGE_STATUS, CANNOT, INPUT_FAILED, OUTPUT_FAILED, INTERRUPTED = 2, 70, 4, 5, 130
-MOST_INPUT = 64 << 20
+MOST_INPUT, MOST_SECONDS = 64 << 20, 3_600
 PIECE = 1 << 20
 BUILD = "bin/build proves and builds the program"
-# the minutes that bin/build takes on one processor, and at least
-WHOLE, LONGEST = 60, 14
 ENDED = re.compile(r"^run=ended status=(\d+) .*$", re.MULTILINE)
 TOO_MUCH = re.compile(r"^checked: no-answer: the program wrote more than ", re.MULTILINE)
 NO_ANSWER = re.compile(r"^checked: no-answer: (.*)$", re.MULTILINE)
@@ -108,14 +109,26 @@ def is_told():
         return False
 
 
+def state():
+    """Returns why the program does not run, in words."""
+    return "the program is older than its sources" if repository.is_program() else "the program is not built yet"
+
+
 def say_unproved():
     """Says that the run is without proofs, and the first time what ends that."""
-    state = "the program is older than its sources" if repository.is_program() else "the program is not built yet"
-    text = f"{state}, so this run is without proofs, and takes a minute or two"
+    text = f"{state()}, so this run is without proofs, and takes {between(*costs.run_unproved())} here"
     if not is_told():
-        minutes = max(LONGEST, WHOLE // len(os.sched_getaffinity(0)))
-        text += f"; {BUILD}, once, in about {minutes} minutes here"
+        text += f"; {BUILD}, once, in {between(*costs.whole_build())} here"
     say(text)
+
+
+def show_recorded():
+    """Writes the first commands of the documents with their recorded answers, and what gives computed ones."""
+    say(f"{state()}; {' and '.join(recorded.DOCUMENTS)} record these answers, and nothing was computed now:")
+    for command, answers in recorded.commands():
+        print(*(f"    {line}" for line in [f"$ {command}", *answers]), sep="\n", file=sys.stderr)
+    say(f"such a command runs without proofs, in {between(*costs.run_unproved())} here; one call answers any number of lines, bin/try several commands")
+    say(f"{BUILD}, once, in {between(*costs.whole_build())} here; answers then come at once")
 
 
 def copy_input(path):
@@ -139,12 +152,12 @@ def copy_input(path):
             tail = rest
 
 
-def hand_in(arguments, folder):
-    """Returns the arguments, with a name in the folder of `rt try` for each name of a file, and the files by these names."""
+def hand_in(arguments, folder, mark=""):
+    """Returns the arguments, with a name in the folder of `rt try` for each name of a file, and the files by these names. `mark` is in each."""
     named, files = list(arguments), {}
     for place, argument in enumerate(arguments):
         if place and arguments[place - 1] in FILE_NAMES:
-            named[place] = f"handed-in-{place}"
+            named[place] = f"handed-in-{mark}{place}"
             if os.path.isfile(argument) and os.access(argument, os.R_OK):
                 files[named[place]] = os.path.abspath(argument)
             elif os.path.exists(argument) and not os.path.isdir(argument):
@@ -154,7 +167,7 @@ def hand_in(arguments, folder):
     return named, files
 
 
-def reject_what_cannot_be_done(arguments):
+def reject_arguments(arguments):
     """Rejects what a run without proofs cannot do."""
     if arguments[:1] == ["serve"]:
         raise Cannot(f"`serve` needs the proved program; {BUILD}")
@@ -163,6 +176,10 @@ def reject_what_cannot_be_done(arguments):
             argument.encode("utf-8")
         except UnicodeEncodeError:
             raise Cannot(f"an argument is not valid UTF-8, which a run without proofs cannot pass on; {BUILD}") from None
+
+
+def reject_machine():
+    """Rejects a machine on which there can be no run without proofs."""
     lack = repository.lack_of_kit()
     if lack:
         if lack[1]:
@@ -201,13 +218,13 @@ def status_of(report, rt_status):
     raise Cannot(f"`rt try` in crates/tdl ended with the status {rt_status}, and its lines above say why")
 
 
-def say_what_failed(report, named, arguments):
-    """Writes the program's line to standard error, with the names of files that the user gave."""
+def lines_of_program(report, named, arguments):
+    """Yields the program's line on standard error, with the names of files that the user gave."""
     for line in re.findall("^tdl: .*$", report, re.MULTILINE):
         for name, argument in zip(named, arguments):
             if name != argument:
                 line = line.replace(json.dumps(name), json.dumps(argument, ensure_ascii=False))
-        print(line, file=sys.stderr, flush=True)
+        yield line
 
 
 def try_unproved(arguments, folder):
@@ -215,7 +232,7 @@ def try_unproved(arguments, folder):
     is_read = arguments[0] not in READ_INPUT or copy_input(f"{folder}/input")
     Path(folder, "input").touch()
     named, files = hand_in(arguments, folder)
-    words = ["rt", "try", "--steps", "1"]
+    words = ["rt", "try", "--steps", "1", "--seconds", str(MOST_SECONDS)]
     for name, path in files.items():
         words += ["--data", f"{name}={path}"]
     with open(f"{folder}/input", "rb") as given, open(f"{folder}/output", "wb") as output, open(f"{folder}/report", "wb") as report:
@@ -228,7 +245,8 @@ def try_unproved(arguments, folder):
             raise
     report = Path(folder, "report").read_text("utf-8", "replace")
     status = status_of(report, running.returncode)
-    say_what_failed(report, named, arguments)
+    for line in lines_of_program(report, named, arguments):
+        print(line, file=sys.stderr, flush=True)
     if not write_output(f"{folder}/output"):
         return OUTPUT_FAILED
     return status if is_read or status > 1 else INPUT_FAILED
@@ -249,10 +267,13 @@ def main(arguments):
     if fault:
         print(usage_line(), flush=True)
         say_as_program(fault)
+        if not arguments and os.isatty(INPUT) and sys.stdout.isatty():
+            show_recorded()
         return USAGE_STATUS
     signal.signal(signal.SIGTERM, lambda *_: sys.exit(128 + signal.SIGTERM))
     try:
-        reject_what_cannot_be_done(arguments)
+        reject_arguments(arguments)
+        reject_machine()
         say_unproved()
         with tempfile.TemporaryDirectory(prefix="tdl-") as folder:
             return try_unproved(arguments, folder)
@@ -266,4 +287,5 @@ def main(arguments):
         return INTERRUPTED
 
 
-sys.exit(main(sys.argv[1:]))
+if __name__ == "__main__":
+    sys.exit(main(sys.argv[1:]))

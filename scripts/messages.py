@@ -5,6 +5,8 @@ from pathlib import Path
 
 DOCUMENT = Path(__file__).resolve().parent.parent / "docs" / "MESSAGES.md"
 TEXT = re.compile(r"(?:([0-9,]+) times )?`([^`]*)`")
+# where the packages have the documents
+SITE = "/usr/share/doc/tdl/html"
 HEAD = """.Dd $Mdocdate: November 29 2026 $
 .Dt TDL-MESSAGES 7
 .Os
@@ -22,15 +24,15 @@ def cells_of(line):
 
 def is_row(cells):
     """Whether these are the cells of a message: its text, an example, its meaning, and what to do."""
-    return len(cells) == 4 and bool(re.match(r"`(?:no|refused) ", cells[0]))
+    return len(cells) == 4 and bool(re.match(r"`(?:no|refused|row) ", cells[0]))
 
 
 def rows():
-    """The messages of the document, each with its example: the arguments and the text, or nothing."""
+    """The messages of the document, each with its example: the arguments and the text, or nothing. Those of tables show a cell instead."""
     for line in DOCUMENT.read_text("utf-8").splitlines():
         cells = cells_of(line)
         if is_row(cells):
-            texts = TEXT.findall(cells[1])
+            texts = [] if cells[0].startswith("`row ") else TEXT.findall(cells[1])
             content = "".join(text * int(times.replace(",", "") or 1) for times, text in texts[1:])
             yield cells[0].strip("`"), (texts[0][1].split(" "), content) if texts else None
 
@@ -38,6 +40,7 @@ def rows():
 def plain(text):
     """A text of the document as lines of a manual page, each sentence on lines of its own."""
     text = re.sub(r"\[([^]]*)\]\([^)]*\)", r"\1", text).replace("`", "").replace("\\", "\\e")
+    text = re.sub(r"(?:docs/)?\b([A-Z]+)\.md", rf"{SITE}/docs/\1.html", text)
     lines = [line for sentence in re.split(r"(?<=[.;:]) (?=[A-Z])", text) for line in textwrap.wrap(sentence, 76, break_on_hyphens=False)]
     return "\n".join(f"\\&{line}" if line.startswith((".", "'")) else line for line in lines)
 

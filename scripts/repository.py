@@ -31,6 +31,13 @@ def crates(top=TOP):
     return {name: [other for other in used if other in uses] for name, used in uses.items()}
 
 
+def kit_crates(top=TOP):
+    """The crates of the kit that crates.txt names as dependencies of the program's crates, in order."""
+    lines = (line.partition("#")[0].partition(":") for line in (top / "crates.txt").read_text("utf-8").splitlines())
+    uses = {name.split()[0]: used.split() for name, colon, used in lines if colon}
+    return sorted({other for crate in program_crates(top) for other in uses[crate] if other not in uses})
+
+
 def below(name, uses):
     """A crate and all that it stands on, the lowest first."""
     found = {}

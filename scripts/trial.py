@@ -9,6 +9,8 @@ from repository import PROGRAM
 from tools import is_gate, lack
 
 HOST = "127.0.0.1"
+# the seconds after which a check takes what it waits for as hung: far more than it needs on a slow machine
+PATIENCE = 900
 
 
 class Trial:

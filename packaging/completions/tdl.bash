@@ -32,7 +32,7 @@ _tdl() {
             serve:*) words="--links --link-text --count --tables --voc --templates --describe --listen" ;;
             merge:*) words="--links --second --third --tables --voc" ;;
             esac
-            # a name stands once
+            # each option at most once
             for place in "${COMP_WORDS[@]:2:COMP_CWORD-2}"; do
                 words=" $words "
                 words=${words/ $place / }

@@ -6,7 +6,7 @@ function __tdl_behind
 end
 
 function __tdl_place
-    # whether so many words stand before the one that is completed
+    # whether that many words precede the one that is completed
     test (count (commandline -opc)) -eq $argv[1]
 end
 

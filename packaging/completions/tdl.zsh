@@ -28,7 +28,7 @@ case $CURRENT:$words[2] in
         serve:*) names=(--links --link-text --count --tables --voc --templates --describe --listen) ;;
         merge:*) names=(--links --second --third --tables --voc) ;;
         esac
-        # a name stands once
+        # each option at most once
         compadd -- ${names:|words}
         ;;
     esac

@@ -5,7 +5,7 @@ use Rattle.std.proofs.lemmas.Bool.Decides.{nat_tests}
 use Rattle.std.proofs.lemmas.List.{take-append-drop, take_all}
 use Rattle.std.proofs.lemmas.List.Folds.{list_all-append}
 use Rattle.std.proofs.lemmas.List.Sums.{sum_by-cons}
-use Rattle.gs_chars.proofs.TruthsAndLists.{and_first, and_second, and_true, equal_bytes, true_or_false}
+use Rattle.gs_chars.proofs.TruthsAndLists.{and_first, and_second, equal_bytes, true_or_false}
 use Rattle.gs_chars.specs.Characters.{are_digits, is_digit}
 use Rattle.gs_chars.specs.CheckDigits.{check_digit_of, weighted_sum}
 use Rattle.gs_ai.specs.declared.part.Part.{Part}
@@ -13,7 +13,8 @@ use Rattle.gs_ai.specs.Parts.{greatest_length, is_of_part, least_length}
 use Rattle.gs_ai.specs.Values.{greatest_of, is_checked, keeps_check, keeps_date, least_of, parts_error, pieces, wrong_character}
 use Rattle.gs_ai.specs.ValuesSupport.{each_fits, fits}
 use Rattle.gs_ai.proofs.PartLemmas.{neither, not_mapped, wrong-cons, wrong_in}
-use Rattle.gs_ai.proofs.Searches.{cons_none, position-cons}
+use Rattle.gs_chars.proofs.Searches.{cons_none, position-cons}
+use Rattle.std.proofs.lemmas.Bool.{and_from}
 
 -- ---- a checked part
 
@@ -32,19 +33,22 @@ and_none true = refl
 and_none false = refl
 
 -- the end of the digits is the check digit of those before it
-pub checked : (k check : ℕ) (r : Bool) (digits last : List ℕ) → (if are_digits (take (k - 1) digits) then Some (check_digit_of (take (k - 1) digits)) else None) ≡ Some check
+pub checked : (k check : ℕ) (r : Bool) (digits last : List ℕ)
+    → (if are_digits (take (k - 1) digits) then Some (check_digit_of (take (k - 1) digits)) else None) ≡ Some check
     → last ≡ drop (k - 1) digits → r ≡ bytes_eq last (check ∷ []) → r ≡ is_checked k digits
 checked k check r digits last found back e =
     let f = found_check (are_digits (take (k - 1) digits)) (check_digit_of (take (k - 1) digits)) check found in
     let tail : r ≡ bytes_eq (drop (k - 1) digits) (check_digit_of (take (k - 1) digits) ∷ []) = rw (back, f.1) at e in
     by (bytes_eq (drop (k - 1) digits) (check_digit_of (take (k - 1) digits) ∷ [])) refl f.0 tail
   where
-    by : (b : Bool) → bytes_eq (drop (k - 1) digits) (check_digit_of (take (k - 1) digits) ∷ []) ≡ b → are_digits (take (k - 1) digits) ≡ true → r ≡ bytes_eq (drop (k - 1) digits) (check_digit_of (take (k - 1) digits) ∷ []) → r ≡ is_checked k digits
+    by : (b : Bool) → bytes_eq (drop (k - 1) digits) (check_digit_of (take (k - 1) digits) ∷ []) ≡ b
+        → are_digits (take (k - 1) digits) ≡ true → r ≡ bytes_eq (drop (k - 1) digits) (check_digit_of (take (k - 1) digits) ∷ [])
+        → r ≡ is_checked k digits
     by true same front t =
         let end : drop (k - 1) digits ≡ check_digit_of (take (k - 1) digits) ∷ [] = equal_bytes _ _ same in
-        let one : are_digits (check_digit_of (take (k - 1) digits) ∷ []) ≡ true = and_true _ true (check_is_digit (weighted_sum (take (k - 1) digits))) refl in
+        let one : are_digits (check_digit_of (take (k - 1) digits) ∷ []) ≡ true = and_from _ true (check_is_digit (weighted_sum (take (k - 1) digits))) refl in
         let last_digit : are_digits (drop (k - 1) digits) ≡ true = rw end one in
-        let all : are_digits digits ≡ true = digits_cut (k - 1) digits ∙ and_true _ _ front last_digit in
+        let all : are_digits digits ≡ true = digits_cut (k - 1) digits ∙ and_from _ _ front last_digit in
         rw all t
     by false other front t = t ∙ other ∙ sym (rw other (and_none (are_digits digits)))
 
@@ -61,7 +65,7 @@ all_of_part : (p : Part) (piece : List ℕ) → wrong_in p piece ≡ None → li
 all_of_part p [] e = refl
 all_of_part p (c ∷ cs) e =
     let h = cons_none (λ d. not (is_of_part p d)) c cs e in
-    and_true (is_of_part p c) _ (by (is_of_part p c) h.0) (all_of_part p cs h.1)
+    and_from (is_of_part p c) _ (by (is_of_part p c) h.0) (all_of_part p cs h.1)
   where
     by : (b : Bool) → not b ≡ false → b ≡ true
     by true g = refl
@@ -84,22 +88,24 @@ kept (p ∷ ps) value h =
     let here = none_wrong p piece (and_first (list_all (is_of_part p) piece) (keeps_check (p, piece) && keeps_date (p, piece)) own) in
     record {
       characters = rw (wrong-cons p ps value, here, others.characters);
-      checks = and_true (keeps_check (p, piece)) _ (and_first _ (keeps_date (p, piece)) marks) others.checks;
-      dates = and_true (keeps_date (p, piece)) _ (and_second (keeps_check (p, piece)) _ marks) others.dates;
+      checks = and_from (keeps_check (p, piece)) _ (and_first _ (keeps_date (p, piece)) marks) others.checks;
+      dates = and_from (keeps_date (p, piece)) _ (and_second (keeps_check (p, piece)) _ marks) others.dates;
     }
 
-fitting : (parts : List Part) (value : List ℕ) → wrong_character parts value ≡ None → list_all keeps_check (pieces parts value) ≡ true → list_all keeps_date (pieces parts value) ≡ true → each_fits parts value ≡ true
+fitting : (parts : List Part) (value : List ℕ) → wrong_character parts value ≡ None → list_all keeps_check (pieces parts value) ≡ true
+    → list_all keeps_date (pieces parts value) ≡ true → each_fits parts value ≡ true
 fitting [] value e f g = refl
 fitting (p ∷ ps) value e f g =
     let piece = take (greatest_length p) value in
     let rest = drop (greatest_length p) value in
     let both = neither _ _ (sym (wrong-cons p ps value) ∙ e) in
-    let own = and_true (keeps_check (p, piece)) (keeps_date (p, piece)) (and_first _ _ f) (and_first _ _ g) in
-    and_true (fits p piece) (each_fits ps rest) (and_true _ _ (all_of_part p piece both.0) own)
+    let own = and_from (keeps_check (p, piece)) (keeps_date (p, piece)) (and_first _ _ f) (and_first _ _ g) in
+    and_from (fits p piece) (each_fits ps rest) (and_from _ _ (all_of_part p piece both.0) own)
     (fitting ps rest (not_mapped _ _ both.1) (and_second (keeps_check (p, piece)) _ f) (and_second (keeps_date (p, piece)) _ g))
 
 -- a value that does not fit, but has the right characters and check digits, has a wrong date
-pub date_wrong : (parts : List Part) (value : List ℕ) → each_fits parts value ≡ false → wrong_character parts value ≡ None → list_all keeps_check (pieces parts value) ≡ true → list_all keeps_date (pieces parts value) ≡ false
+pub date_wrong : (parts : List Part) (value : List ℕ) → each_fits parts value ≡ false → wrong_character parts value ≡ None
+    → list_all keeps_check (pieces parts value) ≡ true → list_all keeps_date (pieces parts value) ≡ false
 date_wrong parts value h e f = elim (true_or_false (list_all keeps_date (pieces parts value))) [
   | inl t ↦ absurd (let g = fitting parts value e f t in let bad : true ≡ false = sym g ∙ h in cc)
   | inr t ↦ t
@@ -108,7 +114,8 @@ date_wrong parts value h e f = elim (true_or_false (list_all keeps_date (pieces 
 -- ---- one part
 
 -- a value of a length that the only part allows, which fits it, has no error
-pub only_fits : (parts : List Part) (p : Part) (others : List Part) (value : List ℕ) → parts ≡ p ∷ others → length others ≡ 0 → least_length p ≤ length value → length value ≤ greatest_length p → fits p value ≡ true → parts_error parts value ≡ None
+pub only_fits : (parts : List Part) (p : Part) (others : List Part) (value : List ℕ) → parts ≡ p ∷ others → length others ≡ 0
+    → least_length p ≤ length value → length value ≤ greatest_length p → fits p value ≡ true → parts_error parts value ≡ None
 only_fits parts p (q ∷ others) value e none low high fit = absurd (omega arith)
 only_fits parts p [] value e none low high fit =
     let whole : take (greatest_length p) value ≡ value = take_all (greatest_length p) value high in

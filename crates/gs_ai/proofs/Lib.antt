@@ -4,7 +4,6 @@ pub mod PartTexts
 pub mod PlaceLemmas
 pub mod RowLemmas
 pub mod RuleLemmas
-pub mod Searches
 pub mod StartLemmas
 pub mod TableLemmas
 pub mod ValueLemmas

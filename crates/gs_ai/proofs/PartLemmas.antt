@@ -4,7 +4,7 @@ use Rattle.std.specs.Option.{option_or}
 use Rattle.gs_ai.specs.declared.part.Part.{Part}
 use Rattle.gs_ai.specs.Parts.{greatest_length, is_of_part}
 use Rattle.gs_ai.specs.Values.{wrong_character, fitting}
-use Rattle.gs_ai.proofs.Searches.{position-append, position-map}
+use Rattle.gs_chars.proofs.Searches.{position-append, position-map}
 
 abbrev pub wrong_in : Part → List ℕ → Option ℕ
 wrong_in p piece = position (λ c. not (is_of_part p c)) piece
@@ -16,19 +16,25 @@ length_fit p piece = by piece
     by [] = refl
     by (c ∷ cs) = rw (by cs)
 
-pub wrong-cons : (p : Part) (ps : List Part) (value : List ℕ) → wrong_character (p ∷ ps) value ≡ option_or (wrong_in p (take (greatest_length p) value)) (option_map (λ i. length (take (greatest_length p) value) + i) (wrong_character ps (drop (greatest_length p) value)))
+pub wrong-cons : (p : Part) (ps : List Part) (value : List ℕ)
+    → wrong_character (p ∷ ps) value ≡ option_or (wrong_in p (take (greatest_length p) value)) (option_map (λ i. length (take (greatest_length p) value) + i) (wrong_character ps (drop (greatest_length p) value)))
 wrong-cons p ps value =
     let piece = take (greatest_length p) value in
     let parts = position-append not (map (is_of_part p) piece) (fitting ps (drop (greatest_length p) value)) in
     rw (parts, position-map not (is_of_part p) piece, length_fit p piece)
 
-pub wrong_here : (p : Part) (ps : List Part) (value piece : List ℕ) (i : ℕ) → piece ≡ take (greatest_length p) value → wrong_in p piece ≡ Some i → wrong_character (p ∷ ps) value ≡ Some i
+pub wrong_here : (p : Part) (ps : List Part) (value piece : List ℕ) (i : ℕ) → piece ≡ take (greatest_length p) value
+    → wrong_in p piece ≡ Some i → wrong_character (p ∷ ps) value ≡ Some i
 wrong_here p ps value piece i e h = let h' = rw e at h in rw (wrong-cons p ps value, h')
 
-pub wrong_later : (p : Part) (ps : List Part) (value piece rest : List ℕ) (i : ℕ) → piece ≡ take (greatest_length p) value → rest ≡ drop (greatest_length p) value → wrong_in p piece ≡ None → wrong_character ps rest ≡ Some i → wrong_character (p ∷ ps) value ≡ Some (length piece + i)
+pub wrong_later : (p : Part) (ps : List Part) (value piece rest : List ℕ) (i : ℕ) → piece ≡ take (greatest_length p) value
+    → rest ≡ drop (greatest_length p) value → wrong_in p piece ≡ None → wrong_character ps rest ≡ Some i
+    → wrong_character (p ∷ ps) value ≡ Some (length piece + i)
 wrong_later p ps value piece rest i e f h k = let h' = rw e at h in let k' = rw f at k in rw (wrong-cons p ps value, h', k', e)
 
-pub wrong_nowhere : (p : Part) (ps : List Part) (value piece rest : List ℕ) → piece ≡ take (greatest_length p) value → rest ≡ drop (greatest_length p) value → wrong_in p piece ≡ None → wrong_character ps rest ≡ None → wrong_character (p ∷ ps) value ≡ None
+pub wrong_nowhere : (p : Part) (ps : List Part) (value piece rest : List ℕ) → piece ≡ take (greatest_length p) value
+    → rest ≡ drop (greatest_length p) value → wrong_in p piece ≡ None → wrong_character ps rest ≡ None
+    → wrong_character (p ∷ ps) value ≡ None
 wrong_nowhere p ps value piece rest e f h k = let h' = rw e at h in let k' = rw f at k in rw (wrong-cons p ps value, h', k')
 
 pub neither : (a b : Option ℕ) → option_or a b ≡ None → (a ≡ None) × (b ≡ None)

@@ -4,7 +4,7 @@ use Rattle.std.proofs.lemmas.Bool.Decides.{nat_tests}
 use Rattle.std.proofs.lemmas.List.{take-append-drop}
 use Rattle.std.proofs.Math.Seq.{take-append_seam}
 use Rattle.gs_ai.specs.Parts.{number_text}
-use Rattle.gs_ai.proofs.Searches.{same_bytes, equal_bytes}
+use Rattle.gs_chars.proofs.TruthsAndLists.{same_bytes, equal_bytes}
 
 drop_seam : (xs ys : List ℕ) → drop (length xs) (xs ++ ys) ≡ ys
 drop_seam [] ys = refl
@@ -20,7 +20,8 @@ no_front before number after text h e =
 pub rest_of : (before number after text rest : List ℕ) → rest ≡ drop (length before) text → before ++ number ++ after ≡ text → rest ≡ number ++ after
 rest_of before number after text rest r e = rw (r, ← e, append_assoc) (drop_seam before (number ++ after))
 
-pub no_back : (before number after text rest : List ℕ) → rest ≡ drop (length before) text → bytes_eq (drop (length rest - length after) rest) after ≡ false → before ++ number ++ after ≡ text → ⊥
+pub no_back : (before number after text rest : List ℕ) → rest ≡ drop (length before) text
+    → bytes_eq (drop (length rest - length after) rest) after ≡ false → before ++ number ++ after ≡ text → ⊥
 no_back before number after text rest r h e =
     let whole = rest_of before number after text rest r e in
     let long : length rest - length after ≡ length number = rw whole (omega (arith, length-append number after)) in
@@ -28,14 +29,17 @@ no_back before number after text rest r h e =
     let test : bytes_eq (drop (length rest - length after) rest) after ≡ true = rw back (same_bytes after) in
     true≢false (sym test ∙ h)
 
-pub number_of : (before number after text rest middle : List ℕ) → rest ≡ drop (length before) text → middle ≡ take (length rest - length after) rest → before ++ number ++ after ≡ text → number ≡ middle
+pub number_of : (before number after text rest middle : List ℕ) → rest ≡ drop (length before) text
+    → middle ≡ take (length rest - length after) rest → before ++ number ++ after ≡ text → number ≡ middle
 number_of before number after text rest middle r m e =
     let whole = rest_of before number after text rest r e in
     let long : length rest - length after ≡ length number = rw whole (omega (arith, length-append number after)) in
     sym (rw (m, long, whole) (take-append_seam number after))
 
 -- the pieces joined again
-pub joined : (before after text rest middle : List ℕ) → bytes_eq (take (length before) text) before ≡ true → rest ≡ drop (length before) text → bytes_eq (drop (length rest - length after) rest) after ≡ true → middle ≡ take (length rest - length after) rest → before ++ middle ++ after ≡ text
+pub joined : (before after text rest middle : List ℕ) → bytes_eq (take (length before) text) before ≡ true
+    → rest ≡ drop (length before) text → bytes_eq (drop (length rest - length after) rest) after ≡ true
+    → middle ≡ take (length rest - length after) rest → before ++ middle ++ after ≡ text
 joined before after text rest middle f r b m =
     let front : take (length before) text ≡ before = equal_bytes _ _ f in
     let back : drop (length rest - length after) rest ≡ after = equal_bytes _ _ b in

@@ -6,14 +6,16 @@ use Rattle.std.proofs.lemmas.Bool.Decides.{nat_tests}
 use Rattle.std.proofs.lemmas.List.{take_all}
 use borrow.Author.Count.{below_more}
 use Rattle.gs_chars.specs.Characters.{is_digit, are_digits}
-use Rattle.gs_chars.proofs.TruthsAndLists.{true_or_false}
+use Rattle.gs_chars.proofs.TruthsAndLists.{true_or_false, equal_bytes, read_at, same_bytes}
 use Rattle.gs_ai.specs.declared.row.AiRow.{AiRow}
 use Rattle.gs_ai.specs.Tables.{begins, is_code, row_at, KeepsRules}
 use Rattle.gs_ai.specs.TablesSupport.{places_at, starts_at, two_digits, AreStarts}
 use Rattle.gs_ai.specs.Values.{has_code}
 use Rattle.gs_ai.proofs.RowLemmas.{and_left, and_right, code_digits, code_long, row_code}
-use Rattle.gs_ai.proofs.Searches.{equal_bytes, false_from, passes_none, position_is, position_none, position_some, read_at, same_bytes, within}
 use Rattle.gs_ai.proofs.TableLemmas.{begins_itself, begun, one_begins}
+use Rattle.gs_chars.proofs.Searches.{passes_none, position_is, position_none, position_some}
+use Rattle.std.proofs.lemmas.Bool.{false_from_ne_true}
+use Rattle.std.proofs.lemmas.Option.{slice_get_within}
 
 -- ---- one list of places more
 
@@ -26,7 +28,9 @@ get_last : {X : Type 0} (xs : List X) (x : X) → slice_get (xs ++ x ∷ []) (le
 get_last [] x = refl
 get_last (y ∷ xs) x = get_last xs x
 
-pub more_starts : (rows : List AiRow) (starts : List (List ℕ)) (i : ℕ) → length starts ≡ i → ((k : ℕ) → k < i → slice_get starts k ≡ Some (places_at k rows)) → (k : ℕ) → k < i + 1 → slice_get (starts ++ places_at i rows ∷ []) k ≡ Some (places_at k rows)
+pub more_starts : (rows : List AiRow) (starts : List (List ℕ)) (i : ℕ) → length starts ≡ i
+    → ((k : ℕ) → k < i → slice_get starts k ≡ Some (places_at k rows)) → (k : ℕ) → k < i + 1
+    → slice_get (starts ++ places_at i rows ∷ []) k ≡ Some (places_at k rows)
 more_starts rows starts i len done =
     below_more (λ k. slice_get (starts ++ places_at i rows ∷ []) k ≡ Some (places_at k rows)) i
     (λ k low. get_front starts (places_at i rows ∷ []) k (omega arith) ∙ done k low)
@@ -61,7 +65,8 @@ place_within t n (x ∷ xs) k i at = elim (true_or_false (t x)) [
   | inr h ↦ let f = rw h at at in let low = place_within t (n + 1) xs k i f in omega arith
 ]
 
-place_there : {X : Type 0} (t : X → Bool) (n : ℕ) (xs : List X) (j : ℕ) (x : X) → slice_get xs j ≡ Some x → t x ≡ true → (k : ℕ) × (slice_get (places_of t n xs) k ≡ Some (n + j))
+place_there : {X : Type 0} (t : X → Bool) (n : ℕ) (xs : List X) (j : ℕ) (x : X) → slice_get xs j ≡ Some x → t x ≡ true
+    → (k : ℕ) × (slice_get (places_of t n xs) k ≡ Some (n + j))
 place_there t n [] j x at h = absurd (let g : None ≡ Some x = at in cc)
 place_there t n (y ∷ xs) zero x at h = let same : y ≡ x = cc in let here : t y ≡ true = rw same h in let e : n ≡ n + 0 = omega arith in rw here (zero, ap Some e)
 place_there t n (y ∷ xs) (suc j) x at h =
@@ -104,9 +109,10 @@ starts_true start row e = rw e (grind (arith, nat_tests))
 -- ---- places as the code reads them
 
 pub start_within : (rows : List AiRow) (starts : List (List ℕ)) → AreStarts rows starts → (start : ℕ) → start < 100 → start < length starts
-start_within rows starts are start low = within starts start (places_at start rows) (are.lists start low)
+start_within rows starts are start low = slice_get_within starts start (places_at start rows) (are.lists start low)
 
-pub start_read : (rows : List AiRow) (starts : List (List ℕ)) → AreStarts rows starts → (start : ℕ) (places : List ℕ) → start < 100 → places ≡ get_or starts start places → places ≡ places_at start rows
+pub start_read : (rows : List AiRow) (starts : List (List ℕ)) → AreStarts rows starts → (start : ℕ) (places : List ℕ) → start < 100
+    → places ≡ get_or starts start places → places ≡ places_at start rows
 start_read rows starts are start places low read =
     let e : Some places ≡ Some (places_at start rows) = sym (read_at starts start places (start_within rows starts are start low) read) ∙ are.lists start low in
     cc
@@ -117,9 +123,13 @@ place_read (i ∷ places) zero h = refl
 place_read (i ∷ places) (suc k) h = place_read places k (omega arith)
 
 -- one place more whose row's code does not begin the text
-pub one_place_more : (rows : List AiRow) (places : List ℕ) (text : List ℕ) (n : ℕ) (row : AiRow) → n < length places → slice_get rows (get_or places n 0) ≡ Some row → begins row.code text ≡ false → ((k i : ℕ) (r : AiRow) → k < n → slice_get places k ≡ Some i → slice_get rows i ≡ Some r → begins r.code text ≡ false) → (k i : ℕ) (r : AiRow) → k < n + 1 → slice_get places k ≡ Some i → slice_get rows i ≡ Some r → begins r.code text ≡ false
+pub one_place_more : (rows : List AiRow) (places : List ℕ) (text : List ℕ) (n : ℕ) (row : AiRow) → n < length places
+    → slice_get rows (get_or places n 0) ≡ Some row → begins row.code text ≡ false
+    → ((k i : ℕ) (r : AiRow) → k < n → slice_get places k ≡ Some i → slice_get rows i ≡ Some r → begins r.code text ≡ false)
+    → (k i : ℕ) (r : AiRow) → k < n + 1 → slice_get places k ≡ Some i → slice_get rows i ≡ Some r → begins r.code text ≡ false
 one_place_more rows places text n row low at differs before k i r h e there =
-    below_more (λ m. (j : ℕ) (s : AiRow) → slice_get places m ≡ Some j → slice_get rows j ≡ Some s → begins s.code text ≡ false) n (λ m less j s f g. before m j s less f g) (λ j s f g.
+    below_more (λ m. (j : ℕ) (s : AiRow) → slice_get places m ≡ Some j → slice_get rows j ≡ Some s → begins s.code text ≡ false) n
+    (λ m less j s f g. before m j s less f g) (λ j s f g.
     let place : Some j ≡ Some (get_or places n 0) = sym f ∙ place_read places n low in
     let same : j ≡ get_or places n 0 = cc in
     let e : Some s ≡ Some row = sym g ∙ ap (slice_get rows) same ∙ at in
@@ -133,7 +143,7 @@ module _ (rows : List AiRow) (rules : KeepsRules rows) (text : List ℕ) where
   digits_of j row at front = same_digits row.code text (row_code row (rules.rows_in_order j row at).0) front
 
   pub no_digits : None ≡ two_digits text → None ≡ row_at rows text
-  no_digits none = sym (position_none (λ r. begins r.code text) rows (λ j row at. false_from (begins row.code text) (λ front.
+  no_digits none = sym (position_none (λ r. begins r.code text) rows (λ j row at. false_from_ne_true (begins row.code text) (λ front.
       let same = digits_of j row at front in
       let g : None ≡ Some same.number = none ∙ same.of_text in cc)))
 
@@ -145,12 +155,12 @@ module _ (rows : List AiRow) (rules : KeepsRules rows) (text : List ℕ) where
     row_at_place k row low read = read_at rows (get_or places k 0) row (place_low k (get_or places k 0) (place_read places k low)) read
 
     pub found_at : (i : ℕ) (row : AiRow) → slice_get rows i ≡ Some row → begins row.code text ≡ true → Some i ≡ row_at rows text
-    found_at i row at front = sym (position_is (λ r. begins r.code text) rows i row at front (λ j other low there. false_from (begins other.code text) (λ other_front.
+    found_at i row at front = sym (position_is (λ r. begins r.code text) rows i row at front (λ j other low there. false_from_ne_true (begins other.code text) (λ other_front.
         let e = one_begins rows rules text j i other row there at other_front front in
         absurd (omega arith))))
 
     pub none_at : ((k i : ℕ) (row : AiRow) → slice_get places k ≡ Some i → slice_get rows i ≡ Some row → begins row.code text ≡ false) → None ≡ row_at rows text
-    none_at none = sym (position_none (λ r. begins r.code text) rows (λ j row at. false_from (begins row.code text) (λ front.
+    none_at none = sym (position_none (λ r. begins r.code text) rows (λ j row at. false_from_ne_true (begins row.code text) (λ front.
         let same = digits_of j row at front in
         let number : same.number ≡ start = let g : Some same.number ≡ Some start = sym same.of_text ∙ sym digits in cc in
         let of_start : two_digits row.code ≡ Some start = same.of_code ∙ ap Some number in
@@ -166,7 +176,7 @@ module _ (rows : List AiRow) (rules : KeepsRules rows) (code : List ℕ) where
   itself row same = begins_itself row.code code (sym (equal_bytes code row.code same))
 
   pub code_nowhere : None ≡ row_at rows code → None ≡ position (has_code code) rows
-  code_nowhere none = sym (position_none (has_code code) rows (λ j row at. false_from (has_code code row) (λ same.
+  code_nowhere none = sym (position_none (has_code code) rows (λ j row at. false_from_ne_true (has_code code row) (λ same.
       true≢false (sym (itself row same) ∙ passes_none (λ r. begins r.code code) rows j row (sym none) at))))
 
   module _ (i : ℕ) (row : AiRow) (at : slice_get rows i ≡ Some row) (found : Some i ≡ row_at rows code) where
@@ -185,7 +195,7 @@ module _ (rows : List AiRow) (rules : KeepsRules rows) (code : List ℕ) where
         rw same (sym (same_bytes code))
 
     pub length_differs : (length row.code ≡ length code → ⊥) → false ≡ bytes_eq row.code code
-    length_differs differs = sym (false_from (bytes_eq row.code code) (λ own. differs (ap length (equal_bytes row.code code own))))
+    length_differs differs = sym (false_from_ne_true (bytes_eq row.code code) (λ own. differs (ap length (equal_bytes row.code code own))))
 
     -- no other row has the code
     alone : (j : ℕ) (other : AiRow) → slice_get rows j ≡ Some other → has_code code other ≡ true → j ≡ i
@@ -195,10 +205,10 @@ module _ (rows : List AiRow) (rules : KeepsRules rows) (code : List ℕ) where
     code_here same =
         let e = equal_bytes row.code code (sym same) in
         let has : has_code code row ≡ true = rw e (same_bytes code) in
-        sym (position_is (has_code code) rows i row at has (λ j other low there. false_from (has_code code other) (λ own. let bad = alone j other there own in absurd (omega arith))))
+        sym (position_is (has_code code) rows i row at has (λ j other low there. false_from_ne_true (has_code code other) (λ own. let bad = alone j other there own in absurd (omega arith))))
 
     pub code_absent : false ≡ bytes_eq row.code code → None ≡ position (has_code code) rows
-    code_absent differs = sym (position_none (has_code code) rows (λ j other there. false_from (has_code code other) (λ own.
+    code_absent differs = sym (position_none (has_code code) rows (λ j other there. false_from_ne_true (has_code code other) (λ own.
         let e : Some other ≡ Some row = sym there ∙ ap (slice_get rows) (alone j other there own) ∙ at in
         let same : other ≡ row = cc in
         let code_same : row.code ≡ code = ap (λ (r : AiRow). r.code) (sym same) ∙ sym (equal_bytes code other.code own) in

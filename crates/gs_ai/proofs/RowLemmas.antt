@@ -84,7 +84,8 @@ too_many parts many = let most : nat_le (length parts) 3 ≡ false = grind (arit
     by false b c d e = refl
 
 -- the others, and then the last, are parts of a row
-pub judged : (parts others : List Part) (last : Part) (l r : Bool) → parts ≡ others ++ last ∷ [] → length parts ≤ 3 → l ≡ is_part last → r ≡ list_all is_closed others → (l && r) ≡ are_parts parts
+pub judged : (parts others : List Part) (last : Part) (l r : Bool) → parts ≡ others ++ last ∷ [] → length parts ≤ 3 → l ≡ is_part last
+    → r ≡ list_all is_closed others → (l && r) ≡ are_parts parts
 judged parts others last l r whole few one all =
     let size : length parts ≡ length others + 1 = ap length whole ∙ length-append others (last ∷ []) in
     let least : nat_le 1 (length parts) ≡ true = grind (arith, nat_tests) in

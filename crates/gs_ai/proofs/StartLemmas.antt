@@ -6,7 +6,7 @@ use Rattle.std.specs.Option.{option_and_then}
 use Rattle.std.proofs.lemmas.Bool.Decides.{nat_tests}
 use Rattle.gs_ai.specs.declared.starts.TheConstants.{STARTS, LENGTHS}
 use Rattle.gs_ai.specs.PredefinedLengths.{predefined_lengths, start_of, predefined_length}
-use Rattle.gs_ai.proofs.Searches.{cons_some, cons_none}
+use Rattle.gs_chars.proofs.Searches.{cons_some, cons_none}
 
 abbrev rises_from : ℕ → List ℕ → Bool
 rises_from x [] = true
@@ -26,7 +26,8 @@ rising x (y ∷ ys) h (suc k) l =
 pub starts_rise : IsStrictlyIncreasing STARTS
 starts_rise = rising 0 (drop 1 STARTS) refl
 
-found : (s : ℕ) (ks ls : List ℕ) (i : ℕ) → length ks ≡ length ls → position (λ k. k == s) ks ≡ Some i → option_map (λ row. row.1) (find (λ row. row.0 == s) (zip ks ls)) ≡ Some (get_or ls i 0)
+found : (s : ℕ) (ks ls : List ℕ) (i : ℕ) → length ks ≡ length ls → position (λ k. k == s) ks ≡ Some i
+    → option_map (λ row. row.1) (find (λ row. row.0 == s) (zip ks ls)) ≡ Some (get_or ls i 0)
 found s [] ls i l e = absurd (let f : None ≡ Some i = e in cc)
 found s (k ∷ ks) [] i l e = absurd (omega arith)
 found s (k ∷ ks) (n ∷ ls) i l e = elim (cons_some (λ q. q == s) k ks i e) [
@@ -44,8 +45,10 @@ start_from [] h = absurd (omega arith)
 start_from (a ∷ []) h = absurd (omega arith)
 start_from (a ∷ b ∷ rest) h = refl
 
-at_start : (r : Option ℕ) (s : ℕ) → r ≡ Some s → option_and_then (λ start. option_map (λ row. row.1) (find (λ row. row.0 == start) predefined_lengths)) r ≡ option_map (λ row. row.1) (find (λ row. row.0 == s) predefined_lengths)
+at_start : (r : Option ℕ) (s : ℕ) → r ≡ Some s
+    → option_and_then (λ start. option_map (λ row. row.1) (find (λ row. row.0 == start) predefined_lengths)) r ≡ option_map (λ row. row.1) (find (λ row. row.0 == s) predefined_lengths)
 at_start r s e = rw e
 
-pub length_found : (code : List ℕ) (s i : ℕ) → 2 ≤ length code → s ≡ 10 * (get_or code 0 0 - 48) + (get_or code 1 0 - 48) → position (λ k. k == s) STARTS ≡ Some i → predefined_length code ≡ Some (get_or LENGTHS i 0)
+pub length_found : (code : List ℕ) (s i : ℕ) → 2 ≤ length code → s ≡ 10 * (get_or code 0 0 - 48) + (get_or code 1 0 - 48)
+    → position (λ k. k == s) STARTS ≡ Some i → predefined_length code ≡ Some (get_or LENGTHS i 0)
 length_found code s i h e p = at_start (start_of code) s (start_from code h ∙ ap Some (sym e)) ∙ found s STARTS LENGTHS i refl p

@@ -7,7 +7,7 @@ use Rattle.std.proofs.lemmas.List.{length-drop, take-append-drop}
 use Rattle.std.proofs.lemmas.List.Sums.{sum_by-cons}
 use Rattle.gs_chars.specs.Characters.{are_in_set82, is_in_set82}
 use Rattle.gs_chars.proofs.SpelledSets.{digit_in_set82}
-use Rattle.gs_chars.proofs.TruthsAndLists.{and_first, and_second, and_true, equal_bytes, true_from_not, true_or_false}
+use Rattle.gs_chars.proofs.TruthsAndLists.{and_first, and_second, equal_bytes, true_or_false, equal_number}
 use Rattle.gs_ai.specs.declared.errors.ValueFault.TheVariants.{Unknown, Length, Char, Check, Date}
 use Rattle.gs_ai.specs.declared.part.Part.{Part}
 use Rattle.gs_ai.specs.declared.part.Part.TheVariants as part
@@ -18,7 +18,8 @@ use Rattle.gs_ai.specs.Tables.{is_code, keeps_predefined, KeepsRules}
 use Rattle.gs_ai.specs.Values.{greatest_of, least_of, has_code, has_length_of, keeps_check, keeps_date, parts_error, pieces, value_error, wrong_character}
 use Rattle.gs_ai.proofs.PartLemmas.{neither, not_mapped, wrong-cons, wrong_in}
 use Rattle.gs_ai.proofs.RowLemmas.{row_code}
-use Rattle.gs_ai.proofs.Searches.{passes_none}
+use Rattle.gs_chars.proofs.Searches.{passes_none}
+use Rattle.std.proofs.lemmas.Bool.{and_from, not-false}
 
 -- ---- the row of the code
 
@@ -40,7 +41,8 @@ found_at t (y ∷ xs) x e = elim (true_or_false (t y)) [
 pub of_row : (rows : List AiRow) (code value : List ℕ) → value_error rows code value ≡ None → IsOfRow rows code value
 of_row rows code value e = by (find (has_code code) rows) refl e
   where
-    by : (r : Option AiRow) → find (has_code code) rows ≡ r → option_map_or (λ row. parts_error row.parts value) r (Some Unknown) ≡ None → IsOfRow rows code value
+    by : (r : Option AiRow) → find (has_code code) rows ≡ r → option_map_or (λ row. parts_error row.parts value) r (Some Unknown) ≡ None
+        → IsOfRow rows code value
     by None f h = absurd (let g : Some Unknown ≡ None = h in cc)
     by (Some row) f h =
         let there = found_at (has_code code) rows row f in
@@ -63,10 +65,12 @@ part_facts parts value e = by (has_length_of parts value) (wrong_character parts
     by true None f g h = record { length_kept = f; characters_kept = g }
 
 least_kept : (parts : List Part) (value : List ℕ) → has_length_of parts value ≡ true → least_of parts ≤ length value
-least_kept parts value h = let n : nat_le (least_of parts) (length value) ≡ true = and_first (nat_le (least_of parts) (length value)) (nat_le (length value) (greatest_of parts)) h in grind (arith, nat_tests)
+least_kept parts value h = let n : nat_le (least_of parts) (length value) ≡ true = and_first (nat_le (least_of parts) (length value))
+    (nat_le (length value) (greatest_of parts)) h in grind (arith, nat_tests)
 
 greatest_kept : (parts : List Part) (value : List ℕ) → has_length_of parts value ≡ true → length value ≤ greatest_of parts
-greatest_kept parts value h = let n : nat_le (length value) (greatest_of parts) ≡ true = and_second (nat_le (least_of parts) (length value)) (nat_le (length value) (greatest_of parts)) h in grind (arith, nat_tests)
+greatest_kept parts value h = let n : nat_le (length value) (greatest_of parts) ≡ true = and_second (nat_le (least_of parts) (length value))
+    (nat_le (length value) (greatest_of parts)) h in grind (arith, nat_tests)
 
 zero_in_set82 : is_in_set82 48 ≡ true
 unfolding is_in_set82
@@ -89,11 +93,12 @@ all_passed p piece e = by piece (λ j c at. passes_none (λ c. not (is_of_part p
   where
     by : (cs : List ℕ) → ((j c : ℕ) → slice_get cs j ≡ Some c → not (is_of_part p c) ≡ false) → are_in_set82 cs ≡ true
     by [] each = refl
-    by (c ∷ cs) each = and_true (is_in_set82 c) (are_in_set82 cs) (of_part p c (true_from_not (is_of_part p c) (each zero c refl))) (by cs (λ j d at. each (suc j) d at))
+    by (c ∷ cs) each = and_from (is_in_set82 c) (are_in_set82 cs) (of_part p c (not-false (is_of_part p c) (each zero c refl)))
+        (by cs (λ j d at. each (suc j) d at))
 
 in_set82_append : (a b : List ℕ) → are_in_set82 a ≡ true → are_in_set82 b ≡ true → are_in_set82 (a ++ b) ≡ true
 in_set82_append [] b f g = g
-in_set82_append (c ∷ a) b f g = and_true (is_in_set82 c) (are_in_set82 (a ++ b)) (and_first _ _ f) (in_set82_append a b (and_second _ _ f) g)
+in_set82_append (c ∷ a) b f g = and_from (is_in_set82 c) (are_in_set82 (a ++ b)) (and_first _ _ f) (in_set82_append a b (and_second _ _ f) g)
 
 plain : (parts : List Part) (value : List ℕ) → length value ≤ greatest_of parts → wrong_character parts value ≡ None → are_in_set82 value ≡ true
 plain [] [] fits e = refl
@@ -104,7 +109,8 @@ plain (p ∷ parts) value fits e =
     let rest : length (drop (greatest_length p) value) ≤ greatest_of parts = omega (arith, length-drop (greatest_length p) value) in
     let front = all_passed p (take (greatest_length p) value) both.0 in
     let back = plain parts (drop (greatest_length p) value) rest (not_mapped _ _ both.1) in
-    subst (λ (v : List ℕ). are_in_set82 v ≡ true) (take-append-drop (greatest_length p) value) (in_set82_append (take (greatest_length p) value) (drop (greatest_length p) value) front back)
+    subst (λ (v : List ℕ). are_in_set82 v ≡ true) (take-append-drop (greatest_length p) value)
+    (in_set82_append (take (greatest_length p) value) (drop (greatest_length p) value) front back)
 
 -- a value in order is made of the 82 characters
 pub value_in_set82 : (rows : List AiRow) (code value : List ℕ) → value_error rows code value ≡ None → are_in_set82 value ≡ true
@@ -113,14 +119,12 @@ value_in_set82 rows code value e =
     let facts = part_facts of.row.parts value of.fits in
     plain of.row.parts value (greatest_kept of.row.parts value facts.length_kept) facts.characters_kept
 
-equal_test : (a b : ℕ) → (a == b) ≡ true → a ≡ b
-equal_test a b h = grind (arith, nat_tests)
-
-lengths_kept : (row : AiRow) (n : ℕ) → keeps_predefined row ≡ true → predefined_length row.code ≡ Some n → (least_of row.parts ≡ greatest_of row.parts) × (length row.code + greatest_of row.parts ≡ n)
+lengths_kept : (row : AiRow) (n : ℕ) → keeps_predefined row ≡ true → predefined_length row.code ≡ Some n
+    → (least_of row.parts ≡ greatest_of row.parts) × (length row.code + greatest_of row.parts ≡ n)
 unfolding keeps_predefined
 lengths_kept row n h e =
     let f : ((least_of row.parts == greatest_of row.parts) && (length row.code + greatest_of row.parts == n)) ≡ true = rw e at h in
-    (equal_test _ _ (and_first _ _ f), equal_test _ _ (and_second _ _ f))
+    (equal_number _ _ (and_first _ _ f), equal_number _ _ (and_second _ _ f))
 
 module _ (rows : List AiRow) (rules : KeepsRules rows) (code value : List ℕ) (fits : value_error rows code value ≡ None) where
   -- code and value in order have the predefined length of the code together

@@ -7,11 +7,11 @@ use Rattle.gs_ai.specs.declared.part.Part.TheVariants.{Zero, Num, NumCheck, NumU
 use Rattle.gs_ai.specs.declared.part.Role.{Role}
 use Rattle.gs_ai.specs.declared.part.Role.TheVariants as role
 
--- trusted, own: a number below 100 in decimal, without leading zeros
+-- trusted, own: the text of a number below 100 in decimal, without leading zeros
 abbrev pub number_text : ℕ → List ℕ
 number_text k = if nat_lt k 10 then (48 + k) ∷ [] else (48 + k / 10) ∷ (48 + k % 10) ∷ []
 
--- trusted, GS1 General Specifications, section 3.2: the part is one of the list, with a count of characters that is allowed
+-- trusted, GS1 General Specifications, section 3.2: holds if the part is not `Other` and its number of characters is allowed
 abbrev pub is_part : Part → Bool
 is_part Zero = true
 is_part (Num k) = nat_le 1 k && nat_le k 18
@@ -23,7 +23,7 @@ is_part (SetOpt k) = nat_le 1 k && nat_le k 90
 is_part Date = true
 is_part Other = false
 
--- trusted, own: how a part of the list is written
+-- trusted, own: the text of a part of the list
 abbrev pub part_text : Part → List ℕ
 part_text Zero = codes "zero"
 part_text (Num k) = codes "n" ++ number_text k
@@ -35,7 +35,7 @@ part_text (SetOpt k) = codes "x.." ++ number_text k ++ codes "?"
 part_text Date = codes "date"
 part_text Other = []
 
--- trusted, own: the part is written with `..`
+-- trusted, own: holds if the part is written with `..`
 abbrev pub is_open : Part → Bool
 is_open (NumUpTo _) = true
 is_open (NumOpt _) = true
@@ -67,7 +67,7 @@ greatest_length (SetOpt k) = k
 greatest_length Date = 6
 greatest_length Other = 0
 
--- trusted, GS1 General Specifications, section 3.2: a character may be in a part
+-- trusted, GS1 General Specifications, section 3.2: holds if the character `c` may be in the part
 abbrev pub is_of_part : Part → ℕ → Bool
 is_of_part Zero c = c == 48
 is_of_part (Num _) c = is_digit c
@@ -79,13 +79,13 @@ is_of_part (SetOpt _) c = is_in_set82 c
 is_of_part Date c = is_digit c
 is_of_part Other _ = false
 
--- trusted, own: how a role is written
+-- trusted, own: the text of a role
 abbrev pub role_text : Role → List ℕ
 role_text role.Key = codes "key"
 role_text role.Qualifier = codes "qualifier"
 role_text role.Attribute = codes "attribute"
 role_text role.Other = []
 
--- trusted, own: the text writes no role
+-- trusted, own: holds if no role, except perhaps `Other`, is written as `text`
 abbrev pub WritesNoRole : List ℕ → Type 0
 WritesNoRole text = (r : Role) → r ≢ role.Other → role_text r ≡ text → ⊥

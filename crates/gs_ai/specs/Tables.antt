@@ -17,7 +17,7 @@ use Rattle.gs_ai.specs.Values.{least_of, greatest_of, parts_error, has_code}
 
 -- ---- one row
 
--- trusted, own: two to four digits
+-- trusted, own: holds if `code` is two to four digits
 abbrev pub is_code : List ℕ → Bool
 is_code code = are_digits code && nat_le 2 (length code) && nat_le (length code) 4
 
@@ -37,60 +37,60 @@ abbrev pub is_gtin : List Part → Bool
 is_gtin (NumCheck k ∷ []) = k == 14
 is_gtin _ = false
 
--- trusted, own: a list of nothing
+-- trusted, own: holds if the list is empty
 abbrev pub is_empty : {X : Type 0} → List X → Bool
 is_empty [] = true
 is_empty (_ ∷ _) = false
 
--- trusted, own: a key has no `none` text, a qualifier and an attribute list no qualifiers, and there is no other role
+-- trusted, own: holds if the role is not `Other`, and `row` has no `none` text if it is a key, and otherwise no qualifiers
 abbrev pub keeps_role_of : Role → AiRow → Bool
 keeps_role_of Key row = is_empty row.none
 keeps_role_of Qualifier row = is_empty row.qualifiers
 keeps_role_of Attribute row = is_empty row.qualifiers
 keeps_role_of Other _ = false
 
--- trusted, own: the row satisfies the rules of its role
+-- trusted, own: holds if `row` satisfies the rules of its role
 abbrev pub keeps_role : AiRow → Bool
 keeps_role row = keeps_role_of row.role row
 
--- trusted, own, after GS1 General Specifications section 3.2: the row is valid, regardless of the others
+-- trusted, own, after GS1 General Specifications section 3.2: holds if `row` is valid, regardless of the other rows
 unfoldable pub is_row : AiRow → Bool
 is_row row =
     is_code row.code && are_parts row.parts && keeps_role row && are_distinct row.qualifiers
     && (not row.short || is_gtin row.parts)
     && (is_empty row.none || is_none (parts_error row.parts row.none))
 
--- trusted, own, after GS1 General Specifications section 3.2: holds if AI and value together have only the predefined length, if
--- the AI's start is listed
+-- trusted, own, after GS1 General Specifications section 3.2: holds if the code and each value of `row` together have the
+-- predefined length, if the code begins with a listed one
 unfoldable pub keeps_predefined : AiRow → Bool
 keeps_predefined row =
     option_map_or (λ n. (least_of row.parts == greatest_of row.parts) && (length row.code + greatest_of row.parts == n)) (predefined_length row.code) true
 
 -- ---- a row among the others
 
--- trusted, own: the first text is at the start of the second
+-- trusted, own: holds if `text` begins with `front`
 abbrev pub begins : List ℕ → List ℕ → Bool
 begins front text = starts_with nat_eq text front
 
--- trusted, own: one of the two codes begins the other
+-- trusted, own: holds if one of the codes `a` and `b` begins with the other
 unfoldable pub clash : List ℕ → List ℕ → Bool
 clash a b = begins a b || begins b a
 
--- trusted, own: the role is key
+-- trusted, own: holds if the role is key
 abbrev pub is_key : Role → Bool
 is_key Key = true
 is_key _ = false
 
--- trusted, own: the role is qualifier
+-- trusted, own: holds if the role is qualifier
 abbrev pub is_qualifier : Role → Bool
 is_qualifier Qualifier = true
 is_qualifier _ = false
 
--- trusted, own: the code is that of a row of the role key
+-- trusted, own: holds if one of `rows` has the code `code` and the role key
 abbrev pub is_key_of : List AiRow → List ℕ → Bool
 is_key_of rows code = list_any (λ row. has_code code row && is_key row.role) rows
 
--- trusted, own: the code is that of a row of the role qualifier
+-- trusted, own: holds if one of `rows` has the code `code` and the role qualifier
 abbrev pub is_qualifier_of : List AiRow → List ℕ → Bool
 is_qualifier_of rows code = list_any (λ row. has_code code row && is_qualifier row.role) rows
 
@@ -113,14 +113,15 @@ list_errors rows i row =
 
 -- ---- all rows
 
--- trusted, own: all errors of the rows, in the order in which they are reported: those of each row in turn, then those of
--- each list
+-- trusted, own: the list of all errors of `rows`, in the order of the reports: those of each row in turn, then those of each
+-- list
 unfoldable pub table_errors : List AiRow → List AiFault
 table_errors rows =
     flat_map (λ row. row_errors row.0 (take row.0 rows) row.1) (enumerate_from 0 rows)
     ++ flat_map (λ row. list_errors rows row.0 row.1) (enumerate_from 0 rows)
 
--- trusted, own: The rules of the rows of every table.
+-- trusted, own: Holds if each row is valid and has its predefined length, and no code begins with another row's. Each row lists
+-- only codes of qualifiers, and none of a key.
 pub record KeepsRules (rows : List AiRow) : Type 0 where
   -- each row is valid, regardless of the others
   pub rows_in_order : (i : ℕ) (row : AiRow) → slice_get rows i ≡ Some row → (is_row row ≡ true) × (keeps_predefined row ≡ true)

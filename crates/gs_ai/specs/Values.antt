@@ -20,17 +20,17 @@ least_of parts = sum_by least_length parts
 abbrev pub greatest_of : List Part → ℕ
 greatest_of parts = sum_by greatest_length parts
 
--- trusted, own: the value has a length that the parts allow
+-- trusted, own: holds if `value` has a length that `parts` allow
 abbrev pub has_length_of : List Part → List ℕ → Bool
 has_length_of parts value = nat_le (least_of parts) (length value) && nat_le (length value) (greatest_of parts)
 
--- trusted, GS1 General Specifications, sections 3.2 and 7.9: each part with the characters of the value that are its own:
--- from the start, as many as it can have
+-- trusted, GS1 General Specifications, sections 3.2 and 7.9: the list of each part with the characters of the value that are
+-- its own: from the start, as many as it can have
 abbrev pub pieces : List Part → List ℕ → List (Part × List ℕ)
 pieces [] value = []
 pieces (p ∷ ps) value = (p, take (greatest_length p) value) ∷ pieces ps (drop (greatest_length p) value)
 
--- trusted, own: for each character, whether it is of its part
+-- trusted, own: the list of whether each character of `value` may be in its part
 abbrev pub fitting : List Part → List ℕ → List Bool
 fitting parts value = flat_map (λ piece. map (is_of_part piece.0) piece.1) (pieces parts value)
 
@@ -38,7 +38,7 @@ fitting parts value = flat_map (λ piece. map (is_of_part piece.0) piece.1) (pie
 abbrev pub wrong_character : List Part → List ℕ → Option ℕ
 wrong_character parts value = position not (fitting parts value)
 
--- trusted, GS1 General Specifications, sections 3.2 and 7.9: the k characters are digits, and the last is the check digit
+-- trusted, GS1 General Specifications, sections 3.2 and 7.9: holds if `digits` are `k` digits, and the last is the check digit
 -- of the others
 abbrev pub is_checked : ℕ → List ℕ → Bool
 is_checked k digits =
@@ -48,22 +48,23 @@ is_checked k digits =
 abbrev pub number_at : List ℕ → ℕ → ℕ
 number_at digits i = 10 * (slice_index digits i - 48) + (slice_index digits (i + 1) - 48)
 
--- trusted, own: Holds if the text is six digits YYMMDD with a month from 1 to 12 and a day from 0 to 31; the day 0 means no day.
+-- trusted, own: Holds if `digits` are six digits YYMMDD with a month from 1 to 12 and a day from 0 to 31. The day 0 means no
+-- day.
 abbrev pub is_date : List ℕ → Bool
 is_date digits = are_digits digits && (length digits == 6) && nat_le 1 (number_at digits 2) && nat_le (number_at digits 2) 12 && nat_le (number_at digits 4) 31
 
--- trusted, own: a checked part has its check digit
+-- trusted, own: holds if the part is not `NumCheck`, or `digits` end in their check digit
 abbrev pub keeps_check : Part × List ℕ → Bool
 keeps_check (part.NumCheck k, digits) = is_checked k digits
 keeps_check (_, _) = true
 
--- trusted, own: a date part is a date
+-- trusted, own: holds if the part is not a date, or `digits` are one
 abbrev pub keeps_date : Part × List ℕ → Bool
 keeps_date (part.Date, digits) = is_date digits
 keeps_date (_, _) = true
 
--- trusted, GS1 General Specifications, sections 3.2, 7.9 and 7.12: nothing, or the first error that applies: the length, a
--- character, a check digit, a date
+-- trusted, GS1 General Specifications, sections 3.2, 7.9 and 7.12: the first error of `value` that applies, if any: the length,
+-- a character, a check digit, a date
 abbrev pub parts_error : List Part → List ℕ → Option ValueFault
 parts_error parts value =
     if not (has_length_of parts value) then Some Length
@@ -72,17 +73,17 @@ parts_error parts value =
     else if not (list_all keeps_date (pieces parts value)) then Some Date
     else None)
 
--- trusted, own: the row's code is this one
+-- trusted, own: holds if the code of `row` is `code`
 abbrev pub has_code : List ℕ → AiRow → Bool
 has_code code row = bytes_eq code row.code
 
--- trusted, GS1 General Specifications, sections 3.2, 7.9 and 7.12: nothing, or the first error of a value in the order of
--- the variants: no row has the code, or an error of the row's parts
+-- trusted, GS1 General Specifications, sections 3.2, 7.9 and 7.12: the first error of `value`, if any, in the order of the
+-- variants: no row has the code, or an error of the row's parts
 abbrev pub value_error : List AiRow → List ℕ → List ℕ → Option ValueFault
 value_error table code value =
     option_map_or (λ row. parts_error row.parts value) (find (has_code code) table) (Some Unknown)
 
--- trusted, GS1 General Specifications, sections 3.2, 7.9 and 7.12: nothing, or the first error of a value of the code of
--- the row with this index
+-- trusted, GS1 General Specifications, sections 3.2, 7.9 and 7.12: the first error, if any, of `value` for the code of the row
+-- with the index `row`
 abbrev pub row_error : List AiRow → ℕ → List ℕ → Option ValueFault
 row_error table row value = option_and_then (λ r. value_error table r.code value) (slice_get table row)

@@ -148,7 +148,7 @@ fn are_parts(parts: &[Part]) -> bool
     last.is_listed() && are_closed(others)
 }
 
-/// Returns whether no code occurs twice.
+/// Returns whether each code occurs once.
 fn are_distinct(codes: &[Text]) -> bool
     ensures { result ≡ are_distinct codes.now }
 {

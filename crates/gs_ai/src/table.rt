@@ -46,9 +46,9 @@ impl Model for AiTable {
 }
 
 impl AiTable {
-    /// Returns the table of the rows, in their order. A rejection is the first of the errors of the rows: row by row `BadAi`,
-    /// `CodePrefix`, `PredefinedLength`, then row by row `KeyIsQualifier` and `BadAi` of the qualifiers that it lists. May
-    /// return `Memory` instead of any answer.
+    /// Returns the table of the rows, in their order. A rejection is the first error of the rows. Row by row, the errors are
+    /// `BadAi`, `CodePrefix` and `PredefinedLength`, and then `KeyIsQualifier` and `BadAi` of the qualifiers that a row lists.
+    /// May return `Memory` instead of any answer.
     pub fn new(alloc: Global, rows: Vec<AiRow>) -> Result<AiTable, AiFault>
         ensures made { IfOk result (λ table. (table ≡ rows.items) × (table_errors rows.items ≡ [])) }
         ensures rejected { IfErr result (λ error. error ≢ AiFault.Memory

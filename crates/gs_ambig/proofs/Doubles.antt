@@ -2,13 +2,15 @@
 use Rattle.std.proofs.Common.{◌≡◌, ℕ, ◌<◌, ◌≤◌, ◌+◌, List, length, get_or, Option, Some, None, Result, Ok, Err, IfOk, IfSome, IfNone, sym, ◌∙◌, inl, inr, arith}
 use Rattle.std.specs.List.{slice_get}
 use Rattle.std.proofs.lemmas.Bool.{cases_eq, cases_lt}
-use Rattle.gs_chars.proofs.TruthsAndLists.{read_at, within}
+use Rattle.gs_chars.proofs.TruthsAndLists.{read_at}
 use Rattle.gs_ambig.specs.Machines.{AutoForm}
 use Rattle.gs_ambig.specs.MachinesSupport.{start_of}
 use Rattle.gs_ambig.specs.Shares.{Share, SharesNone, IsFirstFrom, IsFirstDouble}
 use Rattle.gs_ambig.specs.Searches.{Leads, IsDead, HasTwoWalks, IsSingle}
+use Rattle.std.proofs.lemmas.Option.{slice_get_within}
 
-pub share_two : (machines : List AutoForm) (i j : ℕ) (m n : AutoForm) (word : List ℕ) → i < length machines → m ≡ get_or machines i m → j < length machines → n ≡ get_or machines j n → (i ≡ j → ⊥) → Leads m n (start_of m) (start_of n) word → Share machines i j word
+pub share_two : (machines : List AutoForm) (i j : ℕ) (m n : AutoForm) (word : List ℕ) → i < length machines → m ≡ get_or machines i m
+    → j < length machines → n ≡ get_or machines j n → (i ≡ j → ⊥) → Leads m n (start_of m) (start_of n) word → Share machines i j word
 share_two machines i j m n word l e k f d leads = record {
   one = m;
   other = n;
@@ -24,14 +26,17 @@ share_two machines i j m n word l e k f d leads = record {
 same_machine : (machines : List AutoForm) (i : ℕ) (m one : AutoForm) → i < length machines → m ≡ get_or machines i m → slice_get machines i ≡ Some one → one ≡ m
 same_machine machines i m one l e a = let b : Some one ≡ Some m = sym a ∙ read_at machines i m l e in cc
 
-pub none_of_two : (machines : List AutoForm) (i j : ℕ) (m n : AutoForm) → i < length machines → m ≡ get_or machines i m → j < length machines → n ≡ get_or machines j n → IsDead m n (start_of m) (start_of n) → (symbols : List ℕ) → Share machines i j symbols → ⊥
+pub none_of_two : (machines : List AutoForm) (i j : ℕ) (m n : AutoForm) → i < length machines → m ≡ get_or machines i m
+    → j < length machines → n ≡ get_or machines j n → IsDead m n (start_of m) (start_of n) → (symbols : List ℕ) → Share machines i j symbols
+    → ⊥
 none_of_two machines i j m n l e k f dead symbols s =
     let a = same_machine machines i m s.one l e s.one_at in
     let b = same_machine machines j n s.other k f s.other_at in
     let whole : Leads s.one s.other (start_of s.one) (start_of s.other) symbols = record { run = s.run; other_run = s.other_run; walk = s.accepts; other_walk = s.other_accepts } in
     dead symbols (rw (a, b) at whole)
 
-pub share_one : (machines : List AutoForm) (i j : ℕ) (m : AutoForm) (word : List ℕ) → i < length machines → m ≡ get_or machines i m → i ≡ j → HasTwoWalks m (start_of m) word → Share machines i j word
+pub share_one : (machines : List AutoForm) (i j : ℕ) (m : AutoForm) (word : List ℕ) → i < length machines → m ≡ get_or machines i m → i ≡ j
+    → HasTwoWalks m (start_of m) word → Share machines i j word
 share_one machines i j m word l e same parts = record {
   one = m;
   other = m;
@@ -44,7 +49,8 @@ share_one machines i j m word l e same parts = record {
   differ = λ _. parts.differ;
 }
 
-pub none_of_one : (machines : List AutoForm) (i j : ℕ) (m : AutoForm) → i < length machines → m ≡ get_or machines i m → i ≡ j → IsSingle m (start_of m) → (symbols : List ℕ) → Share machines i j symbols → ⊥
+pub none_of_one : (machines : List AutoForm) (i j : ℕ) (m : AutoForm) → i < length machines → m ≡ get_or machines i m → i ≡ j
+    → IsSingle m (start_of m) → (symbols : List ℕ) → Share machines i j symbols → ⊥
 none_of_one machines i j m l e same single symbols s =
     let a = same_machine machines i m s.one l e s.one_at in
     let b = same_machine machines i m s.other l e (rw (← same) at s.other_at) in
@@ -62,7 +68,8 @@ none_of_one machines i j m l e same single symbols s =
 pub none_before : (machines : List AutoForm) (i : ℕ) → SharesNone machines i i
 none_before machines i j symbols a b = absurd (omega arith)
 
-pub none_more : (machines : List AutoForm) (i j : ℕ) → SharesNone machines i j → ((symbols : List ℕ) → Share machines i j symbols → ⊥) → SharesNone machines i (j + 1)
+pub none_more : (machines : List AutoForm) (i j : ℕ) → SharesNone machines i j → ((symbols : List ℕ) → Share machines i j symbols → ⊥)
+    → SharesNone machines i (j + 1)
 none_more machines i j h none k symbols a b = elim (cases_eq k j) as (λ _. Share machines i k symbols → ⊥) [
   | inl e ↦ λ s. none symbols (rw e at s)
   | inr n ↦ h k symbols a (omega arith)
@@ -76,7 +83,7 @@ NoneAbove machines i = (k l : ℕ) (symbols : List ℕ) → k < i → k ≤ l �
 pub above_more : (machines : List AutoForm) (i : ℕ) → NoneAbove machines i → SharesNone machines i (length machines) → NoneAbove machines (i + 1)
 above_more machines i h none k l symbols b c = elim (cases_eq k i) as (λ _. Share machines k l symbols → ⊥) [
   | inl e ↦ λ s.
-      let inside = within machines l s.other s.other_at in
+      let inside = slice_get_within machines l s.other s.other_at in
       none l symbols (omega arith) inside (rw e at s)
   | inr n ↦ h k l symbols (omega arith) c
 ]
@@ -94,10 +101,11 @@ swapped machines i j symbols s = record {
   differ = λ same runs. s.differ (sym same) (sym runs);
 }
 
-pub none_at_all : (machines : List AutoForm) (n : ℕ) → NoneAbove machines n → length machines ≤ n → (i j : ℕ) (symbols : List ℕ) → Share machines i j symbols → ⊥
+pub none_at_all : (machines : List AutoForm) (n : ℕ) → NoneAbove machines n → length machines ≤ n → (i j : ℕ) (symbols : List ℕ)
+    → Share machines i j symbols → ⊥
 none_at_all machines n h l i j symbols s =
-    let first = within machines i s.one s.one_at in
-    let second = within machines j s.other s.other_at in
+    let first = slice_get_within machines i s.one s.one_at in
+    let second = slice_get_within machines j s.other s.other_at in
     elim (cases_lt j i) as (λ _. ⊥) [
       | inl b ↦ h j i symbols (omega arith) (omega arith) (swapped machines i j symbols s)
       | inr g ↦ h i j symbols (omega arith) (omega arith) s
@@ -118,7 +126,8 @@ none_upto machines i j n h l k symbols a b = h k symbols a (omega arith)
 
 -- an implication between facts carries over to the answers that satisfy the first
 
-pub some_follows : {X E : Type 0} (P Q : X → Type 0) → ((x : X) → P x → Q x) → (r : Result (Option X) E) → IfOk r (λ found. IfSome found P) → IfOk r (λ found. IfSome found Q)
+pub some_follows : {X E : Type 0} (P Q : X → Type 0) → ((x : X) → P x → Q x) → (r : Result (Option X) E) → IfOk r (λ found. IfSome found P)
+    → IfOk r (λ found. IfSome found Q)
 some_follows P Q f (Ok (Some x)) h = f x h
 some_follows P Q f (Ok None) h = tt
 some_follows P Q f (Err e) h = tt

@@ -10,7 +10,8 @@ use Rattle.gs_ambig.specs.Walks.{Fits, edges_at}
 use Rattle.gs_ambig.specs.Machines.{AutoForm, IsMachine, is_onward, AscendBefore}
 
 -- a rule's facts about an edge that fits
-pub fits_onward : (states : ℕ) (borders : List ℕ) (state : ℕ) (edges : List Edge) (symbol next : ℕ) → list_all (is_onward states borders state) edges ≡ true → Fits edges symbol next → (state < next) × (next < states)
+pub fits_onward : (states : ℕ) (borders : List ℕ) (state : ℕ) (edges : List Edge) (symbol next : ℕ)
+    → list_all (is_onward states borders state) edges ≡ true → Fits edges symbol next → (state < next) × (next < states)
 fits_onward states borders state [] symbol next h f = absurd f
 fits_onward states borders state (edge ∷ edges) symbol next h (inl f) =
     let one = and_first (is_onward states borders state edge) (list_all (is_onward states borders state) edges) h in
@@ -22,9 +23,11 @@ fits_onward states borders state (edge ∷ edges) symbol next h (inr f) =
     fits_onward states borders state edges symbol next (and_second (is_onward states borders state edge) (list_all (is_onward states borders state) edges) h) f
 
 -- each step of a walk goes to a higher state of the machine
-pub goes_on : (form : AutoForm) (state symbol next : ℕ) → IsMachine form → Fits (edges_at form.table state) symbol next → (state < next) × (next < length form.table)
+pub goes_on : (form : AutoForm) (state symbol next : ℕ) → IsMachine form → Fits (edges_at form.table state) symbol next
+    → (state < next) × (next < length form.table)
 goes_on form state symbol next m f =
-    fits_onward (length form.table) form.borders state (edges_at form.table state) symbol next (list_all-from_AllPass (is_onward (length form.table) form.borders state) (edges_at form.table state) (m.onward state)) f
+    fits_onward (length form.table) form.borders state (edges_at form.table state) symbol next
+    (list_all-from_AllPass (is_onward (length form.table) form.borders state) (edges_at form.table state) (m.onward state)) f
 
 -- the first border is not a higher than the last
 first_low : (numbers : List ℕ) (i : ℕ) → AscendBefore numbers (length numbers) → i < length numbers → get_or numbers 0 0 ≤ get_or numbers i 0
@@ -51,7 +54,8 @@ start_at form start m e =
     omega arith
 
 -- the rules' facts about each edge of a state
-pub edge_onward : (form : AutoForm) (state k : ℕ) (edge : Edge) → IsMachine form → k < length (edges_at form.table state) → edge ≡ get_or (edges_at form.table state) k edge → (state < edge.to) × (edge.to < length form.table)
+pub edge_onward : (form : AutoForm) (state k : ℕ) (edge : Edge) → IsMachine form → k < length (edges_at form.table state)
+    → edge ≡ get_or (edges_at form.table state) k edge → (state < edge.to) × (edge.to < length form.table)
 edge_onward form state k edge m l e =
     let t = m.onward state k edge l in
     let passes : is_onward (length form.table) form.borders state edge ≡ true = rw (← e) at t in

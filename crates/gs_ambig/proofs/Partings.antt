@@ -12,19 +12,22 @@ use Rattle.gs_ambig.proofs.Steps.{fits_more, fits_at}
 
 -- forks of the edges that have been handled
 
-pub fork_more : (m : AutoForm) (edges others : List Edge) (i : ℕ) (edge : Edge) → HasNoFork m (take i edges) others → i < length edges → edge ≡ get_or edges i edge → IsDeadBehind m m edge others (edge.to + 1) → HasNoFork m (take (i + 1) edges) others
+pub fork_more : (m : AutoForm) (edges others : List Edge) (i : ℕ) (edge : Edge) → HasNoFork m (take i edges) others → i < length edges
+    → edge ≡ get_or edges i edge → IsDeadBehind m m edge others (edge.to + 1) → HasNoFork m (take (i + 1) edges) others
 fork_more m edges others i edge h l e d symbol next other f g b = elim (fits_more edges i edge symbol next l e f) as (λ _. IsDead m m next other) [
   | inl old ↦ h symbol next other old g b
   | inr new ↦ let same = new.2 in rw (← new.2) (d symbol other new.0 new.1 g (omega arith))
 ]
 
-pub fork_end : (m : AutoForm) (edges others : List Edge) (i : ℕ) → HasNoFork m (take i edges) others → length edges ≤ i → edges ≡ others → HasNoFork m others others
+pub fork_end : (m : AutoForm) (edges others : List Edge) (i : ℕ) → HasNoFork m (take i edges) others → length edges ≤ i → edges ≡ others
+    → HasNoFork m others others
 fork_end m edges others i h l e = let all : HasNoFork m edges others = rw (take_all i edges l) at h in rw e at all
 
 apart : (p q : ℕ) (ps qs : List ℕ) → p < q → p ∷ ps ≡ q ∷ qs → ⊥
 apart p q ps qs l e = let same : p ≡ q = cc in omega arith
 
-pub parts_here : (m : AutoForm) (p : ℕ) (edges : List Edge) (i : ℕ) (edge : Edge) (word : List ℕ) → edges ≡ edges_at m.table p → i < length edges → edge ≡ get_or edges i edge → LeadsBehind m m edge p (edge.to + 1) word → HasTwoWalks m p word
+pub parts_here : (m : AutoForm) (p : ℕ) (edges : List Edge) (i : ℕ) (edge : Edge) (word : List ℕ) → edges ≡ edges_at m.table p
+    → i < length edges → edge ≡ get_or edges i edge → LeadsBehind m m edge p (edge.to + 1) word → HasTwoWalks m p word
 parts_here m p edges i edge word e l r b =
     let fits = fits_at edges i edge b.symbol l r b.above b.below in
     let there : Fits (edges_at m.table p) b.symbol edge.to = rw e at fits in
@@ -43,16 +46,19 @@ parts_here m p edges i edge word e l r b =
 abbrev pub SingleBy : AutoForm → List Edge → Type 0
 SingleBy m edges = (symbol next : ℕ) → Fits edges symbol next → IsSingle m next
 
-pub single_more : (m : AutoForm) (edges : List Edge) (i : ℕ) (edge : Edge) → SingleBy m (take i edges) → i < length edges → edge ≡ get_or edges i edge → (edge.lo ≤ edge.hi → IsSingle m edge.to) → SingleBy m (take (i + 1) edges)
+pub single_more : (m : AutoForm) (edges : List Edge) (i : ℕ) (edge : Edge) → SingleBy m (take i edges) → i < length edges
+    → edge ≡ get_or edges i edge → (edge.lo ≤ edge.hi → IsSingle m edge.to) → SingleBy m (take (i + 1) edges)
 single_more m edges i edge h l e s symbol next f = elim (fits_more edges i edge symbol next l e f) as (λ _. IsSingle m next) [
   | inl old ↦ h symbol next old
   | inr new ↦ let low = new.0 in let high = new.1 in rw (← new.2) (s (omega arith))
 ]
 
-pub single_empty : (m : AutoForm) (edges : List Edge) (i : ℕ) (edge : Edge) → SingleBy m (take i edges) → i < length edges → edge ≡ get_or edges i edge → edge.hi < edge.lo → SingleBy m (take (i + 1) edges)
+pub single_empty : (m : AutoForm) (edges : List Edge) (i : ℕ) (edge : Edge) → SingleBy m (take i edges) → i < length edges
+    → edge ≡ get_or edges i edge → edge.hi < edge.lo → SingleBy m (take (i + 1) edges)
 single_empty m edges i edge h l e none = single_more m edges i edge h l e (λ some. absurd (omega arith))
 
-parts_on : (m : AutoForm) (p symbol : ℕ) (edge : Edge) (rest : List ℕ) → Fits (edges_at m.table p) symbol edge.to → HasTwoWalks m edge.to rest → HasTwoWalks m p (symbol ∷ rest)
+parts_on : (m : AutoForm) (p symbol : ℕ) (edge : Edge) (rest : List ℕ) → Fits (edges_at m.table p) symbol edge.to
+    → HasTwoWalks m edge.to rest → HasTwoWalks m p (symbol ∷ rest)
 parts_on m p symbol edge rest f b = record {
   run = edge.to ∷ b.run;
   other_run = edge.to ∷ b.other_run;
@@ -61,14 +67,18 @@ parts_on m p symbol edge rest f b = record {
   differ = λ e. b.differ (let whole : edge.to ∷ b.run ≡ edge.to ∷ b.other_run = e in cc);
 }
 
-pub parts_by : (m : AutoForm) (p : ℕ) (edges : List Edge) (i : ℕ) (edge : Edge) (rest word : List ℕ) → edges ≡ edges_at m.table p → i < length edges → edge ≡ get_or edges i edge → edge.lo ≤ edge.hi → HasTwoWalks m edge.to rest → word ≡ edge.lo ∷ rest → HasTwoWalks m p word
+pub parts_by : (m : AutoForm) (p : ℕ) (edges : List Edge) (i : ℕ) (edge : Edge) (rest word : List ℕ) → edges ≡ edges_at m.table p
+    → i < length edges → edge ≡ get_or edges i edge → edge.lo ≤ edge.hi → HasTwoWalks m edge.to rest → word ≡ edge.lo ∷ rest
+    → HasTwoWalks m p word
 parts_by m p edges i edge rest word e l r some b w =
     let fits = fits_at edges i edge edge.lo l r (omega arith) some in
     let there : Fits (edges_at m.table p) edge.lo edge.to = rw e at fits in
     rw w (parts_on m p edge.lo edge rest there b)
 
 -- two walks over one list of symbols are the same, or they part at a fork
-no_parts : (m : AutoForm) (p : ℕ) → HasNoFork m (edges_at m.table p) (edges_at m.table p) → SingleBy m (edges_at m.table p) → (symbols run other_run : List ℕ) → Walk m.table p run symbols (accept_of m) → Walk m.table p other_run symbols (accept_of m) → (run ≡ other_run → ⊥) → ⊥
+no_parts : (m : AutoForm) (p : ℕ) → HasNoFork m (edges_at m.table p) (edges_at m.table p) → SingleBy m (edges_at m.table p)
+    → (symbols run other_run : List ℕ) → Walk m.table p run symbols (accept_of m) → Walk m.table p other_run symbols (accept_of m)
+    → (run ≡ other_run → ⊥) → ⊥
 no_parts m p fork single [] [] [] w v differ = differ refl
 no_parts m p fork single [] [] (u ∷ us) w v differ = v
 no_parts m p fork single [] (t ∷ ts) us w v differ = w
@@ -88,7 +98,8 @@ no_parts m p fork single (s ∷ symbols) (t ∷ ts) (u ∷ us) w v differ = elim
   ]
 ]
 
-pub single_end : (m : AutoForm) (p : ℕ) (edges : List Edge) (i : ℕ) → HasNoFork m (edges_at m.table p) (edges_at m.table p) → SingleBy m (take i edges) → length edges ≤ i → edges ≡ edges_at m.table p → IsSingle m p
+pub single_end : (m : AutoForm) (p : ℕ) (edges : List Edge) (i : ℕ) → HasNoFork m (edges_at m.table p) (edges_at m.table p)
+    → SingleBy m (take i edges) → length edges ≤ i → edges ≡ edges_at m.table p → IsSingle m p
 single_end m p edges i fork h l e symbols parts =
     let all : SingleBy m edges = rw (take_all i edges l) at h in
     let here : SingleBy m (edges_at m.table p) = rw e at all in

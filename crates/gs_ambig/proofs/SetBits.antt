@@ -8,26 +8,33 @@ use Rattle.std.proofs.lemmas.List.Elements.{Contains-push, Contains-append_left,
 use Rattle.std.proofs.lemmas.Nat.Bits.{bit_at_set_same, bit_at_set_other}
 use Rattle.gs_ambig.specs.Marks.{IsSet, AreMarked}
 
-pub set_here : (bits : List ℕ) (word number : ℕ) → number / 64 < length bits → IsSet (set bits (number / 64) (bit_or word (1 * 2 ^ (number % 64) % 2 ^ 64))) number
+pub set_here : (bits : List ℕ) (word number : ℕ) → number / 64 < length bits
+    → IsSet (set bits (number / 64) (bit_or word (1 * 2 ^ (number % 64) % 2 ^ 64))) number
 set_here bits word number l =
     let here = get_or-set_same bits (number / 64) (bit_or word (1 * 2 ^ (number % 64) % 2 ^ 64)) 0 l in
     ap (λ (w : ℕ). bit_at w (number % 64)) here ∙ bit_at_set_same w64 word (number % 64) (omega arith)
 
-set_equal : (bits : List ℕ) (word number other : ℕ) → number / 64 < length bits → word ≡ get_or bits (number / 64) 0 → other ≢ number → (other / 64 ≡ number / 64) → bit_at (get_or (set bits (number / 64) (bit_or word (1 * 2 ^ (number % 64) % 2 ^ 64))) (other / 64) 0) (other % 64) ≡ bit_at (get_or bits (other / 64) 0) (other % 64)
+set_equal : (bits : List ℕ) (word number other : ℕ) → number / 64 < length bits → word ≡ get_or bits (number / 64) 0 → other ≢ number
+    → (other / 64 ≡ number / 64)
+    → bit_at (get_or (set bits (number / 64) (bit_or word (1 * 2 ^ (number % 64) % 2 ^ 64))) (other / 64) 0) (other % 64) ≡ bit_at (get_or bits (other / 64) 0) (other % 64)
 set_equal bits word number other l w n e =
     let here : get_or (set bits (number / 64) (bit_or word (1 * 2 ^ (number % 64) % 2 ^ 64))) (other / 64) 0 ≡ bit_or word (1 * 2 ^ (number % 64) % 2 ^ 64) =
     rw e (get_or-set_same bits (number / 64) (bit_or word (1 * 2 ^ (number % 64) % 2 ^ 64)) 0 l) in
     let apart : other % 64 ≢ number % 64 = λ f. n (omega arith) in
     let old : word ≡ get_or bits (other / 64) 0 = rw e w in
-    ap (λ (x : ℕ). bit_at x (other % 64)) here ∙ bit_at_set_other w64 word (number % 64) (omega arith) (other % 64) apart ∙ ap (λ (x : ℕ). bit_at x (other % 64)) old
+    ap (λ (x : ℕ). bit_at x (other % 64)) here ∙ bit_at_set_other w64 word (number % 64) (omega arith) (other % 64) apart ∙ ap
+    (λ (x : ℕ). bit_at x (other % 64)) old
 
-set_apart : (bits : List ℕ) (word number other : ℕ) → number / 64 < length bits → word ≡ get_or bits (number / 64) 0 → other ≢ number → bit_at (get_or (set bits (number / 64) (bit_or word (1 * 2 ^ (number % 64) % 2 ^ 64))) (other / 64) 0) (other % 64) ≡ bit_at (get_or bits (other / 64) 0) (other % 64)
-set_apart bits word number other l w n = elim (cases_eq (other / 64) (number / 64)) as (λ _. bit_at (get_or (set bits (number / 64) (bit_or word (1 * 2 ^ (number % 64) % 2 ^ 64))) (other / 64) 0) (other % 64) ≡ bit_at (get_or bits (other / 64) 0) (other % 64)) [
-  | inl e ↦ set_equal bits word number other l w n e
-  | inr d ↦ ap (λ (x : ℕ). bit_at x (other % 64)) (get_or-set_other bits (number / 64) (other / 64) (bit_or word (1 * 2 ^ (number % 64) % 2 ^ 64)) 0 d)
-]
+set_apart : (bits : List ℕ) (word number other : ℕ) → number / 64 < length bits → word ≡ get_or bits (number / 64) 0 → other ≢ number
+    → bit_at (get_or (set bits (number / 64) (bit_or word (1 * 2 ^ (number % 64) % 2 ^ 64))) (other / 64) 0) (other % 64) ≡ bit_at (get_or bits (other / 64) 0) (other % 64)
+set_apart bits word number other l w n = elim (cases_eq (other / 64) (number / 64)) as
+    (λ _. bit_at (get_or (set bits (number / 64) (bit_or word (1 * 2 ^ (number % 64) % 2 ^ 64))) (other / 64) 0) (other % 64) ≡ bit_at (get_or bits (other / 64) 0) (other % 64)) [
+      | inl e ↦ set_equal bits word number other l w n e
+      | inr d ↦ ap (λ (x : ℕ). bit_at x (other % 64)) (get_or-set_other bits (number / 64) (other / 64) (bit_or word (1 * 2 ^ (number % 64) % 2 ^ 64)) 0 d)
+    ]
 
-pub set_others : (bits : List ℕ) (word number : ℕ) → number / 64 < length bits → word ≡ get_or bits (number / 64) 0 → (other : ℕ) → other ≢ number → IsSet (set bits (number / 64) (bit_or word (1 * 2 ^ (number % 64) % 2 ^ 64))) other ↔ IsSet bits other
+pub set_others : (bits : List ℕ) (word number : ℕ) → number / 64 < length bits → word ≡ get_or bits (number / 64) 0 → (other : ℕ)
+    → other ≢ number → IsSet (set bits (number / 64) (bit_or word (1 * 2 ^ (number % 64) % 2 ^ 64))) other ↔ IsSet bits other
 set_others bits word number l w other n =
     let same = set_apart bits word number other l w n in
     (λ s. sym same ∙ s, λ s. same ∙ s)
@@ -39,7 +46,9 @@ marked_wider bits wider numbers a same = record {
 }
 
 -- one number more
-pub marked_more : (bits wider new numbers : List ℕ) (number : ℕ) → AreMarked bits numbers → ((other : ℕ) → IsSet wider other ↔ IsSet bits other) → IsSet new number → ((other : ℕ) → other ≢ number → IsSet new other ↔ IsSet wider other) → AreMarked new (numbers ++ number ∷ [])
+pub marked_more : (bits wider new numbers : List ℕ) (number : ℕ) → AreMarked bits numbers
+    → ((other : ℕ) → IsSet wider other ↔ IsSet bits other) → IsSet new number
+    → ((other : ℕ) → other ≢ number → IsSet new other ↔ IsSet wider other) → AreMarked new (numbers ++ number ∷ [])
 marked_more bits wider new numbers number a same here others = record {
   marked = λ other. elim (cases_eq other number) as (λ _. IsSet new other ↔ Contains (numbers ++ number ∷ []) other) [
     | inl e ↦ (λ s. rw e (Contains-push numbers number), λ h. rw e here)
@@ -64,7 +73,9 @@ contains_none k h = let l = h.1 in omega arith
 abbrev pub SetWithin : List ℕ → List ℕ → Type 0
 SetWithin bits numbers = (k : ℕ) → IsSet bits k → Contains numbers k
 
-pub clear_step : (old new numbers : List ℕ) (i number : ℕ) → i < length numbers → number ≡ get_or numbers i 0 → SetWithin old (drop i numbers) → ((k : ℕ) → IsSet new k → (IsSet old k × (k / 64 ≢ number / 64))) → SetWithin new (drop (i + 1) numbers)
+pub clear_step : (old new numbers : List ℕ) (i number : ℕ) → i < length numbers → number ≡ get_or numbers i 0
+    → SetWithin old (drop i numbers) → ((k : ℕ) → IsSet new k → (IsSet old k × (k / 64 ≢ number / 64)))
+    → SetWithin new (drop (i + 1) numbers)
 clear_step old new numbers i number l e h c k s =
     let was = c k s in
     let now : Contains (get_or numbers i 0 ∷ drop (i + 1) numbers) k = rw (drop_more numbers i 0 l) at (h k was.0) in

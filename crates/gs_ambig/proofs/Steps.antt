@@ -15,19 +15,22 @@ fits_push : (edges : List Edge) (edge : Edge) (symbol state : ℕ) → Fits (edg
 fits_push [] edge symbol state (inl f) = inr f
 fits_push [] edge symbol state (inr f) = absurd f
 fits_push (first ∷ edges) edge symbol state (inl f) = inl (inl f)
-fits_push (first ∷ edges) edge symbol state (inr f) = elim (fits_push edges edge symbol state f) as (λ _. Fits (first ∷ edges) symbol state ⊎ FitsEdge edge symbol state) [
-  | inl e ↦ inl (inr e)
-  | inr e ↦ inr e
-]
+fits_push (first ∷ edges) edge symbol state (inr f) = elim (fits_push edges edge symbol state f) as
+    (λ _. Fits (first ∷ edges) symbol state ⊎ FitsEdge edge symbol state) [
+      | inl e ↦ inl (inr e)
+      | inr e ↦ inr e
+    ]
 
 -- edges that fit among the first ones and one more
-pub fits_more : (edges : List Edge) (i : ℕ) (edge : Edge) (symbol state : ℕ) → i < length edges → edge ≡ get_or edges i edge → Fits (take (i + 1) edges) symbol state → Fits (take i edges) symbol state ⊎ FitsEdge edge symbol state
+pub fits_more : (edges : List Edge) (i : ℕ) (edge : Edge) (symbol state : ℕ) → i < length edges → edge ≡ get_or edges i edge
+    → Fits (take (i + 1) edges) symbol state → Fits (take i edges) symbol state ⊎ FitsEdge edge symbol state
 fits_more edges i edge symbol state l e f =
     let front : take (i + 1) edges ≡ take i edges ++ edge ∷ [] = take_more edges i edge l ∙ ap (λ (x : Edge). take i edges ++ x ∷ []) (sym e) in
     fits_push (take i edges) edge symbol state (rw front at f)
 
 -- an edge of the list fits
-pub fits_at : (edges : List Edge) (i : ℕ) (edge : Edge) (symbol : ℕ) → i < length edges → edge ≡ get_or edges i edge → edge.lo ≤ symbol → symbol ≤ edge.hi → Fits edges symbol edge.to
+pub fits_at : (edges : List Edge) (i : ℕ) (edge : Edge) (symbol : ℕ) → i < length edges → edge ≡ get_or edges i edge → edge.lo ≤ symbol
+    → symbol ≤ edge.hi → Fits edges symbol edge.to
 fits_at [] i edge symbol l e low high = absurd (omega arith)
 fits_at (first ∷ edges) zero edge symbol l e low high = inl (rw e at low, rw e at high, ap (λ (x : Edge). x.to) (sym e))
 fits_at (first ∷ edges) (suc i) edge symbol l e low high = inr (fits_at edges i edge symbol (omega arith) e low high)

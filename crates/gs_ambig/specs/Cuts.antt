@@ -7,7 +7,7 @@ abbrev pub cut : ℕ → List ℕ → List Edge → List (List Edge)
 cut from [] edges = []
 cut from (end ∷ ends) edges = take (end - from) (drop from edges) ∷ cut end ends edges
 
--- the places ascend from this one on, and the last is the length
+-- holds if the places ascend from this one on, and the last is the length
 abbrev pub Cuts : ℕ → List ℕ → ℕ → Type 0
 Cuts from [] total = from ≡ total
 Cuts from (end ∷ ends) total = (from ≤ end) × Cuts end ends total

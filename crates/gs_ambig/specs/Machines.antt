@@ -17,20 +17,20 @@ states_of form = length form.table
 abbrev pub accept_of : AutoForm → ℕ
 accept_of form = slice_index form.borders (length form.borders - 1)
 
--- trusted, own: an edge from a state leads to a higher existing one and over no border
+-- trusted, own: holds if `edge` leads from `state` to a higher one of the `states` and over no border
 abbrev pub is_onward : ℕ → List ℕ → ℕ → Edge → Bool
 is_onward states borders state edge = nat_lt state edge.to && nat_lt edge.to states && list_all (λ border. nat_le border state || nat_le edge.to border) borders
 
--- trusted, own: each edge of each state leads to a higher existing state and over no border
+-- trusted, own: holds if each edge of each state of `table` leads to a higher existing state and over no border
 abbrev pub AreOnward : List ℕ → List (List Edge) → Type 0
 AreOnward borders table = (state : ℕ) → AllPass (is_onward (length table) borders state) (edges_at table state)
 
--- trusted, own: the first n numbers ascend strictly
+-- trusted, own: holds if the first `n` of `numbers` ascend strictly
 abbrev pub AscendBefore : List ℕ → ℕ → Type 0
 AscendBefore numbers n = (k : ℕ) → k + 1 < n → slice_index numbers k < slice_index numbers (k + 1)
 
--- trusted, own: The rules of a machine: each edge leads to a higher existing state and over no border; there is a border, and
--- the borders are states and ascend strictly.
+-- trusted, own: Holds if each edge leads to a higher existing state and over no border. There is a border; the borders ascend
+-- strictly, and the last is a state.
 pub record IsMachine (form : AutoForm) : Type 0 where
   pub onward : AreOnward form.borders form.table
   pub bordered : 0 < length form.borders

@@ -12,6 +12,6 @@ auto_form table borders = record { table = table; borders = borders }
 abbrev pub start_of : AutoForm → ℕ
 start_of form = slice_index form.borders 0
 
--- trusted, own: a run on the list of symbols, given by the states after the start, that ends in the accepting state
+-- trusted, own: holds if `run`, the states after the start, is a walk on `symbols` that ends in the accepting state
 abbrev pub Accepts : AutoForm → List ℕ → List ℕ → Type 0
 Accepts form run symbols = Walk form.table (start_of form) run symbols (accept_of form)

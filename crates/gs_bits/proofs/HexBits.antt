@@ -128,7 +128,8 @@ digit_table : agree_below (λ d. eqb (slice_index upper_digits d) (hex_digit d))
 digit_table = refl
 
 upper_digit : (d : ℕ) → d < 16 → slice_index upper_digits d ≡ hex_digit d
-upper_digit d h = eqb-true (slice_index upper_digits d) (hex_digit d) (agree_below_at (λ d. eqb (slice_index upper_digits d) (hex_digit d)) (λ _. true) 16 d digit_table h)
+upper_digit d h = eqb-true (slice_index upper_digits d) (hex_digit d)
+    (agree_below_at (λ d. eqb (slice_index upper_digits d) (hex_digit d)) (λ _. true) 16 d digit_table h)
 
 pub hex_of_four : (v : ℕ) (bits : List ℕ) → hex_of_bits (bits_of 4 v ++ bits) ≡ hex_digit (v % 16) ∷ hex_of_bits bits
 unfolding bits_of

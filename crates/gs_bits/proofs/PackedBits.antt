@@ -240,7 +240,8 @@ unfolding bits_of_bytes
 spread_none = refl
 
 -- the bits of a buffer are before those of its bytes
-pub front_spread : (len q : ℕ) (bytes symbols : List ℕ) → len ≤ 8 * length bytes → len ≤ 8 * q → take (8 * length (take q bytes)) symbols ≡ bits_of_bytes (take q bytes)
+pub front_spread : (len q : ℕ) (bytes symbols : List ℕ) → len ≤ 8 * length bytes → len ≤ 8 * q
+    → take (8 * length (take q bytes)) symbols ≡ bits_of_bytes (take q bytes)
     → take len symbols ≡ packed_bits len bytes
 front_spread len q bytes symbols l m e =
     let count = length-take q bytes in

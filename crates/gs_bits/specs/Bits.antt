@@ -2,7 +2,7 @@
 use Rattle.std.specs.Prelude.{ℕ, ◌+◌, ◌*◌, ◌^◌, ◌<◌, List, [], ◌∷◌, length, zero, suc, All}
 use Rattle.std.specs.Int.{bit_at}
 
--- trusted, TDS 2.0, section 14.2: each item is 0 or 1
+-- trusted, TDS 2.0, section 14.2: holds if each item of `bits` is 0 or 1
 abbrev pub AreBits : List ℕ → Type 0
 AreBits bits = All (λ b. b < 2) bits
 

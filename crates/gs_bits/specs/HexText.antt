@@ -4,7 +4,7 @@ use Rattle.std.specs.List.{AllPass}
 use Rattle.gs_chars.specs.Escapes.{hex_value, hex_digit}
 use Rattle.gs_bits.specs.Bits.{bits_of, number_of}
 
--- trusted, own: a byte is a hexadecimal digit of either case
+-- trusted, own: holds if the byte `c` is a hexadecimal digit of either case
 abbrev pub is_hex_digit : ℕ → Bool
 is_hex_digit c = is_some (hex_value c)
 
@@ -22,17 +22,17 @@ abbrev pub hex_of_bits : List ℕ → List ℕ
 hex_of_bits (a ∷ b ∷ c ∷ d ∷ bits) = hex_digit (number_of (a ∷ b ∷ c ∷ d ∷ [])) ∷ hex_of_bits bits
 hex_of_bits _ = []
 
--- trusted, own: the first byte that is not a digit is at this place
+-- trusted, own: holds if the first byte of `text` that is not a hexadecimal digit is at `place`
 pub record FirstBadDigit (text : List ℕ) (place : ℕ) : Type 0 where
   pub within : place < length text
   pub bad : hex_value (slice_index text place) ≡ None
   pub digits_before : AllPass is_hex_digit (take place text)
 
--- trusted, own: holds if the text has the length of whole bytes, and these are more than `n`
+-- trusted, own: holds if `text` has the length of more than `most` whole bytes
 abbrev pub NeedsMoreThan : ℕ → List ℕ → Type 0
 NeedsMoreThan most text = (length text % 2 ≡ 0) × (2 * most < length text)
 
--- trusted, own: holds if the text has the length of at most `n` whole bytes; this is the place of its first byte that is not a
--- hexadecimal digit
+-- trusted, own: holds if `text` has the length of at most `most` whole bytes, and its first byte that is not a hexadecimal
+-- digit is at `place`
 abbrev pub HasBadDigitWithin : ℕ → List ℕ → ℕ → Type 0
 HasBadDigitWithin most text place = (length text % 2 ≡ 0) × (length text ≤ 2 * most) × FirstBadDigit text place

@@ -35,10 +35,12 @@ use Rattle.gs_class.proofs.KeptClasses.{KeptClass}
 
 -- ---- fields that fit a class
 
-characters_there : (found : Option AiRow) (element : AiRow) (most : ℕ) → found ≡ Some element → characters_of element.parts ≡ Some most → option_map_or (λ (row : AiRow). is_some (characters_of row.parts)) found false ≡ true
+characters_there : (found : Option AiRow) (element : AiRow) (most : ℕ) → found ≡ Some element → characters_of element.parts ≡ Some most
+    → option_map_or (λ (row : AiRow). is_some (characters_of row.parts)) found false ≡ true
 characters_there found element most e f = rw (e, f) refl
 
-pub serial_kept : (ais : List AiRow) (row : ClassRow) (kept : KeptClass ais row) → is_serial_of ais kept.key (Digits (kept.k - 1) Nothing) (Ai row.element) ≡ true
+pub serial_kept : (ais : List AiRow) (row : ClassRow) (kept : KeptClass ais row)
+    → is_serial_of ais kept.key (Digits (kept.k - 1) Nothing) (Ai row.element) ≡ true
 serial_kept ais row kept = rw (kept.lists, characters_there (find (has_code row.element) ais) kept.element kept.most kept.element_found kept.room.characters) refl
 
 -- the kind that a class is satisfies the rules of kinds
@@ -54,15 +56,18 @@ kind_kept ais row kept = record {
   further = refl;
 }
 
-room_is : (ais : List AiRow) (row : ClassRow) (kept : KeptClass ais row) → serial_room ais (Digits (kept.k - 1) Nothing) (Ai row.element) ≡ Some (Characters kept.most)
+room_is : (ais : List AiRow) (row : ClassRow) (kept : KeptClass ais row)
+    → serial_room ais (Digits (kept.k - 1) Nothing) (Ai row.element) ≡ Some (Characters kept.most)
 room_is ais row kept = rw (kept.element_found, kept.room.characters) refl
 
 -- each value of the element counts
-pub none_stands : (ais : List AiRow) (row : ClassRow) (kept : KeptClass ais row) (value : List ℕ) → stands_for_none ais (record { code = row.element; value = value }) ≡ false
+pub none_stands : (ais : List AiRow) (row : ClassRow) (kept : KeptClass ais row) (value : List ℕ) → stands_for_none ais
+    (record { code = row.element; value = value }) ≡ false
 none_stands ais row kept value = rw (kept.element_found, kept.room.none) refl
 
 -- the fields of the values of a row's items fit its class
-pub fits_class : (ais : List AiRow) (row : ClassRow) (kept : KeptClass ais row) (values words : List (List ℕ)) → EachWord (alone (present row.items)) values words → FitsClass ais (class_of row) (said_by (class_of row) values)
+pub fits_class : (ais : List AiRow) (row : ClassRow) (kept : KeptClass ais row) (values words : List (List ℕ))
+    → EachWord (alone (present row.items)) values words → FitsClass ais (class_of row) (said_by (class_of row) values)
 fits_class ais row kept values words each =
     let parts = present row.items in
     let held : AreHeld false parts values words = record { each = each; good = kept.bounds.none_bad } in
@@ -93,21 +98,25 @@ module _ (ais : List AiRow) (class : Class) (said : KeyFields) (fits : FitsClass
       let parts : parts_at ais class.key ≡ NumCheck fits.k ∷ [] = rw (fits.fit.of_kind.found, fits.parts) refl in
       rw (parts, fits.fit.further.0, fits.fit.further.1) (append-nil (with_check (key_digits class.lead said.prefix said.rest)))
 
-  key_is : (code value : List ℕ) → code ≡ class.key → value ≡ with_check (key_digits class.lead said.prefix said.rest) → record { code = code; value = value } ≡ key_pair ais (kind_of class) said
+  key_is : (code value : List ℕ) → code ≡ class.key → value ≡ with_check (key_digits class.lead said.prefix said.rest)
+      → record { code = code; value = value } ≡ key_pair ais (kind_of class) said
   key_is code value a b = rw (a, b, value_is) refl
 
-  element_is : (code value : List ℕ) → code ≡ class.element → value ≡ said.serial → pairs_in (Some (record { code = code; value = value })) ≡ serial_pairs (Ai class.element) said.serial
+  element_is : (code value : List ℕ) → code ≡ class.element → value ≡ said.serial → pairs_in
+      (Some (record { code = code; value = value })) ≡ serial_pairs (Ai class.element) said.serial
   element_is code value a b = rw (a, b) refl
 
   -- the key and the element are those of its kind
-  pub is_key : (code value element lot : List ℕ) → code ≡ class.key → value ≡ with_check (key_digits class.lead said.prefix said.rest) → element ≡ class.element → lot ≡ said.serial
+  pub is_key : (code value element lot : List ℕ) → code ≡ class.key → value ≡ with_check (key_digits class.lead said.prefix said.rest)
+      → element ≡ class.element → lot ≡ said.serial
       → IsQualifiedKey ais (record { code = code; value = value }) (Some (record { code = element; value = lot }))
   is_key code value element lot a b d e =
       let own : Pair = record { code = code; value = value } in
       let other : Pair = record { code = element; value = lot } in
       is_qualified ais (kind_of class) said own (Some other) (key_is code value a b) (element_is element lot d e) fits.fit rules
 
-  pub identity_is : (code value element lot : List ℕ) (identity : Elements) → code ≡ class.key → value ≡ with_check (key_digits class.lead said.prefix said.rest) → element ≡ class.element → lot ≡ said.serial
+  pub identity_is : (code value element lot : List ℕ) (identity : Elements) → code ≡ class.key
+      → value ≡ with_check (key_digits class.lead said.prefix said.rest) → element ≡ class.element → lot ≡ said.serial
       → identity_of_pairs ais (record { code = code; value = value } ∷ pairs_in (Some (record { code = element; value = lot }))) ≡ Ok identity → identity ≡ lay ais (kind_of class) said
   identity_is code value element lot identity a b d e made =
       let own : Pair = record { code = code; value = value } in

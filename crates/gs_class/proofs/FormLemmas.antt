@@ -48,11 +48,14 @@ module _ (d : Data) where
 
   pub object_rejected : (e : ClassLoadFault) → IsFormFirst object_errors (Err e) → IsFormFirst (form_errors d) (Err e)
   unfolding form_errors
-  object_rejected e h = rw (map-append Json object_errors (rows_errors d)) (first_in_front Memory (map Json object_errors) (map Json (rows_errors d)) (tt {0}) (tt {0}) e h)
+  object_rejected e h = rw (map-append Json object_errors (rows_errors d))
+      (first_in_front Memory (map Json object_errors) (map Json (rows_errors d)) (tt {0}) (tt {0}) e h)
 
-  pub rows_judged : (answer : Result (Unit {0}) ClassLoadFault) (y : Unit {0}) → IsFormFirst object_errors (Ok y) → IsFormFirst (rows_errors d) answer → IsFormFirst (form_errors d) answer
+  pub rows_judged : (answer : Result (Unit {0}) ClassLoadFault) (y : Unit {0}) → IsFormFirst object_errors (Ok y)
+      → IsFormFirst (rows_errors d) answer → IsFormFirst (form_errors d) answer
   unfolding form_errors
-  rows_judged answer y none h = rw (map-append Json object_errors (rows_errors d)) (first_behind Memory (map Json object_errors) (map Json (rows_errors d)) (tt {0}) y (tt {0}) answer none h)
+  rows_judged answer y none h = rw (map-append Json object_errors (rows_errors d))
+      (first_behind Memory (map Json object_errors) (map Json (rows_errors d)) (tt {0}) y (tt {0}) answer none h)
 
 -- ---- the document that bytes are
 

@@ -3,9 +3,9 @@ use Rattle.std.proofs.Common.{◌≡◌, ℕ, ◌+◌, ◌-◌, ◌≤◌, ◌&&
 use Rattle.std.specs.Prelude.{option_to_list}
 use Rattle.std.specs.List.{enumerate_from, flat_map, find, list_all, list_any}
 use Rattle.std.specs.Option.{option_and_then, option_map_or}
-use Rattle.std.proofs.lemmas.Bool.{leb-true}
+use Rattle.std.proofs.lemmas.Bool.{leb-true, and_parts, or_parts}
 use Rattle.std.proofs.lemmas.Bool.Decides.{nat_tests}
-use Rattle.gs_chars.proofs.TruthsAndLists.{and_parts, nil_parts, or_parts, some_passes}
+use Rattle.gs_chars.proofs.TruthsAndLists.{nil_parts, some_passes}
 use Rattle.gs_chars.specs.Answers.{error_if}
 use Rattle.gs_chars.specs.Characters.{are_visible}
 use Rattle.gs_ai.specs.declared.part.Part.{Part}
@@ -14,7 +14,6 @@ use Rattle.gs_ai.specs.declared.row.AiRow.{AiRow}
 use Rattle.gs_ai.specs.Tables.{is_empty, is_key}
 use Rattle.gs_ai.specs.Values.{has_code}
 use Rattle.gs_ai.proofs.RuleLemmas.{none_at}
-use Rattle.gs_ai.proofs.Searches.{cons_none}
 use Rattle.gs_grammar.specs.Items.{is_bad, size_of_all}
 use Rattle.gs_grammar.specs.Levels.{KeepBounds}
 use Rattle.gs_grammar.specs.Limits.{most_symbols}
@@ -30,6 +29,7 @@ use Rattle.gs_class.specs.declared.error.ClassLoadFault.{ClassLoadFault}
 use Rattle.gs_class.specs.declared.error.ClassLoadFault.TheVariants.{Limit, BadItem, Size, Mismatch, Duplicate}
 use Rattle.gs_class.specs.declared.document.ClassRow.{ClassRow}
 use Rattle.gs_class.specs.Rules.{agrees, are_many, class_rejections, digits_alone, element_room, fits_key, fits_parts, is_bad_item, is_class, is_class_item, is_same_row, keeps_items, row_rejections}
+use Rattle.gs_chars.proofs.Searches.{cons_none}
 
 -- ---- parts of rejections
 
@@ -70,7 +70,9 @@ pub record IsRoom (row : AiRow) (most : ℕ) : Type 0 where
   pub none : is_empty row.none ≡ true
   pub characters : characters_of row.parts ≡ Some most
 
-is_room : (found : Option AiRow) (most : ℕ) → option_and_then (λ (row : AiRow). if is_empty row.none then characters_of row.parts else None) found ≡ Some most → (row : AiRow) × (found ≡ Some row) × IsRoom row most
+is_room : (found : Option AiRow) (most : ℕ)
+    → option_and_then (λ (row : AiRow). if is_empty row.none then characters_of row.parts else None) found ≡ Some most
+    → (row : AiRow) × (found ≡ Some row) × IsRoom row most
 is_room None most h = absurd (let e : None ≡ Some most = h in cc)
 is_room (Some row) most h = (row, refl, by (is_empty row.none) refl h)
   where
@@ -171,7 +173,8 @@ passed ais rows i row h =
       none_same = none_listed (λ j. Duplicate j i) (position (is_same_row row) (take i rows)) first.1;
     }
 
-not_rejected_at : (ais : List AiRow) (rows : List ClassRow) (i : ℕ) (row : ClassRow) → class_rejections ais rows ≡ [] → slice_get rows i ≡ Some row → NotRejected ais (take i rows) row
+not_rejected_at : (ais : List AiRow) (rows : List ClassRow) (i : ℕ) (row : ClassRow) → class_rejections ais rows ≡ []
+    → slice_get rows i ≡ Some row → NotRejected ais (take i rows) row
 unfolding class_rejections
 not_rejected_at ais rows i row none at =
     let zero_plus : 0 + i ≡ i = omega arith in
@@ -180,7 +183,8 @@ not_rejected_at ais rows i row none at =
     passed ais rows i row (rw zero_plus at here)
 
 -- a row that no rule rejects
-pub class_at : (ais : List AiRow) (rows : List ClassRow) (i : ℕ) (row : ClassRow) → class_rejections ais rows ≡ [] → slice_get rows i ≡ Some row → KeptClass ais row
+pub class_at : (ais : List AiRow) (rows : List ClassRow) (i : ℕ) (row : ClassRow) → class_rejections ais rows ≡ []
+    → slice_get rows i ≡ Some row → KeptClass ais row
 class_at ais rows i row none at =
     let its = not_rejected_at ais rows i row none at in
     let rules = rules_kept ais (take i rows) row its.is in
@@ -211,11 +215,13 @@ class_at ais rows i row none at =
     }
 
 -- the rows before a row agree with it
-pub agree_at : (ais : List AiRow) (rows : List ClassRow) (i : ℕ) (row : ClassRow) → class_rejections ais rows ≡ [] → slice_get rows i ≡ Some row → list_all (agrees row) (take i rows) ≡ true
+pub agree_at : (ais : List AiRow) (rows : List ClassRow) (i : ℕ) (row : ClassRow) → class_rejections ais rows ≡ []
+    → slice_get rows i ≡ Some row → list_all (agrees row) (take i rows) ≡ true
 agree_at ais rows i row none at = (rules_kept ais (take i rows) row (not_rejected_at ais rows i row none at).is).agree
 
 -- no row before a row is the same
-pub none_same_at : (ais : List AiRow) (rows : List ClassRow) (i : ℕ) (row : ClassRow) → class_rejections ais rows ≡ [] → slice_get rows i ≡ Some row → position (is_same_row row) (take i rows) ≡ None
+pub none_same_at : (ais : List AiRow) (rows : List ClassRow) (i : ℕ) (row : ClassRow) → class_rejections ais rows ≡ []
+    → slice_get rows i ≡ Some row → position (is_same_row row) (take i rows) ≡ None
 none_same_at ais rows i row none at = (not_rejected_at ais rows i row none at).none_same
 
 -- the conditions for making a class of its row
@@ -224,7 +230,8 @@ pub record CanBeMade (row : ClassRow) : Type 0 where
   pub gcp : row.gcp ≤ 12
   pub items : KeepBounds false (alone (present row.items))
 
-pub can_be_made : (ais : List AiRow) (rows : List ClassRow) (i : ℕ) (row : ClassRow) → class_rejections ais rows ≡ [] → slice_get rows i ≡ Some row → CanBeMade row
+pub can_be_made : (ais : List AiRow) (rows : List ClassRow) (i : ℕ) (row : ClassRow) → class_rejections ais rows ≡ []
+    → slice_get rows i ≡ Some row → CanBeMade row
 can_be_made ais rows i row none at =
     let kept = class_at ais rows i row none at in
     record { lead = leb-true row.lead 1 kept.lead; gcp = gcp_kept (Digits (kept.k - 1) Nothing) row.lead row.gcp (present row.items) kept.gcp; items = kept.bounds }

@@ -8,7 +8,6 @@ use Rattle.std.proofs.lemmas.List.Elements.{All-head}
 use Rattle.std.proofs.lemmas.List.Sums.{sum_by-cons}
 use Rattle.gs_chars.specs.Characters.{are_digits, is_digit}
 use Rattle.gs_chars.specs.CheckDigits.{check_digit_of}
-use Rattle.gs_chars.proofs.TruthsAndLists.{and_parts, and_true}
 use Rattle.gs_ai.specs.declared.part.Part.TheVariants.{NumCheck}
 use Rattle.gs_ai.specs.declared.row.AiRow.{AiRow}
 use Rattle.gs_ai.specs.Parts.{greatest_length, least_length}
@@ -24,13 +23,14 @@ use Rattle.gs_tables.specs.Rules.{is_digits, is_gcp, is_one, keeps_gcp}
 use Rattle.gs_epc.proofs.LaidAgain.{parts_kept}
 use Rattle.gs_class.specs.declared.document.ClassRow.{ClassRow}
 use Rattle.gs_class.proofs.KeptClasses.{KeptClass}
+use Rattle.std.proofs.lemmas.Bool.{and_from, and_parts}
 
 -- ---- digits
 
 digits_taken : (n : ℕ) (xs : List ℕ) → are_digits xs ≡ true → are_digits (take n xs) ≡ true
 digits_taken zero xs h = refl
 digits_taken (suc n) [] h = refl
-digits_taken (suc n) (x ∷ xs) h = let p = and_parts (is_digit x) (are_digits xs) h in and_true (is_digit x) (are_digits (take n xs)) p.0 (digits_taken n xs p.1)
+digits_taken (suc n) (x ∷ xs) h = let p = and_parts (is_digit x) (are_digits xs) h in and_from (is_digit x) (are_digits (take n xs)) p.0 (digits_taken n xs p.1)
 
 digits_dropped : (n : ℕ) (xs : List ℕ) → are_digits xs ≡ true → are_digits (drop n xs) ≡ true
 digits_dropped zero xs h = h
@@ -39,7 +39,8 @@ digits_dropped (suc n) (x ∷ xs) h = digits_dropped n xs (and_parts (is_digit x
 
 digits_joined : (xs ys : List ℕ) → are_digits xs ≡ true → are_digits ys ≡ true → are_digits (xs ++ ys) ≡ true
 digits_joined [] ys a b = b
-digits_joined (x ∷ xs) ys a b = let p = and_parts (is_digit x) (are_digits xs) a in and_true (is_digit x) (are_digits (xs ++ ys)) p.0 (digits_joined xs ys p.1 b)
+digits_joined (x ∷ xs) ys a b = let p = and_parts (is_digit x) (are_digits xs) a in and_from (is_digit x) (are_digits (xs ++ ys)) p.0
+    (digits_joined xs ys p.1 b)
 
 -- ---- the value of a key
 
@@ -62,7 +63,8 @@ key_value_is k value none =
     record { count = count; digits = rw whole at piece }
 
 -- the value of the key of an identity, by the row of a class
-pub key_of_identity : (ais : List AiRow) (row : ClassRow) (kept : KeptClass ais row) (identity : Elements) → IsMadeWith ais identity → row.key ≡ identity.key.code → IsKeyValue kept.k identity.key.value
+pub key_of_identity : (ais : List AiRow) (row : ClassRow) (kept : KeptClass ais row) (identity : Elements) → IsMadeWith ais identity
+    → row.key ≡ identity.key.code → IsKeyValue kept.k identity.key.value
 key_of_identity ais row kept identity made same =
     let fits = (All-head (IsInOrder ais) identity.key _ made.in_order).fits in
     let key_fits : value_error ais row.key identity.key.value ≡ None = rw (← same) at fits in

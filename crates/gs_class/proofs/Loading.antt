@@ -37,7 +37,8 @@ none_read bytes none = elim (true_or_false (is_utf8 bytes)) [
   | inr t ↦ rw t refl
 ]
 
-pub not_json : (ais : List AiRow) (bytes : List ℕ) (error : JsonFault) → (error ≡ json.Syntax → IsUtf8 bytes → read_text bytes ≡ None) → (error ≡ json.Syntax) ⊎ (error ≡ json.Memory) → OrMemory (LoadAnswer ais bytes) (Err (of_json error))
+pub not_json : (ais : List AiRow) (bytes : List ℕ) (error : JsonFault) → (error ≡ json.Syntax → IsUtf8 bytes → read_text bytes ≡ None)
+    → (error ≡ json.Syntax) ⊎ (error ≡ json.Memory) → OrMemory (LoadAnswer ais bytes) (Err (of_json error))
 not_json ais bytes error none (inr m) = rw m (inl refl)
 not_json ais bytes error none (inl s) = rw (s, no_document ais bytes (none_read bytes (none s))) (inr refl)
 
@@ -45,7 +46,8 @@ document_ruled : (ais : List AiRow) (bytes : List ℕ) (d : Data) → document_o
 unfolding ruled_bytes
 document_ruled ais bytes d e = rw e refl
 
-pub document_is : (ais : List AiRow) (bytes : List ℕ) (d : Data) (answer : Result ClassRows ClassLoadFault) → IsUtf8 bytes × (read_text bytes ≡ Some d) → OrMemory (Judged (ruled_document ais d)) answer → OrMemory (LoadAnswer ais bytes) answer
+pub document_is : (ais : List AiRow) (bytes : List ℕ) (d : Data) (answer : Result ClassRows ClassLoadFault)
+    → IsUtf8 bytes × (read_text bytes ≡ Some d) → OrMemory (Judged (ruled_document ais d)) answer → OrMemory (LoadAnswer ais bytes) answer
 document_is ais bytes d answer is h = rw (document_ruled ais bytes d (is_document bytes d is)) h
 
 -- ---- the document
@@ -66,14 +68,17 @@ module _ (ais : List AiRow) (d : Data) where
   unfolding ruled_document
   version_rules e none h = rw none (rejected_in_front version (class_rejections ais (rows_of d)) (tt {0}) (set_of (rows_of d)) e h)
 
-  pub version_rejected : (e : ClassLoadFault) (u : Unit {0}) → IsFormFirst (form_errors d) (Ok u) → IsFirst version (Err e) → OrMemory (Judged (ruled_document ais d)) (Err e)
+  pub version_rejected : (e : ClassLoadFault) (u : Unit {0}) → IsFormFirst (form_errors d) (Ok u) → IsFirst version (Err e)
+      → OrMemory (Judged (ruled_document ais d)) (Err e)
   version_rejected e u form h = rw (← version_rules e (nothing_in_front Memory (map Json (form_errors d)) (tt {0}) u form) h) (inr refl)
 
   rows_rule : map Json (form_errors d) ≡ [] → version ≡ [] → ruled_document ais d ≡ ruled_rows ais (rows_of d)
   unfolding ruled_document
   rows_rule none same = rw (none, same) refl
 
-  pub rows_answer : (rows : List ClassRow) (u v : Unit {0}) (answer : Result ClassRows ClassLoadFault) → IsFormFirst (form_errors d) (Ok u) → IsFirst version (Ok v) → rows ≡ rows_of d → OrMemory (Judged (ruled_rows ais rows)) answer → OrMemory (Judged (ruled_document ais d)) answer
+  pub rows_answer : (rows : List ClassRow) (u v : Unit {0}) (answer : Result ClassRows ClassLoadFault) → IsFormFirst (form_errors d) (Ok u)
+      → IsFirst version (Ok v) → rows ≡ rows_of d → OrMemory (Judged (ruled_rows ais rows)) answer
+      → OrMemory (Judged (ruled_document ais d)) answer
   rows_answer rows u v answer form same read h =
       let none = nothing_in_front Memory (map Json (form_errors d)) (tt {0}) u form in
       let none' = no_rejections version (tt {0}) v same in
@@ -85,7 +90,8 @@ same_first : {X Y : Type 0} (a : List ClassLoadFault) (x : X) (y : Y) (e : Class
 same_first [] x y e h = absurd (let g : Err e ≡ Ok x = h in cc)
 same_first (f ∷ a) x y e h = let same : e ≡ f = cc in ap (λ (z : ClassLoadFault). Err z) same
 
-pub rows_rejected : (ais : List AiRow) (rows : List ClassRow) (e : ClassLoadFault) → IsFirst (class_rejections ais rows) (Err e) → OrMemory (Judged (ruled_rows ais rows)) (Err e)
+pub rows_rejected : (ais : List AiRow) (rows : List ClassRow) (e : ClassLoadFault) → IsFirst (class_rejections ais rows) (Err e)
+    → OrMemory (Judged (ruled_rows ais rows)) (Err e)
 rows_rejected ais rows e h = rw (← same_first (class_rejections ais rows) (tt {0}) (set_of rows) e h) (inr refl)
 
 pub rows_in_order : (ais : List AiRow) (rows : List ClassRow) (u : Unit {0}) → IsFirst (class_rejections ais rows) (Ok u) → class_rejections ais rows ≡ []
@@ -105,7 +111,8 @@ level_judged set (Size i) h = absurd h
 level_judged set (Mismatch i) h = absurd h
 level_judged set (Duplicate i j) h = absurd h
 
-pub level_rejected : (ais : List AiRow) (rows : List ClassRow) (level : LevelForm) (e : ClassLoadFault) → class_rejections ais rows ≡ [] → level ≡ (set_of rows).level → IsLevelJudged level (Err e) → OrMemory (Judged (ruled_rows ais rows)) (Err e)
+pub level_rejected : (ais : List AiRow) (rows : List ClassRow) (level : LevelForm) (e : ClassLoadFault) → class_rejections ais rows ≡ []
+    → level ≡ (set_of rows).level → IsLevelJudged level (Err e) → OrMemory (Judged (ruled_rows ais rows)) (Err e)
 level_rejected ais rows level e none same h = elim (level_judged (set_of rows) e (subst (λ (l : LevelForm). IsLevelJudged l (Err e)) same h)) [
   | inl m ↦ inl (ap (λ (x : ClassLoadFault). Err x) m)
   | inr j ↦ inr (rw (rows_ruled ais rows none) j)
@@ -114,13 +121,17 @@ level_rejected ais rows level e none same h = elim (level_judged (set_of rows) e
 abbrev with_parts : LevelForm → List Class → ClassRows
 with_parts level classes = record { level = level; classes = classes }
 
-made_is : (rows : List ClassRow) (level : LevelForm) (classes : List Class) → level ≡ (set_of rows).level → classes ≡ (set_of rows).classes → with_parts level classes ≡ set_of rows
+made_is : (rows : List ClassRow) (level : LevelForm) (classes : List Class) → level ≡ (set_of rows).level → classes ≡ (set_of rows).classes
+    → with_parts level classes ≡ set_of rows
 made_is rows level classes a b = rw (a, b) refl
 
-pub set_made : (ais : List AiRow) (rows : List ClassRow) (level : LevelForm) (classes : List Class) (u : Unit {0}) → class_rejections ais rows ≡ [] → level ≡ (set_of rows).level → classes ≡ (set_of rows).classes → IsLevelJudged level (Ok u) → OrMemory (Judged (ruled_rows ais rows)) (Ok (record { level = level; classes = classes }))
+pub set_made : (ais : List AiRow) (rows : List ClassRow) (level : LevelForm) (classes : List Class) (u : Unit {0})
+    → class_rejections ais rows ≡ [] → level ≡ (set_of rows).level → classes ≡ (set_of rows).classes → IsLevelJudged level (Ok u) → OrMemory
+    (Judged (ruled_rows ais rows)) (Ok (record { level = level; classes = classes }))
 set_made ais rows level classes u none a b clear =
     let own : IsClear (set_of rows) = rw a at clear in
     inr (rw (rows_ruled ais rows none) (made_is rows level classes a b, own))
 
-pub set_of_table : (ais : List AiRow) (rows : List ClassRow) (level : LevelForm) (classes : List Class) → class_rejections ais rows ≡ [] → level ≡ (set_of rows).level → classes ≡ (set_of rows).classes → IsOfTable ais (record { level = level; classes = classes })
+pub set_of_table : (ais : List AiRow) (rows : List ClassRow) (level : LevelForm) (classes : List Class) → class_rejections ais rows ≡ []
+    → level ≡ (set_of rows).level → classes ≡ (set_of rows).classes → IsOfTable ais (record { level = level; classes = classes })
 set_of_table ais rows level classes none a b = record { rows = rows; in_order = none; made = made_is rows level classes a b }

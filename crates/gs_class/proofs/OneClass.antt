@@ -21,14 +21,16 @@ use Rattle.gs_class.specs.Sets.{ClassRows, IsClear, kind_of}
 
 -- ---- one identity
 
-pub one_identity : (ais : List AiRow) (set : ClassRows) (text : List ℕ) (one other : Elements) → IsClear set → IsClass ais set text one → IsClass ais set text other → one ≡ other
+pub one_identity : (ais : List AiRow) (set : ClassRows) (text : List ℕ) (one other : Elements) → IsClear set → IsClass ais set text one
+    → IsClass ais set text other → one ≡ other
 one_identity ais set text one other clear a b =
     let level = item_lists set.level.options in
     let both = one_reading level text a.derivation.option b.derivation.option a.derivation.values b.derivation.values (only_derivation level text clear a.derivation) (only_derivation level text clear b.derivation) in
     let here : slice_get set.classes b.derivation.option ≡ Some a.class = rw both.0 at a.named in
     let classes : Some a.class ≡ Some b.class = sym here ∙ b.named in
     let class : a.class ≡ b.class = cc in
-    a.is ∙ ap (λ (c : Class). lay ais (kind_of c) (said_by c a.derivation.values)) class ∙ ap (λ (v : List (List ℕ)). lay ais (kind_of b.class) (said_by b.class v)) both.1 ∙ sym b.is
+    a.is ∙ ap (λ (c : Class). lay ais (kind_of c) (said_by c a.derivation.values)) class ∙ ap
+    (λ (v : List (List ℕ)). lay ais (kind_of b.class) (said_by b.class v)) both.1 ∙ sym b.is
 
 -- ---- one answer
 
@@ -40,7 +42,8 @@ share_answer : (set : ClassRows) (answer : Option Shared) → IsFirstShared set.
 share_answer set None h = (Ok set, (refl, h))
 share_answer set (Some shared) h = (Err (Ambiguous shared.first shared.second shared.text), h)
 
-pub some_judged : (ruled : Result ClassRows ClassLoadFault) → ((set : ClassRows) → ruled ≡ Ok set → AreGood set) → (answer : Result ClassRows ClassLoadFault) × Judged ruled answer
+pub some_judged : (ruled : Result ClassRows ClassLoadFault) → ((set : ClassRows) → ruled ≡ Ok set → AreGood set)
+    → (answer : Result ClassRows ClassLoadFault) × Judged ruled answer
 some_judged (Err error) good = (Err error, refl)
 some_judged (Ok set) good = let some = some_answer set.level (good set refl) in share_answer set some.0 some.1
 

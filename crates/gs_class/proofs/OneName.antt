@@ -1,8 +1,8 @@
 -- Classes of one name have one key and one element.
 use Rattle.std.proofs.Common.{◌≡◌, ℕ, zero, suc, ◌<◌, ◌==◌, ◌&&◌, Bool, true, List, [], ◌∷◌, take, Some, None, bytes_eq, find, slice_get, is_some, refl, sym, ap, subst, ◌∙◌, arith, inl, inr}
 use Rattle.std.specs.List.{list_all}
-use Rattle.std.proofs.lemmas.Bool.{cases_lt, cases_eq}
-use Rattle.gs_chars.proofs.TruthsAndLists.{and_parts, equal_bytes, get_take, same_bytes}
+use Rattle.std.proofs.lemmas.Bool.{cases_lt, cases_eq, and_parts}
+use Rattle.gs_chars.proofs.TruthsAndLists.{equal_bytes, get_take, same_bytes}
 use Rattle.gs_ai.specs.declared.row.AiRow.{AiRow}
 use Rattle.gs_ai.specs.Values.{has_code}
 use Rattle.gs_ident.specs.Elements.{Elements}
@@ -40,12 +40,14 @@ agree_pair row other h same =
     let pair = and_parts (bytes_eq row.key other.key) (bytes_eq row.element other.element) (and_parts (is_same_pair row other) (row.lead == other.lead) both).0 in
     record { key = equal_bytes row.key other.key pair.0; element = equal_bytes row.element other.element pair.1 }
 
-earlier_pair : (ais : List AiRow) (rows : List ClassRow) (i j : ℕ) (row other : ClassRow) → class_rejections ais rows ≡ [] → slice_get rows i ≡ Some row → slice_get rows j ≡ Some other → j < i → row.name ≡ other.name → IsOnePair row other
+earlier_pair : (ais : List AiRow) (rows : List ClassRow) (i j : ℕ) (row other : ClassRow) → class_rejections ais rows ≡ []
+    → slice_get rows i ≡ Some row → slice_get rows j ≡ Some other → j < i → row.name ≡ other.name → IsOnePair row other
 earlier_pair ais rows i j row other none a b low same =
     let there : slice_get (take i rows) j ≡ Some other = get_take rows i j low ∙ b in
     agree_pair row other (all_at (agrees row) (take i rows) j other (agree_at ais rows i row none a) there) same
 
-pub one_pair : (ais : List AiRow) (rows : List ClassRow) (i j : ℕ) (row other : ClassRow) → class_rejections ais rows ≡ [] → slice_get rows i ≡ Some row → slice_get rows j ≡ Some other → row.name ≡ other.name → IsOnePair row other
+pub one_pair : (ais : List AiRow) (rows : List ClassRow) (i j : ℕ) (row other : ClassRow) → class_rejections ais rows ≡ []
+    → slice_get rows i ≡ Some row → slice_get rows j ≡ Some other → row.name ≡ other.name → IsOnePair row other
 one_pair ais rows i j row other none a b same = elim (cases_lt j i) [
   | inl low ↦ earlier_pair ais rows i j row other none a b low same
   | inr high ↦ elim (cases_eq i j) [
@@ -61,7 +63,8 @@ one_pair ais rows i j row other none a b same = elim (cases_lt j i) [
 
 -- ---- the class that names an identity
 
-module _ (ais : List AiRow) (set : ClassRows) (identity : Elements) (of : IsOfTable ais set) (made : IsMadeWith ais identity) (class : Class) (found : find (is_named_by identity) set.classes ≡ Some class) where
+module _ (ais : List AiRow) (set : ClassRows) (identity : Elements) (of : IsOfTable ais set) (made : IsMadeWith ais identity)
+    (class : Class) (found : find (is_named_by identity) set.classes ≡ Some class) where
   naming_at : (i : ℕ) × (slice_get set.classes i ≡ Some class)
   naming_at = found_place (is_named_by identity) set.classes class found
 
@@ -69,7 +72,8 @@ module _ (ais : List AiRow) (set : ClassRows) (identity : Elements) (of : IsOfTa
   naming_key = equal_bytes class.key identity.key.code (and_parts (has_key identity class) _ (found_passes (is_named_by identity) set.classes class found)).0
 
   -- each class of its name has its key and its element
-  pub same_pair : (i : ℕ) (other : Class) → slice_get set.classes i ≡ Some other → bytes_eq class.name other.name ≡ true → (other.key ≡ identity.key.code) × (other.element ≡ class.element)
+  pub same_pair : (i : ℕ) (other : Class) → slice_get set.classes i ≡ Some other → bytes_eq class.name other.name ≡ true
+      → (other.key ≡ identity.key.code) × (other.element ≡ class.element)
   same_pair i other at named =
       let first = row_of_class ais set naming_at.0 of class naming_at.1 in
       let second = row_of_class ais set i of other at in

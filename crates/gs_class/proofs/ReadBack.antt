@@ -3,13 +3,12 @@ use Rattle.std.proofs.Common.{◌≡◌, ℕ, zero, suc, ◌+◌, ◌<◌, ◌==
 use Rattle.std.specs.Prelude.{All, Ok, option_and_then, option_map}
 use Rattle.std.specs.List.{list_any}
 use Rattle.std.specs.Option.{option_map_or}
-use Rattle.std.proofs.lemmas.Bool.{cases_lt, cases_eq, eqb-true}
+use Rattle.std.proofs.lemmas.Bool.{cases_lt, cases_eq, eqb-true, and_from, and_parts, not_from_true, not-true, false_from_ne_true}
 use Rattle.std.proofs.lemmas.Bool.Decides.{nat_tests}
 use Rattle.std.proofs.lemmas.List.Elements.{All-head, All-tail}
-use Rattle.gs_chars.proofs.TruthsAndLists.{and_parts, and_true, equal_bytes, false_from, false_from_not, get_take, not_true, same_bytes, true_or_false}
+use Rattle.gs_chars.proofs.TruthsAndLists.{equal_bytes, get_take, same_bytes, true_or_false, same_number, and_none}
 use Rattle.gs_ai.specs.declared.pair.Pair.{Pair}
 use Rattle.gs_ai.specs.declared.row.AiRow.{AiRow}
-use Rattle.gs_ai.proofs.Searches.{passes_none, position-cons, position_is}
 use Rattle.gs_ident.specs.Elements.{Elements}
 use Rattle.gs_ident.specs.Identities.{pair_with, stands_for_none}
 use Rattle.gs_ident.proofs.KeyPairs.{found_place}
@@ -40,29 +39,31 @@ use Rattle.gs_class.proofs.ClassIdentities.{none_stands}
 use Rattle.gs_class.proofs.KeptClasses.{agree_at, none_same_at}
 use Rattle.gs_class.proofs.OneName.{all_at}
 use Rattle.gs_class.proofs.SetParts.{RowOf, items_at as level_items, row_of_class}
+use Rattle.gs_chars.proofs.Searches.{passes_none, position-cons, position_is}
 
 -- ---- rows
 
-same_number : (n : ℕ) → (n == n) ≡ true
-same_number n = grind (arith, nat_tests)
-
-earlier_name : (ais : List AiRow) (rows : List ClassRow) (i j : ℕ) (row other : ClassRow) → class_rejections ais rows ≡ [] → slice_get rows i ≡ Some row → slice_get rows j ≡ Some other → j < i → row.key ≡ other.key → row.element ≡ other.element → row.name ≡ other.name
+earlier_name : (ais : List AiRow) (rows : List ClassRow) (i j : ℕ) (row other : ClassRow) → class_rejections ais rows ≡ []
+    → slice_get rows i ≡ Some row → slice_get rows j ≡ Some other → j < i → row.key ≡ other.key → row.element ≡ other.element
+    → row.name ≡ other.name
 unfolding agrees
 earlier_name ais rows i j row other none a b low key element =
     let there : slice_get (take i rows) j ≡ Some other = get_take rows i j low ∙ b in
     let h : agrees row other ≡ true = all_at (agrees row) (take i rows) j other (agree_at ais rows i row none a) there in
     let keys : bytes_eq row.key other.key ≡ true = rw key (same_bytes other.key) in
     let elements : bytes_eq row.element other.element ≡ true = rw element (same_bytes other.element) in
-    let pair : is_same_pair row other ≡ true = and_true (bytes_eq row.key other.key) (bytes_eq row.element other.element) keys elements in
+    let pair : is_same_pair row other ≡ true = and_from (bytes_eq row.key other.key) (bytes_eq row.element other.element) keys elements in
     elim (true_or_false (bytes_eq row.name other.name)) [
       | inl same ↦ equal_bytes row.name other.name same
       | inr differ ↦
           let f : not (is_same_pair row other) ≡ true = rw differ at h in
-          absurd (true≢false (sym pair ∙ false_from_not (is_same_pair row other) f))
+          absurd (true≢false (sym pair ∙ not-true (is_same_pair row other) f))
     ]
 
 -- rows of one key and one element have one name
-one_name : (ais : List AiRow) (rows : List ClassRow) (i j : ℕ) (row other : ClassRow) → class_rejections ais rows ≡ [] → slice_get rows i ≡ Some row → slice_get rows j ≡ Some other → row.key ≡ other.key → row.element ≡ other.element → row.name ≡ other.name
+one_name : (ais : List AiRow) (rows : List ClassRow) (i j : ℕ) (row other : ClassRow) → class_rejections ais rows ≡ []
+    → slice_get rows i ≡ Some row → slice_get rows j ≡ Some other → row.key ≡ other.key → row.element ≡ other.element
+    → row.name ≡ other.name
 one_name ais rows i j row other none a b key element = elim (cases_lt j i) [
   | inl low ↦ earlier_name ais rows i j row other none a b low key element
   | inr high ↦ elim (cases_eq i j) [
@@ -75,14 +76,15 @@ one_name ais rows i j row other none a b key element = elim (cases_lt j i) [
 ]
 
 -- no row before a row has its name and its length
-earlier_differs : (ais : List AiRow) (rows : List ClassRow) (i j : ℕ) (row other : ClassRow) → class_rejections ais rows ≡ [] → slice_get rows i ≡ Some row → slice_get rows j ≡ Some other → j < i → row.name ≡ other.name → row.gcp ≡ other.gcp → ⊥
+earlier_differs : (ais : List AiRow) (rows : List ClassRow) (i j : ℕ) (row other : ClassRow) → class_rejections ais rows ≡ []
+    → slice_get rows i ≡ Some row → slice_get rows j ≡ Some other → j < i → row.name ≡ other.name → row.gcp ≡ other.gcp → ⊥
 unfolding is_same_row
 earlier_differs ais rows i j row other none a b low name gcp =
     let there : slice_get (take i rows) j ≡ Some other = get_take rows i j low ∙ b in
     let fails : is_same_row row other ≡ false = passes_none (is_same_row row) (take i rows) j other (none_same_at ais rows i row none a) there in
     let names : bytes_eq row.name other.name ≡ true = rw name (same_bytes other.name) in
     let lengths : (row.gcp == other.gcp) ≡ true = rw gcp (same_number other.gcp) in
-    true≢false (sym (and_true (bytes_eq row.name other.name) (row.gcp == other.gcp) names lengths) ∙ fails)
+    true≢false (sym (and_from (bytes_eq row.name other.name) (row.gcp == other.gcp) names lengths) ∙ fails)
 
 -- ---- lists
 
@@ -106,10 +108,6 @@ only_code code pair h = elim (true_or_false (bytes_eq code pair.code)) [
 only_pair : (code : List ℕ) (pair : Pair) → code ≡ pair.code → pair_with (pair ∷ []) code ≡ Some pair
 only_pair code pair h = let same : bytes_eq code pair.code ≡ true = rw h (same_bytes pair.code) in rw same refl
 
-and_none : (a b : Bool) → b ≡ false → (a && b) ≡ false
-and_none true b h = h
-and_none false b h = refl
-
 -- ---- the item of the lot
 
 abbrev not_lot : Option ℕ → List Item → List ℕ → Option Why
@@ -119,11 +117,13 @@ no_items : (place : Option ℕ) (lot : List ℕ) → not_lot place [] lot ≡ No
 no_items None lot = refl
 no_items (Some k) lot = refl
 
-later : (place : Option ℕ) (item : Item) (items : List Item) (lot : List ℕ) → not_lot place items lot ≡ None → not_lot (option_map (λ i. 1 + i) place) (item ∷ items) lot ≡ None
+later : (place : Option ℕ) (item : Item) (items : List Item) (lot : List ℕ) → not_lot place items lot ≡ None
+    → not_lot (option_map (λ i. 1 + i) place) (item ∷ items) lot ≡ None
 later None item items lot h = refl
 later (Some k) item items lot h = let next : 1 + k ≡ suc k = omega arith in rw next h
 
-lot_has_word : (fields : List (Option Field)) (items : List Item) (values words : List (List ℕ)) → EachWord items values words → All IsItem items → not_lot (position (is_field Serial) fields) items (value_of Serial fields values) ≡ None
+lot_has_word : (fields : List (Option Field)) (items : List Item) (values words : List (List ℕ)) → EachWord items values words
+    → All IsItem items → not_lot (position (is_field Serial) fields) items (value_of Serial fields values) ≡ None
 lot_has_word [] items values words each good = refl
 lot_has_word (field ∷ fields) items values words no_item good = no_items (position (is_field Serial) (field ∷ fields)) (value_of Serial (field ∷ fields) [])
 lot_has_word (field ∷ fields) items values words (one_item item value w others rest more word each) good = elim (true_or_false (is_field Serial field)) [
@@ -137,7 +137,8 @@ lot_has_word (field ∷ fields) items values words (one_item item value w others
 
 -- ---- the answer
 
-module _ (ais : List AiRow) (set : ClassRows) (of : IsOfTable ais set) (i : ℕ) (class : Class) (at : slice_get set.classes i ≡ Some class) (value lot : List ℕ) where
+module _ (ais : List AiRow) (set : ClassRows) (of : IsOfTable ais set) (i : ℕ) (class : Class) (at : slice_get set.classes i ≡ Some class)
+    (value lot : List ℕ) where
   abbrev element : Pair
   element = record { code = class.element; value = lot }
 
@@ -156,7 +157,7 @@ module _ (ais : List AiRow) (set : ClassRows) (of : IsOfTable ais set) (i : ℕ)
   own_element = ap is_some (only_pair class.element element refl)
 
   own_name : is_named_by identity class ≡ true
-  own_name = and_true (has_key identity class) (is_some (pair_with (others_of identity) class.element)) own_key own_element
+  own_name = and_from (has_key identity class) (is_some (pair_with (others_of identity) class.element)) own_key own_element
 
   naming : (c : Class) × (find (is_named_by identity) set.classes ≡ Some c)
   naming = elim (find_by_cases (is_named_by identity) set.classes) [
@@ -165,7 +166,8 @@ module _ (ais : List AiRow) (set : ClassRows) (of : IsOfTable ais set) (i : ℕ)
   ]
 
   named : (has_key identity naming.0 ≡ true) × (is_some (pair_with (others_of identity) naming.0.element) ≡ true)
-  named = and_parts (has_key identity naming.0) (is_some (pair_with (others_of identity) naming.0.element)) (found_passes (is_named_by identity) set.classes naming.0 naming.1)
+  named = and_parts (has_key identity naming.0) (is_some (pair_with (others_of identity) naming.0.element))
+      (found_passes (is_named_by identity) set.classes naming.0 naming.1)
 
   key_is : naming.0.key ≡ class.key
   key_is = equal_bytes naming.0.key class.key named.0
@@ -189,15 +191,15 @@ module _ (ais : List AiRow) (set : ClassRows) (of : IsOfTable ais set) (i : ℕ)
   none_extra : find (is_extra naming.0) (others_of identity) ≡ None
   none_extra =
       let same : bytes_eq naming.0.element class.element ≡ true = rw element_is (same_bytes class.element) in
-      find_one (is_extra naming.0) element (and_none (not (bytes_eq naming.0.key class.element)) (not (bytes_eq naming.0.element class.element)) (not_true (bytes_eq naming.0.element class.element) same))
+      find_one (is_extra naming.0) element (and_none (not (bytes_eq naming.0.key class.element)) (not (bytes_eq naming.0.element class.element)) (not_from_true (bytes_eq naming.0.element class.element) same))
 
   own_size : is_sized naming.0.name class.gcp class ≡ true
   own_size =
       let same : bytes_eq naming.0.name class.name ≡ true = rw name_is (same_bytes class.name) in
-      and_true (bytes_eq naming.0.name class.name) (class.gcp == class.gcp) same (same_number class.gcp)
+      and_from (bytes_eq naming.0.name class.name) (class.gcp == class.gcp) same (same_number class.gcp)
 
   not_before : (j : ℕ) (other : Class) → j < i → slice_get set.classes j ≡ Some other → is_sized naming.0.name class.gcp other ≡ false
-  not_before j other low there = false_from (is_sized naming.0.name class.gcp other) (λ passes.
+  not_before j other low there = false_from_ne_true (is_sized naming.0.name class.gcp other) (λ passes.
       let both = and_parts (bytes_eq naming.0.name other.name) (other.gcp == class.gcp) passes in
       let row = row_of_class ais set j of other there in
       let names : own_row.row.name ≡ row.row.name = ap (λ (c : Class). c.name) (sym own_row.class_is) ∙ sym name_is ∙ equal_bytes naming.0.name other.name both.0 ∙ ap (λ (c : Class). c.name) row.class_is in
@@ -215,7 +217,8 @@ module _ (ais : List AiRow) (set : ClassRows) (of : IsOfTable ais set) (i : ℕ)
       rw (some, naming.1, none_extra, sized, at, only_pair class.element element refl, fits) refl
 
 -- the items of a class are within their bounds
-good_items : (ais : List AiRow) (set : ClassRows) (of : IsOfTable ais set) (i : ℕ) (class : Class) (items : List Item) → slice_get set.classes i ≡ Some class → slice_get (item_lists set.level.options) i ≡ Some items → All IsItem items
+good_items : (ais : List AiRow) (set : ClassRows) (of : IsOfTable ais set) (i : ℕ) (class : Class) (items : List Item)
+    → slice_get set.classes i ≡ Some class → slice_get (item_lists set.level.options) i ≡ Some items → All IsItem items
 good_items ais set of i class items at of_level =
     let row = row_of_class ais set i of class at in
     let both : Some items ≡ Some (alone (present row.row.items)) = sym of_level ∙ level_items ais set i of row.row row.at in
@@ -223,7 +226,8 @@ good_items ais set of i class items at of_level =
     rw same (all_items false (alone (present row.row.items)) row.kept.bounds.none_bad)
 
 -- each value of the element of a class counts
-value_counts : (ais : List AiRow) (set : ClassRows) (of : IsOfTable ais set) (i : ℕ) (class : Class) (value : List ℕ) → slice_get set.classes i ≡ Some class → stands_for_none ais (record { code = class.element; value = value }) ≡ false
+value_counts : (ais : List AiRow) (set : ClassRows) (of : IsOfTable ais set) (i : ℕ) (class : Class) (value : List ℕ)
+    → slice_get set.classes i ≡ Some class → stands_for_none ais (record { code = class.element; value = value }) ≡ false
 value_counts ais set of i class value at =
     let row = row_of_class ais set i of class at in
     subst (λ (c : Class). stands_for_none ais (record { code = c.element; value = value }) ≡ false) (sym row.class_is) (none_stands ais row.row row.kept value)
@@ -232,7 +236,9 @@ laid_elements : (ais : List AiRow) (class : Class) (said : KeyFields) → stands
     → lay ais (kind_of class) said ≡ record { key = key_pair ais (kind_of class) said; qualifiers = record { code = class.element; value = said.serial } ∷ []; attributes = [] }
 laid_elements ais class said counts = rw counts refl
 
-pub read_is_written : (ais : List AiRow) (set : ClassRows) (prefixes : List PrefixEntry) (text : List ℕ) (identity : Elements) → IsOfTable ais set → (read : IsClass ais set text identity) → (written : List ℕ) × (class_answer ais set prefixes (Some read.class.gcp) identity ≡ Ok written)
+pub read_is_written : (ais : List AiRow) (set : ClassRows) (prefixes : List PrefixEntry) (text : List ℕ) (identity : Elements)
+    → IsOfTable ais set → (read : IsClass ais set text identity)
+    → (written : List ℕ) × (class_answer ais set prefixes (Some read.class.gcp) identity ≡ Ok written)
 read_is_written ais set prefixes text identity of read =
     let d = read.derivation in
     let said = said_by read.class d.values in

@@ -11,7 +11,8 @@ use Rattle.gs_json.proofs.ArrayItems.{items_length}
 
 module _ {X : Type 0} (f : Data → X) (d : Data) where
   -- one item more that was read
-  pub one_read : (i : ℕ) (item : Data) (done new : List X) (x : X) → slice_get (items_of d) i ≡ Some item → done ≡ map f (take i (items_of d)) → new ≡ done ++ x ∷ [] → x ≡ f item → new ≡ map f (take (i + 1) (items_of d))
+  pub one_read : (i : ℕ) (item : Data) (done new : List X) (x : X) → slice_get (items_of d) i ≡ Some item
+      → done ≡ map f (take i (items_of d)) → new ≡ done ++ x ∷ [] → x ≡ f item → new ≡ map f (take (i + 1) (items_of d))
   one_read i item done new x at so_far e own =
       rw (e, so_far, own, take_next (items_of d) i item at, map-append) refl
 

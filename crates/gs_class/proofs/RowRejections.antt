@@ -15,29 +15,39 @@ use Rattle.gs_prefix.proofs.FirstRejections.{no_rejections, rejected_in_front}
 
 -- the rejections of a row by the tests that they come of
 abbrev pub listed : Option ℕ → Option ℕ → (ℕ → ClassLoadFault) → (ℕ → ClassLoadFault) → Bool → Bool → ClassLoadFault → ClassLoadFault → List ClassLoadFault
-listed bad twin f twins large fit size mismatch = option_to_list (option_map f bad) ++ error_if large size ++ error_if (not fit) mismatch ++ option_to_list (option_map twins twin)
+listed bad twin f twins large fit size mismatch = option_to_list (option_map f bad) ++ error_if large size ++ error_if
+    (not fit) mismatch ++ option_to_list (option_map twins twin)
 
-pub bad_first : (bad twin : Option ℕ) (f twins : ℕ → ClassLoadFault) (large fit : Bool) (size mismatch : ClassLoadFault) (k : ℕ) → bad ≡ Some k → IsFirst (listed bad twin f twins large fit size mismatch) (Err (f k))
+pub bad_first : (bad twin : Option ℕ) (f twins : ℕ → ClassLoadFault) (large fit : Bool) (size mismatch : ClassLoadFault) (k : ℕ)
+    → bad ≡ Some k → IsFirst (listed bad twin f twins large fit size mismatch) (Err (f k))
 bad_first bad twin f twins large fit size mismatch k e = rw e refl
 
-pub size_next : (bad twin : Option ℕ) (f twins : ℕ → ClassLoadFault) (large fit : Bool) (size mismatch : ClassLoadFault) → bad ≡ None → large ≡ true → IsFirst (listed bad twin f twins large fit size mismatch) (Err size)
+pub size_next : (bad twin : Option ℕ) (f twins : ℕ → ClassLoadFault) (large fit : Bool) (size mismatch : ClassLoadFault) → bad ≡ None
+    → large ≡ true → IsFirst (listed bad twin f twins large fit size mismatch) (Err size)
 size_next bad twin f twins large fit size mismatch e g = rw (e, g) refl
 
-pub mismatch_next : (bad twin : Option ℕ) (f twins : ℕ → ClassLoadFault) (large fit : Bool) (size mismatch : ClassLoadFault) → bad ≡ None → large ≡ false → fit ≡ false → IsFirst (listed bad twin f twins large fit size mismatch) (Err mismatch)
+pub mismatch_next : (bad twin : Option ℕ) (f twins : ℕ → ClassLoadFault) (large fit : Bool) (size mismatch : ClassLoadFault) → bad ≡ None
+    → large ≡ false → fit ≡ false → IsFirst (listed bad twin f twins large fit size mismatch) (Err mismatch)
 mismatch_next bad twin f twins large fit size mismatch e g h = rw (e, g, h) refl
 
-pub twin_decides : (bad twin : Option ℕ) (f twins : ℕ → ClassLoadFault) (large fit : Bool) (size mismatch : ClassLoadFault) (answer : Result (Unit {0}) ClassLoadFault) → bad ≡ None → large ≡ false → fit ≡ true → IsFirst (option_to_list (option_map twins twin)) answer → IsFirst (listed bad twin f twins large fit size mismatch) answer
+pub twin_decides : (bad twin : Option ℕ) (f twins : ℕ → ClassLoadFault) (large fit : Bool) (size mismatch : ClassLoadFault) (answer : Result (Unit {0}) ClassLoadFault)
+    → bad ≡ None → large ≡ false → fit ≡ true → IsFirst (option_to_list (option_map twins twin)) answer
+    → IsFirst (listed bad twin f twins large fit size mismatch) answer
 twin_decides bad twin f twins large fit size mismatch answer e g h i = rw (e, g, h) i
 
 -- ---- row by row
 
 module _ {X : Type 0} (f : ℕ × X → List ClassLoadFault) (rows : List X) where
-  pub row_rejected : (i : ℕ) (row : X) (e : ClassLoadFault) → i < length rows → row ≡ get_or rows i row → flat_map f (enumerate_from 0 (take i rows)) ≡ [] → IsFirst (f (i, row)) (Err e) → IsFirst (flat_map f (enumerate_from 0 rows)) (Err e)
+  pub row_rejected : (i : ℕ) (row : X) (e : ClassLoadFault) → i < length rows → row ≡ get_or rows i row
+      → flat_map f (enumerate_from 0 (take i rows)) ≡ [] → IsFirst (f (i, row)) (Err e)
+      → IsFirst (flat_map f (enumerate_from 0 rows)) (Err e)
   row_rejected i row e low read none h =
       let split = split_at f rows i row (read_at rows i row low read) none in
       rw split.1 (rejected_in_front (f (i, row)) split.0 (tt {0}) (tt {0}) e h)
 
-  pub row_passed : (i : ℕ) (row : X) (u : Unit {0}) → i < length rows → row ≡ get_or rows i row → flat_map f (enumerate_from 0 (take i rows)) ≡ [] → IsFirst (f (i, row)) (Ok u) → flat_map f (enumerate_from 0 (take (i + 1) rows)) ≡ []
+  pub row_passed : (i : ℕ) (row : X) (u : Unit {0}) → i < length rows → row ≡ get_or rows i row
+      → flat_map f (enumerate_from 0 (take i rows)) ≡ [] → IsFirst (f (i, row)) (Ok u)
+      → flat_map f (enumerate_from 0 (take (i + 1) rows)) ≡ []
   row_passed i row u low read none h = one_more f rows i row (read_at rows i row low read) none (no_rejections (f (i, row)) (tt {0}) u h)
 
   pub rows_passed : (i : ℕ) → length rows ≤ i → flat_map f (enumerate_from 0 (take i rows)) ≡ [] → IsFirst (flat_map f (enumerate_from 0 rows)) (Ok (tt {0}))
@@ -49,6 +59,7 @@ pub many_rejected : (ais : List AiRow) (rows : List ClassRow) → are_many rows 
 unfolding class_rejections
 many_rejected ais rows h = rw h refl
 
-pub few_judged : (ais : List AiRow) (rows : List ClassRow) (answer : Result (Unit {0}) ClassLoadFault) → are_many rows ≡ false → IsFirst (flat_map (row_rejections ais rows) (enumerate_from 0 rows)) answer → IsFirst (class_rejections ais rows) answer
+pub few_judged : (ais : List AiRow) (rows : List ClassRow) (answer : Result (Unit {0}) ClassLoadFault) → are_many rows ≡ false
+    → IsFirst (flat_map (row_rejections ais rows) (enumerate_from 0 rows)) answer → IsFirst (class_rejections ais rows) answer
 unfolding class_rejections
 few_judged ais rows answer h i = rw h i

@@ -23,16 +23,20 @@ use Rattle.gs_class.specs.Sets.{ClassRows, option_of, set_of}
 use Rattle.gs_class.proofs.KeptClasses.{class_at}
 use Rattle.gs_class.proofs.OneClass.{AreGood}
 
-set_made : {F : Type 0} (rejections : List F) (rows : List ClassRow) (set : ClassRows) → first_or rejections (set_of rows) ≡ Ok set → (rejections ≡ []) × (set ≡ set_of rows)
+set_made : {F : Type 0} (rejections : List F) (rows : List ClassRow) (set : ClassRows) → first_or rejections (set_of rows) ≡ Ok set
+    → (rejections ≡ []) × (set ≡ set_of rows)
 set_made [] rows set h = (refl, let e : Ok (set_of rows) ≡ Ok set = h in let f : set_of rows ≡ set = cc in sym f)
 set_made (f ∷ rejections) rows set h = absurd (let e : Err f ≡ Ok set = h in cc)
 
-items_of_rows : (ais : List AiRow) (rows : List ClassRow) → class_rejections ais rows ≡ [] → All (λ (row : ClassRow). All IsItem (alone (present row.items))) rows
-items_of_rows ais rows none k d low = all_items false (alone (present (get_or rows k d).items)) (class_at ais rows k (get_or rows k d) none (slice_get-get_or rows k d low)).bounds.none_bad
+items_of_rows : (ais : List AiRow) (rows : List ClassRow) → class_rejections ais rows ≡ []
+    → All (λ (row : ClassRow). All IsItem (alone (present row.items))) rows
+items_of_rows ais rows none k d low = all_items false (alone (present (get_or rows k d).items))
+    (class_at ais rows k (get_or rows k d) none (slice_get-get_or rows k d low)).bounds.none_bad
 
 good_rows : (ais : List AiRow) (rows : List ClassRow) → class_rejections ais rows ≡ [] → AreGood (set_of rows)
 good_rows ais rows none =
-    All-map (All IsItem) (λ (o : OptionForm). o.items) (map option_of rows) (All-map (λ (o : OptionForm). All IsItem o.items) option_of rows (items_of_rows ais rows none))
+    All-map (All IsItem) (λ (o : OptionForm). o.items) (map option_of rows)
+    (All-map (λ (o : OptionForm). All IsItem o.items) option_of rows (items_of_rows ais rows none))
 
 pub good_of_rows : (ais : List AiRow) (rows : List ClassRow) (set : ClassRows) → ruled_rows ais rows ≡ Ok set → AreGood set
 good_of_rows ais rows set h = let made = set_made (class_rejections ais rows) rows set h in rw made.1 (good_rows ais rows made.0)

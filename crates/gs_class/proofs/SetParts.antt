@@ -24,22 +24,28 @@ pub record RowOf (ais : List AiRow) (set : ClassRows) (i : ℕ) (of : IsOfTable 
   pub class_is : class ≡ class_of row
   pub kept : KeptClass ais row
 
-pub row_of_class : (ais : List AiRow) (set : ClassRows) (i : ℕ) (of : IsOfTable ais set) (class : Class) → slice_get set.classes i ≡ Some class → RowOf ais set i of class
+pub row_of_class : (ais : List AiRow) (set : ClassRows) (i : ℕ) (of : IsOfTable ais set) (class : Class)
+    → slice_get set.classes i ≡ Some class → RowOf ais set i of class
 row_of_class ais set i of class at =
     let here : slice_get (map class_of of.rows) i ≡ Some class = rw of.made at at in
     let row = mapped_some class_of (slice_get of.rows i) class (sym (slice_get-map class_of of.rows i) ∙ here) in
     record { row = row.0; at = row.1; class_is = sym row.2; kept = class_at ais of.rows i row.0 of.in_order row.1 }
 
 -- the option of a row
-pub option_at : (ais : List AiRow) (set : ClassRows) (i : ℕ) (of : IsOfTable ais set) (row : ClassRow) → slice_get of.rows i ≡ Some row → slice_get set.level.options i ≡ Some (option_of row)
+pub option_at : (ais : List AiRow) (set : ClassRows) (i : ℕ) (of : IsOfTable ais set) (row : ClassRow) → slice_get of.rows i ≡ Some row
+    → slice_get set.level.options i ≡ Some (option_of row)
 option_at ais set i of row at = rw of.made (slice_get-map option_of of.rows i ∙ ap (option_map option_of) at)
 
 -- the items of a row
-pub items_at : (ais : List AiRow) (set : ClassRows) (i : ℕ) (of : IsOfTable ais set) (row : ClassRow) → slice_get of.rows i ≡ Some row → slice_get (item_lists set.level.options) i ≡ Some (alone (present row.items))
-items_at ais set i of row at = slice_get-map (λ (o : OptionForm). o.items) set.level.options i ∙ ap (option_map (λ (o : OptionForm). o.items)) (option_at ais set i of row at)
+pub items_at : (ais : List AiRow) (set : ClassRows) (i : ℕ) (of : IsOfTable ais set) (row : ClassRow) → slice_get of.rows i ≡ Some row
+    → slice_get (item_lists set.level.options) i ≡ Some (alone (present row.items))
+items_at ais set i of row at = slice_get-map (λ (o : OptionForm). o.items) set.level.options i ∙ ap
+    (option_map (λ (o : OptionForm). o.items)) (option_at ais set i of row at)
 
 -- an option has its row
-pub row_of_items : (ais : List AiRow) (set : ClassRows) (i : ℕ) (of : IsOfTable ais set) (items : List Item) → slice_get (item_lists set.level.options) i ≡ Some items → (row : ClassRow) × (slice_get of.rows i ≡ Some row) × (items ≡ alone (present row.items))
+pub row_of_items : (ais : List AiRow) (set : ClassRows) (i : ℕ) (of : IsOfTable ais set) (items : List Item)
+    → slice_get (item_lists set.level.options) i ≡ Some items
+    → (row : ClassRow) × (slice_get of.rows i ≡ Some row) × (items ≡ alone (present row.items))
 row_of_items ais set i of items at =
     let made : slice_get (item_lists (map option_of of.rows)) i ≡ Some items = rw of.made at at in
     let option = mapped_some (λ (o : OptionForm). o.items) (slice_get (map option_of of.rows) i) items (sym (slice_get-map (λ (o : OptionForm). o.items) (map option_of of.rows) i) ∙ made) in
@@ -47,11 +53,13 @@ row_of_items ais set i of items at =
     (row.0, row.1, sym option.2 ∙ ap (λ (o : OptionForm). o.items) (sym row.2))
 
 -- the class of a row
-pub class_of_row : (ais : List AiRow) (set : ClassRows) (i : ℕ) (of : IsOfTable ais set) (row : ClassRow) → slice_get of.rows i ≡ Some row → slice_get set.classes i ≡ Some (class_of row)
+pub class_of_row : (ais : List AiRow) (set : ClassRows) (i : ℕ) (of : IsOfTable ais set) (row : ClassRow) → slice_get of.rows i ≡ Some row
+    → slice_get set.classes i ≡ Some (class_of row)
 class_of_row ais set i of row at = rw of.made (slice_get-map class_of of.rows i ∙ ap (option_map class_of) at)
 
 -- the options of rows have the symbols of texts
-pub all_texts : (options : List OptionForm) (rows : List ClassRow) → options ≡ map option_of rows → All (λ (option : OptionForm). option.bit_level ≡ false) options
+pub all_texts : (options : List OptionForm) (rows : List ClassRow) → options ≡ map option_of rows
+    → All (λ (option : OptionForm). option.bit_level ≡ false) options
 all_texts options rows made =
     let all : All (λ (row : ClassRow). false ≡ false) rows = λ k d low. refl in
     rw made (All-map (λ (option : OptionForm). option.bit_level ≡ false) option_of rows all)
@@ -68,7 +76,8 @@ no_rows ais = refl
 none_is : (level : LevelForm) (classes : List Class) → level.bit_level ≡ false → level.options ≡ [] → classes ≡ [] → with_parts level classes ≡ set_of []
 none_is level classes a b d = λ i. record { level = record { bit_level = a i; options = b i }; classes = d i }
 
-pub none_of_table : (level : LevelForm) (classes : List Class) → level.bit_level ≡ false → level.options ≡ [] → classes ≡ [] → (ais : List AiRow) → IsOfTable ais (record { level = level; classes = classes })
+pub none_of_table : (level : LevelForm) (classes : List Class) → level.bit_level ≡ false → level.options ≡ [] → classes ≡ []
+    → (ais : List AiRow) → IsOfTable ais (record { level = level; classes = classes })
 none_of_table level classes a b d ais = record { rows = []; in_order = no_rows ais; made = none_is level classes a b d }
 
 -- ---- as many options as classes

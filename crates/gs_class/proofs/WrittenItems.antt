@@ -2,16 +2,15 @@
 use Rattle.std.proofs.Common.{◌≡◌, ℕ, zero, suc, ◌+◌, ◌-◌, ◌==◌, not, Bool, true, false, List, [], ◌∷◌, length, position, Option, Some, None, option_map, slice_get, refl, sym, ap, subst, ◌∙◌, arith, inl, inr}
 use Rattle.std.specs.Option.{option_and_then}
 use Rattle.std.specs.Prelude.{Result, Ok, Err}
-use Rattle.std.proofs.lemmas.Bool.{leb-true}
+use Rattle.std.proofs.lemmas.Bool.{leb-true, or_parts, not-false}
 use Rattle.std.proofs.lemmas.Bool.Decides.{nat_tests}
 use Rattle.std.proofs.lemmas.List.{length-map}
 use Rattle.std.proofs.lemmas.Option.{slice_get-map, slice_get_within}
-use Rattle.gs_chars.proofs.TruthsAndLists.{mapped_some, or_parts, true_from_not, true_or_false}
+use Rattle.gs_chars.proofs.TruthsAndLists.{mapped_some, true_or_false}
 use Rattle.gs_ai.specs.declared.pair.Pair.{Pair}
 use Rattle.gs_ai.specs.declared.part.Part.TheVariants.{NumCheck}
 use Rattle.gs_ai.specs.declared.row.AiRow.{AiRow}
 use Rattle.gs_ai.specs.Tables.{is_empty}
-use Rattle.gs_ai.proofs.Searches.{cons_none, position-cons, position_some}
 use Rattle.gs_ident.specs.Elements.{Elements}
 use Rattle.gs_ident.specs.Identities.{IsMadeWith, pair_with}
 use Rattle.gs_grammar.specs.declared.error.Why.{Why}
@@ -36,11 +35,14 @@ use Rattle.gs_class.specs.Written.{OrMemory, by_fields, by_items, value_for, val
 use Rattle.gs_class.specs.WrittenSupport.{CanWrite, HasOneLot, HoldOthers}
 use Rattle.gs_class.proofs.KeptClasses.{KeptClass}
 use Rattle.gs_class.proofs.KeyDigits.{AreDigits, key_of_identity, length_kept, one_of_prefix, prefix_digits, rest_digits}
+use Rattle.gs_chars.proofs.Searches.{cons_none, position-cons, position_some}
+use Rattle.gs_ai.proofs.TableLemmas.{empty_from}
 
 -- ---- an item and its field
 
 -- the item at a place with the field at that place
-part_at : (parts : List FieldItem) (k : ℕ) (item : Item) (field : Option Field) → slice_get (alone parts) k ≡ Some item → slice_get (fields_of parts) k ≡ Some field → slice_get parts k ≡ Some (field, item)
+part_at : (parts : List FieldItem) (k : ℕ) (item : Item) (field : Option Field) → slice_get (alone parts) k ≡ Some item
+    → slice_get (fields_of parts) k ≡ Some field → slice_get parts k ≡ Some (field, item)
 part_at [] k item field a b = absurd (let e : None ≡ Some item = a in cc)
 part_at (p ∷ parts) zero item field a b = let same : p.1 ≡ item = cc in let same' : p.0 ≡ field = cc in ap (λ (x : FieldItem). Some x) (λ i. (same' i, same i))
 part_at (p ∷ parts) (suc k) item field a b = part_at parts k item field a b
@@ -50,18 +52,20 @@ record IsGood (part : FieldItem) : Type 0 where
   bounds : is_in_bounds false part.1 ≡ true
   classy : is_class_item part ≡ true
 
-good_at : (entries : List (Option FieldItem)) (k : ℕ) (part : FieldItem) → position is_bad_item entries ≡ None → slice_get (present entries) k ≡ Some part → IsGood part
+good_at : (entries : List (Option FieldItem)) (k : ℕ) (part : FieldItem) → position is_bad_item entries ≡ None
+    → slice_get (present entries) k ≡ Some part → IsGood part
 good_at [] k part h at = absurd (let e : None ≡ Some part = at in cc)
 good_at (None ∷ entries) k part h at = let g = cons_none is_bad_item None entries h in absurd (let e : true ≡ false = g.0 in cc)
 good_at (Some p ∷ entries) zero part h at =
     let g = cons_none is_bad_item (Some p) entries h in
     let both = or_parts (is_bad false p.1) (not (is_class_item p)) g.0 in
     let same : p ≡ part = cc in
-    rw (← same) (record { bounds = true_from_not (is_in_bounds false p.1) both.0; classy = true_from_not (is_class_item p) both.1 })
+    rw (← same) (record { bounds = not-false (is_in_bounds false p.1) both.0; classy = not-false (is_class_item p) both.1 })
 good_at (Some p ∷ entries) (suc k) part h at = good_at entries k part (cons_none is_bad_item (Some p) entries h).1 at
 
 -- a field without items has none at any place
-none_there : (field : Field) (parts : List FieldItem) (k : ℕ) (part : FieldItem) → items_of_field field parts ≡ [] → slice_get parts k ≡ Some part → is_field field part.0 ≡ true → ⊥
+none_there : (field : Field) (parts : List FieldItem) (k : ℕ) (part : FieldItem) → items_of_field field parts ≡ []
+    → slice_get parts k ≡ Some part → is_field field part.0 ≡ true → ⊥
 none_there field [] k part h at f = let e : None ≡ Some part = at in cc
 none_there field (p ∷ parts) zero part h at f =
     let same : p ≡ part = cc in
@@ -74,7 +78,8 @@ none_there field (p ∷ parts) (suc k) part h at f = elim (true_or_false (is_fie
 ]
 
 -- an item of a field is the one of the field
-the_same : (field : Field) (parts : List FieldItem) (one : Item) (k : ℕ) (part : FieldItem) → items_of_field field parts ≡ one ∷ [] → slice_get parts k ≡ Some part → is_field field part.0 ≡ true → part.1 ≡ one
+the_same : (field : Field) (parts : List FieldItem) (one : Item) (k : ℕ) (part : FieldItem) → items_of_field field parts ≡ one ∷ []
+    → slice_get parts k ≡ Some part → is_field field part.0 ≡ true → part.1 ≡ one
 the_same field [] one k part h at f = absurd (let e : None ≡ Some part = at in cc)
 the_same field (p ∷ parts) one zero part h at f =
     let same : p ≡ part = cc in
@@ -90,7 +95,8 @@ the_same field (p ∷ parts) one (suc k) part h at f = elim (true_or_false (is_f
 ]
 
 -- the place of the one item of a field
-only_place : (field : Field) (parts : List FieldItem) (one : Item) (k : ℕ) (named : Option Field) → items_of_field field parts ≡ one ∷ [] → slice_get (fields_of parts) k ≡ Some named → is_field field named ≡ true → position (is_field field) (fields_of parts) ≡ Some k
+only_place : (field : Field) (parts : List FieldItem) (one : Item) (k : ℕ) (named : Option Field) → items_of_field field parts ≡ one ∷ []
+    → slice_get (fields_of parts) k ≡ Some named → is_field field named ≡ true → position (is_field field) (fields_of parts) ≡ Some k
 only_place field [] one k named h at f = absurd (let e : None ≡ Some named = at in cc)
 only_place field (p ∷ parts) one zero named h at f =
     let same : p.0 ≡ named = cc in
@@ -136,19 +142,18 @@ digits_hold n (NumStr bits hi) value b h are = absurd (let e : false ≡ true = 
 digits_hold n (Ascii7 lo hi bits) value b h are = absurd (let e : false ≡ true = h in cc)
 digits_hold n (Fill a b') value b h are = absurd (let e : false ≡ true = h in cc)
 
-empty : {X : Type 0} (xs : List X) → is_empty xs ≡ true → xs ≡ []
-empty [] h = refl
-empty (x ∷ xs) h = absurd (let f : false ≡ true = h in cc)
-
 -- the fields that the class of a row takes of an identity
 abbrev pub taken : (ais : List AiRow) (row : ClassRow) → KeptClass ais row → Elements → List ℕ → KeyFields
 taken ais row kept identity serial = fields_at (NumCheck kept.k ∷ []) (kind_of (class_of row)) row.gcp identity.key.value serial
 
 -- the pair of the element is the serial
-pub taken_apart : (ais : List AiRow) (row : ClassRow) (kept : KeptClass ais row) (identity : Elements) (pair : Pair) → pair_with identity.qualifiers row.element ≡ Some pair → take_apart ais (kind_of (class_of row)) identity row.gcp ≡ Some (taken ais row kept identity pair.value)
+pub taken_apart : (ais : List AiRow) (row : ClassRow) (kept : KeptClass ais row) (identity : Elements) (pair : Pair)
+    → pair_with identity.qualifiers row.element ≡ Some pair
+    → take_apart ais (kind_of (class_of row)) identity row.gcp ≡ Some (taken ais row kept identity pair.value)
 taken_apart ais row kept identity pair at = rw (kept.found, kept.parts, at) refl
 
-module _ (ais : List AiRow) (row : ClassRow) (kept : KeptClass ais row) (identity : Elements) (made : IsMadeWith ais identity) (same : row.key ≡ identity.key.code)
+module _ (ais : List AiRow) (row : ClassRow) (kept : KeptClass ais row) (identity : Elements) (made : IsMadeWith ais identity)
+    (same : row.key ≡ identity.key.code)
     (pair : Pair) (at_element : pair_with identity.qualifiers row.element ≡ Some pair) where
   abbrev parts : List FieldItem
   parts = present row.items
@@ -175,7 +180,7 @@ module _ (ais : List AiRow) (row : ClassRow) (kept : KeptClass ais row) (identit
       by : (b : Bool) → (kept.k - 1 - row.gcp == 0) ≡ b → why_not item said.rest ≡ None
       by true e =
           let h : is_empty (items_of_field Rest parts) ≡ true = rw e at kept.rest in
-          absurd (none_there Rest parts k (Some Rest, item) (empty (items_of_field Rest parts) h) at refl)
+          absurd (none_there Rest parts k (Some Rest, item) (empty_from (items_of_field Rest parts) h) at refl)
       by false e =
           let h : is_one (is_digits (kept.k - 1 - row.gcp)) (items_of_field Rest parts) ≡ true = rw e at kept.rest in
           let is = key_of_identity ais row kept identity made same in
@@ -183,9 +188,11 @@ module _ (ais : List AiRow) (row : ClassRow) (kept : KeptClass ais row) (identit
           let one = the_one (is_digits (kept.k - 1 - row.gcp)) (items_of_field Rest parts) h in
           let own = the_same Rest parts one.0 k (Some Rest, item) one.1 at refl in
           let digits : is_digits (kept.k - 1 - row.gcp) item ≡ true = rw own one.2 in
-          digits_hold (kept.k - 1 - row.gcp) item said.rest bounds digits (rest_digits kept.k row.lead row.gcp identity.key.value is (leb-true row.lead 1 kept.lead) long)
+          digits_hold (kept.k - 1 - row.gcp) item said.rest bounds digits
+          (rest_digits kept.k row.lead row.gcp identity.key.value is (leb-true row.lead 1 kept.lead) long)
 
-  holds_at : (k : ℕ) (item : Item) (field : Option Field) → slice_get parts k ≡ Some (field, item) → IsGood (field, item) → is_field Serial field ≡ false → why_not item (value_for said field) ≡ None
+  holds_at : (k : ℕ) (item : Item) (field : Option Field) → slice_get parts k ≡ Some (field, item) → IsGood (field, item)
+      → is_field Serial field ≡ false → why_not item (value_for said field) ≡ None
   holds_at k item None at good other = literal_holds item good.classy
   holds_at k item (Some Gcp) at good other = prefix_holds k item at good.bounds
   holds_at k item (Some Rest) at good other = rest_holds k item at good.bounds
@@ -234,7 +241,8 @@ module _ (class : Class) (items : List Item) (said : KeyFields) (others : HoldOt
   lot_held : AreHeld items (values_for said class.fields) → why_not_lot class.fields items said.serial ≡ None
   lot_held held = by (position (is_field Serial) class.fields) refl
     where
-      by : (place : Option ℕ) → position (is_field Serial) class.fields ≡ place → option_and_then (λ k. option_and_then (λ item. why_not item said.serial) (slice_get items k)) place ≡ None
+      by : (place : Option ℕ) → position (is_field Serial) class.fields ≡ place
+          → option_and_then (λ k. option_and_then (λ item. why_not item said.serial) (slice_get items k)) place ≡ None
       by None e = refl
       by (Some k) e = by_item (slice_get items k) refl
         where
@@ -272,15 +280,18 @@ module _ (class : Class) (items : List Item) (said : KeyFields) (others : HoldOt
         | inr other ↦ rw (← field.2) (others k item field.0 at field.1 other)
       ]
 
-  pub written_by : (text : List ℕ) → AreHeld items (values_for said class.fields) → text ≡ written items (values_for said class.fields) → Ok text ≡ by_fields class items said
+  pub written_by : (text : List ℕ) → AreHeld items (values_for said class.fields) → text ≡ written items (values_for said class.fields)
+      → Ok text ≡ by_fields class items said
   written_by text held e = rw (lot_held held) (ap (λ (t : List ℕ). Ok t) e)
 
   pub rejected_by : (k : ℕ) (why : Why) → IsFirstRejection items (values_for said class.fields) k why → Err (CannotHold why) ≡ by_fields class items said
   rejected_by k why first = rw (lot_not_held k why first) refl
 
 -- the answer of `write_text` for the values of a class
-module _ (ais : List AiRow) (class : Class) (items : List Item) (identity : Elements) (can : CanWrite ais class items identity) (said : KeyFields) (fields : List (Option Field)) (values given : List (List ℕ))
-    (apart : take_apart ais (kind_of class) identity class.gcp ≡ Some said) (own : fields ≡ class.fields) (made : values ≡ values_for said fields) (same : given ≡ values) where
+module _ (ais : List AiRow) (class : Class) (items : List Item) (identity : Elements) (can : CanWrite ais class items identity)
+    (said : KeyFields) (fields : List (Option Field)) (values given : List (List ℕ))
+    (apart : take_apart ais (kind_of class) identity class.gcp ≡ Some said) (own : fields ≡ class.fields)
+    (made : values ≡ values_for said fields) (same : given ≡ values) where
   said_is : can.said ≡ said
   said_is = let both : Some can.said ≡ Some said = sym can.apart ∙ apart in cc
 
@@ -300,7 +311,9 @@ module _ (ais : List AiRow) (class : Class) (items : List Item) (identity : Elem
   rejected_answer k why first = answer_is (Err (CannotHold why)) (rejected_by class items said others can.lot k why (rw given_is at first))
 
 -- the fields that the code takes
-pub apart_is : (ais : List AiRow) (class : Class) (identity : Elements) (pair : Pair) (prefix rest serial : List ℕ) → pair_with identity.qualifiers class.element ≡ Some pair
-    → prefix ≡ prefix_in (parts_at ais class.key) class.lead class.gcp identity.key.value → rest ≡ rest_in (parts_at ais class.key) class.lead class.gcp identity.key.value → serial ≡ pair.value
+pub apart_is : (ais : List AiRow) (class : Class) (identity : Elements) (pair : Pair) (prefix rest serial : List ℕ)
+    → pair_with identity.qualifiers class.element ≡ Some pair
+    → prefix ≡ prefix_in (parts_at ais class.key) class.lead class.gcp identity.key.value → rest ≡ rest_in
+    (parts_at ais class.key) class.lead class.gcp identity.key.value → serial ≡ pair.value
     → take_apart ais (kind_of class) identity class.gcp ≡ Some (record { prefix = prefix; rest = rest; piece = []; total = []; serial = serial })
 apart_is ais class identity pair prefix rest serial at a b c = rw (at, a, b, c) refl

@@ -5,7 +5,7 @@ use Rattle.std.specs.List.{list_any}
 use Rattle.std.specs.Option.{option_map_or}
 use Rattle.std.proofs.lemmas.Bool.Decides.{nat_tests}
 use Rattle.std.proofs.lemmas.List.{length-map}
-use Rattle.gs_chars.proofs.TruthsAndLists.{and_parts, equal_bytes, false_from_not, mapped_some, place_left, place_right, true_from_not, true_or_false}
+use Rattle.gs_chars.proofs.TruthsAndLists.{equal_bytes, mapped_some, place_left, place_right, true_or_false}
 use Rattle.gs_ai.specs.declared.pair.Pair.{Pair}
 use Rattle.gs_ai.specs.declared.row.AiRow.{AiRow}
 use Rattle.gs_ai.specs.Tables.{KeepsRules, is_key_of}
@@ -16,9 +16,8 @@ use Rattle.gs_ident.proofs.PairLemmas.{found_passes}
 use Rattle.gs_tables_document.specs.declared.document.SerialAt.TheVariants.{Ai}
 use Rattle.gs_epc.specs.KeyParts.{IsOfKind, fields_at, serial_in, take_apart}
 use Rattle.gs_epc.proofs.LaidSets.{no_pairs}
-use Rattle.std.proofs.lemmas.Bool.{leb-true}
+use Rattle.std.proofs.lemmas.Bool.{leb-true, and_parts, not-false, not-true}
 use Rattle.gs_ai.specs.Tables.{is_empty}
-use Rattle.gs_ai.proofs.Searches.{position_some}
 use Rattle.gs_ident.proofs.PairLemmas.{not_found}
 use Rattle.gs_grammar.specs.declared.item.Item.{Item}
 use Rattle.gs_grammar.specs.Derivations.{Derives}
@@ -51,6 +50,7 @@ use Rattle.gs_class.proofs.OneName.{naming_key, same_pair}
 use Rattle.gs_class.proofs.SetParts.{RowOf, items_at as level_items, row_of_class}
 use Rattle.gs_class.proofs.PlacedPairs.{ArePlaced, are_placed, qualified_pair}
 use Rattle.gs_class.proofs.WrittenItems.{all_held, can_write, taken, taken_apart}
+use Rattle.gs_chars.proofs.Searches.{position_some}
 
 -- ---- the steps of an answer
 
@@ -70,20 +70,24 @@ pub record Steps (ais : List AiRow) (set : ClassRows) (identity : Elements) (tex
   pub wrote : written (items_at set i) (values_for said class.fields) ≡ text
 
 -- a result of Ok has an optional value that is present
-there_is : {X : Type 0} (f : X → Result (List ℕ) ClassWriteFault) (o : Option X) (e : ClassWriteFault) (text : List ℕ) → option_map_or f o (Err e) ≡ Ok text → (x : X) × (o ≡ Some x) × (f x ≡ Ok text)
+there_is : {X : Type 0} (f : X → Result (List ℕ) ClassWriteFault) (o : Option X) (e : ClassWriteFault) (text : List ℕ)
+    → option_map_or f o (Err e) ≡ Ok text → (x : X) × (o ≡ Some x) × (f x ≡ Ok text)
 there_is f None e text h = absurd (let g : Err e ≡ Ok text = h in cc)
 there_is f (Some x) e text h = (x, refl, h)
 
 -- an answer that is Ok comes of nothing that rejects
-none_there : {X : Type 0} (f : X → ClassWriteFault) (o : Option X) (answer : Result (List ℕ) ClassWriteFault) (text : List ℕ) → option_map_or (λ x. Err (f x)) o answer ≡ Ok text → (o ≡ None) × (answer ≡ Ok text)
+none_there : {X : Type 0} (f : X → ClassWriteFault) (o : Option X) (answer : Result (List ℕ) ClassWriteFault) (text : List ℕ)
+    → option_map_or (λ x. Err (f x)) o answer ≡ Ok text → (o ≡ None) × (answer ≡ Ok text)
 none_there f None answer text h = (refl, h)
 none_there f (Some x) answer text h = absurd (let g : Err (f x) ≡ Ok text = h in cc)
 
-passes : (test : Bool) (answer : Result (List ℕ) ClassWriteFault) (e : ClassWriteFault) (text : List ℕ) → (if test then answer else Err e) ≡ Ok text → answer ≡ Ok text
+passes : (test : Bool) (answer : Result (List ℕ) ClassWriteFault) (e : ClassWriteFault) (text : List ℕ)
+    → (if test then answer else Err e) ≡ Ok text → answer ≡ Ok text
 passes true answer e text h = h
 passes false answer e text h = absurd (let g : Err e ≡ Ok text = h in cc)
 
-pub steps : (ais : List AiRow) (set : ClassRows) (prefixes : List PrefixEntry) (gcp : Option ℕ) (identity : Elements) (text : List ℕ) → class_answer ais set prefixes gcp identity ≡ Ok text → Steps ais set identity text
+pub steps : (ais : List AiRow) (set : ClassRows) (prefixes : List PrefixEntry) (gcp : Option ℕ) (identity : Elements) (text : List ℕ)
+    → class_answer ais set prefixes gcp identity ≡ Ok text → Steps ais set identity text
 unfolding class_answer by_name by_length
 steps ais set prefixes gcp identity text h =
     let some = passes (list_any (has_key identity) set.classes) _ NoClass text h in
@@ -111,7 +115,8 @@ steps ais set prefixes gcp identity text h =
 
 -- ---- the identity that is read from the values of a class
 
-module _ (ais : List AiRow) (row : ClassRow) (kept : KeptClass ais row) (identity : Elements) (made : IsMadeWith ais identity) (same : row.key ≡ identity.key.code) (serial : List ℕ) where
+module _ (ais : List AiRow) (row : ClassRow) (kept : KeptClass ais row) (identity : Elements) (made : IsMadeWith ais identity)
+    (same : row.key ≡ identity.key.code) (serial : List ℕ) where
   abbrev said : KeyFields
   said = taken ais row kept identity serial
 
@@ -134,7 +139,8 @@ module _ (ais : List AiRow) (row : ClassRow) (kept : KeptClass ais row) (identit
   empty_rest (c ∷ text) h = absurd (omega arith)
 
   rest_count : AreDigits (kept.k - 1 - row.gcp) said.rest
-  rest_count = rest_digits kept.k row.lead row.gcp identity.key.value (key_of_identity ais row kept identity made same) (leb-true row.lead 1 kept.lead) (length_kept (kept.k - 1) row.lead row.gcp (items_of_field Gcp (present row.items)) kept.gcp)
+  rest_count = rest_digits kept.k row.lead row.gcp identity.key.value (key_of_identity ais row kept identity made same)
+      (leb-true row.lead 1 kept.lead) (length_kept (kept.k - 1) row.lead row.gcp (items_of_field Gcp (present row.items)) kept.gcp)
 
   rest_back : value_of Rest fields (map (value_for said) fields) ≡ said.rest
   unfolding keeps_rest
@@ -161,10 +167,11 @@ module _ (ais : List AiRow) (row : ClassRow) (kept : KeptClass ais row) (identit
 one_of_two : (key element code : List ℕ) → (not (bytes_eq key code) && not (bytes_eq element code)) ≡ false → (bytes_eq key code ≡ true) ⊎ (element ≡ code)
 one_of_two key element code h = elim (true_or_false (bytes_eq key code)) [
   | inl k ↦ inl k
-  | inr k ↦ let g : not (bytes_eq element code) ≡ false = rw k at h in inr (equal_bytes element code (true_from_not (bytes_eq element code) g))
+  | inr k ↦ let g : not (bytes_eq element code) ≡ false = rw k at h in inr (equal_bytes element code (not-false (bytes_eq element code) g))
 ]
 
-module _ (ais : List AiRow) (rules : KeepsRules ais) (set : ClassRows) (identity : Elements) (of : IsOfTable ais set) (made : IsMadeWith ais identity) (text : List ℕ) (s : Steps ais set identity text) where
+module _ (ais : List AiRow) (rules : KeepsRules ais) (set : ClassRows) (identity : Elements) (of : IsOfTable ais set)
+    (made : IsMadeWith ais identity) (text : List ℕ) (s : Steps ais set identity text) where
   sized_at : (c : Class) × (slice_get set.classes s.i ≡ Some c) × (is_sized s.naming.name s.n c ≡ true)
   sized_at = position_some (is_sized s.naming.name s.n) set.classes s.i s.sized
 
@@ -197,7 +204,8 @@ module _ (ais : List AiRow) (rules : KeepsRules ais) (set : ClassRows) (identity
   key_pair_is = is_key_pair ais its_kept.key identity.key rules found_key its_kept.role
 
   element_listed : list_any (bytes_eq s.class.element) its_kept.key.qualifiers ≡ true
-  element_listed = subst (λ (code : List ℕ). list_any (bytes_eq code) its_kept.key.qualifiers ≡ true) (ap (λ (c : Class). c.element) (sym its_row.class_is)) its_kept.lists
+  element_listed = subst (λ (code : List ℕ). list_any (bytes_eq code) its_kept.key.qualifiers ≡ true)
+      (ap (λ (c : Class). c.element) (sym its_row.class_is)) its_kept.lists
 
   -- the code of a pair other than the key
   code_of : (j : ℕ) (pair : Pair) → slice_get (others_of identity) j ≡ Some pair → (bytes_eq identity.key.code pair.code ≡ true) ⊎ (s.class.element ≡ pair.code)
@@ -225,10 +233,10 @@ module _ (ais : List AiRow) (rules : KeepsRules ais) (set : ClassRows) (identity
       let place = place_right identity.qualifiers identity.attributes j pair at in
       let apart = and_parts (not (bytes_eq identity.key.code pair.code)) (not (list_any (bytes_eq pair.code) its_kept.key.qualifiers)) (placed.other j pair at) in
       elim (code_of place.0 pair place.1) [
-        | inl same ↦ true≢false (sym same ∙ false_from_not (bytes_eq identity.key.code pair.code) apart.0)
+        | inl same ↦ true≢false (sym same ∙ not-true (bytes_eq identity.key.code pair.code) apart.0)
         | inr e ↦
             let there : list_any (bytes_eq pair.code) its_kept.key.qualifiers ≡ true = subst (λ (code : List ℕ). list_any (bytes_eq code) its_kept.key.qualifiers ≡ true) e element_listed in
-            true≢false (sym there ∙ false_from_not (list_any (bytes_eq pair.code) its_kept.key.qualifiers) apart.1)
+            true≢false (sym there ∙ not-true (list_any (bytes_eq pair.code) its_kept.key.qualifiers) apart.1)
       ]
 
   no_attributes : identity.attributes ≡ []
@@ -246,7 +254,8 @@ module _ (ais : List AiRow) (rules : KeepsRules ais) (set : ClassRows) (identity
   laid_out =
       let parts = parts_at ais s.class.key in
       let serial = mapped_some (fields_at parts (kind_of s.class) s.class.gcp identity.key.value) (serial_in ais parts (Ai s.class.element) identity) s.said s.apart in
-      again ais (kind_of s.class) s.class.gcp serial.0 identity rules kept_kind of_kind made serial.1 ∙ ap (λ (f : KeyFields). lay ais (kind_of s.class) f) serial.2
+      again ais (kind_of s.class) s.class.gcp serial.0 identity rules kept_kind of_kind made serial.1 ∙ ap
+      (λ (f : KeyFields). lay ais (kind_of s.class) f) serial.2
 
   -- the element has a pair among the qualifiers
   element_there : (pair : Pair) × (pair_with identity.qualifiers its_row.row.element ≡ Some pair)
@@ -284,7 +293,8 @@ module _ (ais : List AiRow) (rules : KeepsRules ais) (set : ClassRows) (identity
       cc
 
   others : HoldOthers s.class items s.said
-  others = subst (λ (f : KeyFields). HoldOthers s.class items f) (sym said_can) (subst (λ (c : Class). HoldOthers c items can.said) (sym its_row.class_is) can.others)
+  others = subst (λ (f : KeyFields). HoldOthers s.class items f) (sym said_can)
+      (subst (λ (c : Class). HoldOthers c items can.said) (sym its_row.class_is) can.others)
 
   lot : HasOneLot s.class
   lot = subst (λ (c : Class). HasOneLot c) (sym its_row.class_is) can.lot
@@ -298,7 +308,8 @@ module _ (ais : List AiRow) (rules : KeepsRules ais) (set : ClassRows) (identity
   derives : Derives items text values (written_words items values)
   derives =
       let wrote : written items values ≡ text = subst (λ (its : List Item). written its values ≡ text) items_are s.wrote in
-      subst (λ (t : List ℕ). Derives items t values (written_words items values)) wrote (written_derives items values (all_items false items its_kept.bounds.none_bad) count held)
+      subst (λ (t : List ℕ). Derives items t values (written_words items values)) wrote
+      (written_derives items values (all_items false items its_kept.bounds.none_bad) count held)
 
   back : said_by s.class values ≡ s.said
   back =
@@ -315,5 +326,7 @@ module _ (ais : List AiRow) (rules : KeepsRules ais) (set : ClassRows) (identity
   }
 
 -- the text that is written of an identity of the table is a class URI of it
-pub written_is_read : (ais : List AiRow) → KeepsRules ais → (set : ClassRows) (prefixes : List PrefixEntry) (gcp : Option ℕ) (identity : Elements) (text : List ℕ) → IsOfTable ais set → IsMadeWith ais identity → class_answer ais set prefixes gcp identity ≡ Ok text → IsClass ais set text identity
+pub written_is_read : (ais : List AiRow) → KeepsRules ais
+    → (set : ClassRows) (prefixes : List PrefixEntry) (gcp : Option ℕ) (identity : Elements) (text : List ℕ) → IsOfTable ais set
+    → IsMadeWith ais identity → class_answer ais set prefixes gcp identity ≡ Ok text → IsClass ais set text identity
 written_is_read ais rules set prefixes gcp identity text of made h = is_class ais rules set identity of made text (steps ais set prefixes gcp identity text h)

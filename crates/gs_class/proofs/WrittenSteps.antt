@@ -2,9 +2,8 @@
 use Rattle.std.proofs.Common.{◌≡◌, ℕ, ◌<◌, ◌==◌, false, true, List, length, position, Some, option_map, bytes_eq, slice_get, get_or, refl, sym, ap, ◌∙◌, arith}
 use Rattle.std.specs.Prelude.{Result}
 use Rattle.std.proofs.lemmas.Option.{slice_get-map, slice_get_within}
-use Rattle.gs_chars.proofs.TruthsAndLists.{and_parts, read_at}
+use Rattle.gs_chars.proofs.TruthsAndLists.{read_at}
 use Rattle.gs_ai.specs.declared.row.AiRow.{AiRow}
-use Rattle.gs_ai.proofs.Searches.{position_some}
 use Rattle.gs_ident.specs.Elements.{Elements}
 use Rattle.gs_grammar.specs.Levels.{AreOfKind, LevelForm, OptionForm, item_lists}
 use Rattle.gs_class.specs.declared.class_set.Class.{Class}
@@ -12,6 +11,8 @@ use Rattle.gs_class.specs.declared.error.ClassWriteFault.{ClassWriteFault}
 use Rattle.gs_class.specs.Sets.{ClassRows}
 use Rattle.gs_class.specs.Written.{OrMemory, by_items, by_length, is_sized}
 use Rattle.gs_class.specs.WrittenSupport.{CanBeWritten, CanWrite}
+use Rattle.gs_chars.proofs.Searches.{position_some}
+use Rattle.std.proofs.lemmas.Bool.{and_parts}
 
 -- the class and the option at the place that was found
 pub record IsSized (set : ClassRows) (name : List ℕ) (n i : ℕ) (class : Class) (option : OptionForm) : Type 0 where
@@ -20,7 +21,8 @@ pub record IsSized (set : ClassRows) (name : List ℕ) (n i : ℕ) (class : Clas
   pub option_at : slice_get set.level.options i ≡ Some option
   pub named : bytes_eq name class.name ≡ true
 
-module _ (ais : List AiRow) (set : ClassRows) (name : List ℕ) (n : ℕ) (identity : Elements) (can : CanBeWritten ais set name identity) (classes : List Class) (level : LevelForm) (options : List OptionForm) (i : ℕ)
+module _ (ais : List AiRow) (set : ClassRows) (name : List ℕ) (n : ℕ) (identity : Elements) (can : CanBeWritten ais set name identity)
+    (classes : List Class) (level : LevelForm) (options : List OptionForm) (i : ℕ)
     (rows : classes ≡ set.classes) (same : level ≡ set.level) (listed : options ≡ level.options) (place : Some i ≡ position (is_sized name n) classes) where
   found : (class : Class) × (slice_get set.classes i ≡ Some class) × (is_sized name n class ≡ true)
   found = position_some (is_sized name n) set.classes i (sym (rw rows at place))
@@ -54,10 +56,13 @@ module _ (ais : List AiRow) (set : ClassRows) (name : List ℕ) (n : ℕ) (ident
       let kind : (get_or options i option).bit_level ≡ level.bit_level = all i option option_low in
       ap (λ (o : OptionForm). o.bit_level) b ∙ kind ∙ ap (λ (l : LevelForm). l.bit_level) same ∙ can.texts
 
-pub can_write_at : (ais : List AiRow) (set : ClassRows) (name : List ℕ) (n i : ℕ) (class : Class) (option : OptionForm) (identity : Elements) → CanBeWritten ais set name identity → IsSized set name n i class option → CanWrite ais class option.items identity
+pub can_write_at : (ais : List AiRow) (set : ClassRows) (name : List ℕ) (n i : ℕ) (class : Class) (option : OptionForm) (identity : Elements)
+    → CanBeWritten ais set name identity → IsSized set name n i class option → CanWrite ais class option.items identity
 can_write_at ais set name n i class option identity can is = can.each i class option is.class_at is.option_at is.named
 
-pub answer_at : (ais : List AiRow) (set : ClassRows) (naming class : Class) (n i : ℕ) (option : OptionForm) (identity : Elements) (answer : Result (List ℕ) ClassWriteFault) → IsSized set naming.name n i class option → OrMemory answer (by_items ais class identity option.items) → OrMemory answer (by_length ais set identity naming n)
+pub answer_at : (ais : List AiRow) (set : ClassRows) (naming class : Class) (n i : ℕ) (option : OptionForm) (identity : Elements) (answer : Result (List ℕ) ClassWriteFault)
+    → IsSized set naming.name n i class option → OrMemory answer (by_items ais class identity option.items)
+    → OrMemory answer (by_length ais set identity naming n)
 unfolding by_length
 answer_at ais set naming class n i option identity answer is h =
     let items : slice_get (item_lists set.level.options) i ≡ Some option.items = slice_get-map (λ (o : OptionForm). o.items) set.level.options i ∙ mapped is.option_at in

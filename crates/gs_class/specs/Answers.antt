@@ -34,33 +34,33 @@ ruled_bytes ais bytes = option_map_or (ruled_document ais) (document_of bytes) (
 
 -- ---- which sets are ambiguous
 
--- trusted, own, after TDT 2.0 section 3: The result for a set of rows that no rule rejects: the set itself if no text has two
--- derivations. Otherwise the first pair of its rows that shares a text, and such a text.
+-- trusted, own, after TDT 2.0 section 3: holds if the result is `set` and no text has two derivations, or its first pair of
+-- rows that shares a text, with one
 abbrev pub IsJudged : ClassRows → Result ClassRows ClassLoadFault → Type 0
 IsJudged set (Ok made) = (made ≡ set) × IsClear set
 IsJudged set (Err (Ambiguous i j text)) = ShowsFirstShare set.level i j text
 IsJudged set (Err _) = ⊥
 
--- trusted, own: the answer, by that of the rules: their rejection, or the judgement of the set that they make
+-- trusted, own: holds if `answer` is the rejection by the rules, or the judgement of the set that they make
 abbrev pub Judged : Result ClassRows ClassLoadFault → Result ClassRows ClassLoadFault → Type 0
 Judged (Err error) answer = answer ≡ Err error
 Judged (Ok set) answer = IsJudged set answer
 
--- trusted, own: the answer of `ClassSet::load` to bytes, over these application identifiers
+-- trusted, own: holds if `answer` is that of `ClassSet::load` to `bytes`, over the application identifiers `ais`
 abbrev pub LoadAnswer : List AiRow → List ℕ → Result ClassRows ClassLoadFault → Type 0
 LoadAnswer ais bytes answer = Judged (ruled_bytes ais bytes) answer
 
--- trusted, own: the answer of `ClassSet::builtin`, over these application identifiers
+-- trusted, own: holds if `answer` is that of `ClassSet::builtin`, over the application identifiers `ais`
 abbrev pub BuiltInAnswer : List AiRow → Result ClassRows ClassLoadFault → Type 0
 BuiltInAnswer ais answer = Judged (ruled_rows ais built_in_rows) answer
 
--- trusted, own: the answer, or out of memory instead
+-- trusted, own: holds if `answer` is the error `Memory`, or `Is` holds of it
 abbrev pub OrMemory : (Result ClassRows ClassLoadFault → Type 0) → Result ClassRows ClassLoadFault → Type 0
 OrMemory Is answer = (answer ≡ Err Memory) ⊎ Is answer
 
 -- ---- one answer
 
--- trusted, own: Two answers are one, or name one pair of rows, by texts that may differ.
+-- trusted, own: holds if the answers are equal, or name the same pair of rows, by texts that may differ
 pub data AreAlike (one other : Result ClassRows ClassLoadFault) : Type 0 where
   same : one ≡ other → AreAlike one other
   but_text : (i j : ℕ) (text text' : List ℕ) → one ≡ Err (Ambiguous i j text) → other ≡ Err (Ambiguous i j text') → AreAlike one other

@@ -12,7 +12,7 @@ use Rattle.gs_class.specs.declared.error.ClassLoadFault.TheVariants.{Json, Ambig
 abbrev pub IsFirst : List ClassLoadFault → Result (Unit {0}) ClassLoadFault → Type 0
 IsFirst rejections answer = answer ≡ first_or rejections tt
 
--- the answer is the first of these errors of JSON, or out of memory
+-- holds if the answer is the first of these errors of JSON, or `Memory`
 abbrev pub IsFormFirst : List JsonFault → Result (Unit {0}) ClassLoadFault → Type 0
 IsFormFirst errors answer = OrError Memory answer (first_or (map Json errors) tt)
 
@@ -21,7 +21,7 @@ abbrev pub of_json : JsonFault → ClassLoadFault
 of_json json.Memory = Memory
 of_json error = Json error
 
--- the judgement of a level: it is not ambiguous, or this is its first pair; or out of memory
+-- holds if the level is judged as not ambiguous, or by its first pair; or memory ran out
 abbrev pub IsLevelJudged : LevelForm → Result (Unit {0}) ClassLoadFault → Type 0
 IsLevelJudged level (Ok _) = IsUnambiguous (item_lists level.options)
 IsLevelJudged level (Err (Ambiguous i j text)) = ShowsFirstShare level i j text

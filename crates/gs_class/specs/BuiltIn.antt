@@ -5,7 +5,8 @@ use Rattle.gs_tables_document.specs.declared.document.Field.TheVariants.{Gcp, Re
 use Rattle.gs_tables_document.specs.Items.{FieldItem}
 use Rattle.gs_class.specs.declared.document.ClassRow.{ClassRow}
 
--- trusted, TDS 2.0, 'EPC Class URIs': a company prefix of n digits, the indicator digit with the item reference, and the lot
+-- trusted, TDS 2.0, 'EPC Class URIs': the list of a company prefix of n digits, the indicator digit with the item reference,
+-- and the lot
 abbrev pub lgtin_items : ℕ → List (Option FieldItem)
 lgtin_items n =
     Some (None, Lit (codes "urn:epc:class:lgtin:")) ∷ Some (Some Gcp, Pad n) ∷ Some (None, Lit (codes "."))

@@ -1,5 +1,5 @@
--- The meaning of a class URI: TDS 2.0, 'EPC Class URIs', by the derivations of TDT 2.0, section 3, and the key layout of TDS
--- 2.0, section 7.
+-- The meaning of a class URI (TDS 2.0, 'EPC Class URIs'). It follows from derivations (TDT 2.0, section 3) and the key layout
+-- (TDS 2.0, section 7).
 use Rattle.std.specs.Prelude.{◌≡◌, ℕ, List, [], Some, slice_get, Result, Ok, Err}
 use Rattle.gs_ai.specs.declared.row.AiRow.{AiRow}
 use Rattle.gs_ident.specs.Elements.{Elements}
@@ -24,16 +24,16 @@ said_by class values = record {
   serial = value_of Serial class.fields values;
 }
 
--- trusted, TDS 2.0, 'EPC Class URIs': The text is a class URI of this identity: it has a derivation by a class of the set, and
--- the fields in its values are laid out as the identity.
+-- trusted, TDS 2.0, 'EPC Class URIs': holds if `text` has a derivation by a class of `set`, and the fields in its values are
+-- laid out as `identity`
 pub record IsClass (ais : List AiRow) (set : ClassRows) (text : List ℕ) (identity : Elements) : Type 0 where
   pub derivation : Derivation (item_lists set.level.options) text
   pub class : Class
   pub named : slice_get set.classes derivation.option ≡ Some class
   pub is : identity ≡ lay ais (kind_of class) (said_by class derivation.values)
 
--- trusted, TDS 2.0, 'EPC Class URIs': The result of `read_class`: the identity that the text is a class URI of, or that there
--- is none. `Memory` may be returned instead.
+-- trusted, TDS 2.0, 'EPC Class URIs': Holds if the result is the identity that `text` is a class URI of, or that there is none.
+-- `Memory` may be returned instead.
 abbrev pub ReadsAs : List AiRow → ClassRows → List ℕ → Result Elements ClassFault → Type 0
 ReadsAs ais set text (Ok identity) = IsClass ais set text identity
 ReadsAs ais set text (Err NoReading) = (identity : Elements) → IsClass ais set text identity → ⊥

@@ -8,7 +8,7 @@ use Rattle.gs_epc.specs.Layout.{KeyFields}
 use Rattle.gs_class.specs.declared.class_set.Class.{Class}
 use Rattle.gs_class.specs.Sets.{kind_of}
 
--- the fields of a class fit its key and its element, by the rules of classes
+-- holds if the fields of a class fit its key and its element, by the rules of classes
 pub record FitsClass (ais : List AiRow) (class : Class) (said : KeyFields) : Type 0 where
   pub fit : FitKind ais (kind_of class) said
   pub k : ℕ

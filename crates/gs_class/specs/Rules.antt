@@ -31,7 +31,7 @@ most_classes = 256
 
 -- ---- the items of a row
 
--- trusted, own: an item of a class is a literal, or stands for the company prefix, the rest or the lot
+-- trusted, own: holds if the item of a class is a literal, or stands for the company prefix, the rest or the lot
 abbrev pub is_class_item : FieldItem → Bool
 is_class_item (None, Lit _) = true
 is_class_item (Some Gcp, _) = true
@@ -56,7 +56,7 @@ abbrev pub element_room : List AiRow → List ℕ → Option ℕ
 element_room ais element =
     option_and_then (λ (row : AiRow). if is_empty row.none then characters_of row.parts else None) (find (has_code element) ais)
 
--- trusted, own: the company prefix, the rest and the lot fit a key of that many digits and an element of at most that many
+-- trusted, own: holds if the company prefix, the rest and the lot fit a key of `digits` digits and an element of at most `most`
 -- characters
 unfoldable pub keeps_items : ClassRow → ℕ → ℕ → Bool
 keeps_items row digits most =
@@ -64,33 +64,34 @@ keeps_items row digits most =
     && keeps_rest (Digits digits Nothing) row.gcp (items_of_field Rest (present row.items))
     && keeps_serial (Some (Characters most)) (items_of_field Serial (present row.items))
 
--- trusted, own: the items fit the key and the element
+-- trusted, own: holds if the `parts` of the key are only digits, and the items of `row` fit it and the element
 abbrev pub fits_parts : List AiRow → ClassRow → List Part → Bool
 fits_parts ais row parts =
     option_map_or (λ digits. option_map_or (λ most. keeps_items row digits most) (element_room ais row.element) false) (digits_alone parts) false
 
--- trusted, own: holds if the row is that of a key with at most one digit before the company prefix, lists the element, and the
--- items fit
+-- trusted, own: holds if `key` is a key's row that lists the element of `row`, at most one digit precedes the company prefix,
+-- and the items fit
 unfoldable pub fits_key : List AiRow → ClassRow → AiRow → Bool
 fits_key ais row key =
     is_key key.role && nat_le row.lead 1 && list_any (bytes_eq row.element) key.qualifiers && fits_parts ais row key.parts
 
 -- ---- the rows before a row
 
--- trusted, own: two rows have one key and one element
+-- trusted, own: holds if the rows have the same key and the same element
 abbrev pub is_same_pair : ClassRow → ClassRow → Bool
 is_same_pair row other = bytes_eq row.key other.key && bytes_eq row.element other.element
 
--- trusted, own: rows of one name have one key, lead and element; rows of two names differ in key or element
+-- trusted, own: holds if rows of the same name have the same key, lead and element, and rows of different names differ in key
+-- or element
 unfoldable pub agrees : ClassRow → ClassRow → Bool
 agrees row other =
     if bytes_eq row.name other.name then is_same_pair row other && (row.lead == other.lead) else not (is_same_pair row other)
 
--- trusted, own: two rows have one name and one length of the company prefix
+-- trusted, own: holds if the rows have the same name and the same company prefix length
 unfoldable pub is_same_row : ClassRow → ClassRow → Bool
 is_same_row row other = bytes_eq row.name other.name && (row.gcp == other.gcp)
 
--- trusted, own: holds if the row satisfies the rules of classes, given the earlier ones
+-- trusted, own: holds if `row` satisfies the rules of classes, given the `earlier` ones
 unfoldable pub is_class : List AiRow → List ClassRow → ClassRow → Bool
 is_class ais earlier row =
     not (is_empty row.name) && are_visible row.name && list_all (agrees row) earlier
@@ -98,11 +99,11 @@ is_class ais earlier row =
 
 -- ---- rejections
 
--- trusted, own: some class has more items than the limit
+-- trusted, own: holds if one of the classes has more items than the limit
 abbrev pub has_long : List ClassRow → Bool
 has_long rows = list_any (λ (row : ClassRow). nat_lt most_items (length row.items)) rows
 
--- trusted, own: there are more classes, or more items of a class, than the limit
+-- trusted, own: holds if there are more classes, or more items of a class, than the limit
 abbrev pub are_many : List ClassRow → Bool
 are_many rows = nat_lt most_classes (length rows) || has_long rows
 
@@ -115,6 +116,6 @@ row_rejections ais rows place =
     ++ error_if (not (is_class ais (take place.0 rows) place.1)) (Mismatch place.0)
     ++ option_to_list (option_map (λ j. Duplicate j place.0) (position (is_same_row place.1) (take place.0 rows)))
 
--- trusted, own: all rejections of the rows, in the order in which they are reported: the limits, then row by row
+-- trusted, own: the list of all rejections of `rows`, in the order in which they are reported: the limits, then row by row
 unfoldable pub class_rejections : List AiRow → List ClassRow → List ClassLoadFault
 class_rejections ais rows = error_if (are_many rows) Limit ++ flat_map (row_rejections ais rows) (enumerate_from 0 rows)

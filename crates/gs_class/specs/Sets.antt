@@ -38,12 +38,12 @@ option_of row = record { bit_level = false; items = alone (present row.items) }
 abbrev pub set_of : List ClassRow → ClassRows
 set_of rows = record { level = record { bit_level = false; options = map option_of rows }; classes = map class_of rows }
 
--- trusted, own: Holds if the set is made for the table: it is the set of rows that no rule rejects, given the table's rows.
+-- trusted, own: Holds if `set` is made for the table: it is the set of rows that no rule rejects, given the rows `ais`.
 pub record IsOfTable (ais : List AiRow) (set : ClassRows) : Type 0 where
   pub rows : List ClassRow
   pub in_order : class_rejections ais rows ≡ []
   pub made : set ≡ set_of rows
 
--- trusted, own: no text has two different derivations in the set
+-- trusted, own: holds if no text has two different derivations in `set`
 abbrev pub IsClear : ClassRows → Type 0
 IsClear set = IsUnambiguous (item_lists set.level.options)

@@ -30,15 +30,15 @@ use Rattle.gs_class.specs.Sets.{ClassRows, kind_of}
 abbrev pub others_of : Elements → List Pair
 others_of identity = identity.qualifiers ++ identity.attributes
 
--- trusted, own: the class has the key of the identity
+-- trusted, own: holds if `class` has the key of `identity`
 abbrev pub has_key : Elements → Class → Bool
 has_key identity class = bytes_eq class.key identity.key.code
 
--- trusted, own: the class has the key of the identity, and its element is a pair of it
+-- trusted, own: holds if `class` has the key of `identity`, and its element is another pair of it
 abbrev pub is_named_by : Elements → Class → Bool
 is_named_by identity class = has_key identity class && is_some (pair_with (others_of identity) class.element)
 
--- trusted, own: the pair is neither that of the key nor that of the element of the class
+-- trusted, own: holds if `pair` is neither that of the key nor that of the element of `class`
 abbrev pub is_extra : Class → Pair → Bool
 is_extra class pair = not (bytes_eq class.key pair.code) && not (bytes_eq class.element pair.code)
 
@@ -55,7 +55,7 @@ value_for said _ = []
 abbrev pub values_for : KeyFields → List (Option Field) → List (List ℕ)
 values_for said fields = map (value_for said) fields
 
--- trusted, own: why the item of the lot has no word for the lot, if there is such an item
+-- trusted, own: the reason, if any, why the item of the lot has no word for `lot`, if there is such an item
 abbrev pub why_not_lot : List (Option Field) → List Item → List ℕ → Option Why
 why_not_lot fields items lot =
     option_and_then (λ k. option_and_then (λ item. why_not item lot) (slice_get items k)) (position (is_field Serial) fields)
@@ -83,7 +83,7 @@ abbrev pub by_class : List AiRow → ClassRows → Elements → ℕ → Result (
 by_class ais set identity i =
     option_map_or (λ class. by_items ais class identity (items_at set i)) (slice_get set.classes i) (Err NoOption)
 
--- trusted, own: the class has this name, and a company prefix of that many digits
+-- trusted, own: holds if `class` has the name `name` and a company prefix of `n` digits
 abbrev pub is_sized : List ℕ → ℕ → Class → Bool
 is_sized name n class = bytes_eq name class.name && (class.gcp == n)
 
@@ -97,8 +97,8 @@ by_length ais set identity class n =
 unfoldable pub length_for : List PrefixEntry → Option ℕ → Class → Elements → Option ℕ
 length_for prefixes gcp class identity = option_or gcp (prefix_length prefixes (drop class.lead identity.key.value))
 
--- trusted, own: the result by the class that names the identity: the identity has no pair other than the key and the element of
--- the class, and its company prefix has a length
+-- trusted, own: The result by the class that names the identity. It is an error if the identity has a pair other than the key
+-- and the element, or no company prefix length.
 unfoldable pub by_name : List AiRow → ClassRows → List PrefixEntry → Option ℕ → Elements → Class → Result (List ℕ) ClassWriteFault
 by_name ais set prefixes gcp identity class =
     option_map_or (λ (pair : Pair). Err (Extra pair.code))
@@ -113,6 +113,6 @@ class_answer ais set prefixes gcp identity =
     then option_map_or (by_name ais set prefixes gcp identity) (find (is_named_by identity) set.classes) (Err MissingElement)
     else Err NoClass
 
--- trusted, own: the answer, or out of memory instead
+-- trusted, own: holds if `result` is `answer` or the error `Memory`
 abbrev pub OrMemory : Result (List ℕ) ClassWriteFault → Result (List ℕ) ClassWriteFault → Type 0
 OrMemory result answer = OrError Memory result answer

@@ -21,21 +21,21 @@ use Rattle.gs_class.specs.Written.{value_for}
 abbrev pub fields_in : Said → KeyFields
 fields_in said = record { prefix = said.prefix; rest = said.rest; piece = []; total = []; serial = said.serial }
 
--- every item but that of the lot holds its value
+-- holds if every item except that of the lot holds its value
 abbrev pub HoldOthers : Class → List Item → KeyFields → Type 0
 HoldOthers class items said =
     (k : ℕ) (item : Item) (field : Option Field) → slice_get items k ≡ Some item → slice_get class.fields k ≡ Some field → is_field Serial field ≡ false
     → why_not item (value_for said field) ≡ None
 
--- one item stands for the lot
+-- holds if one item stands for the lot
 abbrev pub HasOneLot : Class → Type 0
 HasOneLot class = (k : ℕ) (field : Option Field) → slice_get class.fields k ≡ Some field → is_field Serial field ≡ true → position (is_field Serial) class.fields ≡ Some k
 
--- the element of a class is a qualifier of an identity
+-- holds if the element of a class is a qualifier of an identity
 abbrev pub IsQualified : Class → Elements → Type 0
 IsQualified class identity = (pair : Pair) × (pair_with identity.qualifiers class.element ≡ Some pair)
 
--- a class can write an identity, unless its lot has no word
+-- holds if a class can write an identity, unless its lot has no word
 pub record CanWrite (ais : List AiRow) (class : Class) (items : List Item) (identity : Elements) : Type 0 where
   pub as_many : length class.fields ≡ length items
   pub qualified : IsQualified class identity
@@ -44,13 +44,13 @@ pub record CanWrite (ais : List AiRow) (class : Class) (items : List Item) (iden
   pub others : HoldOthers class items said
   pub lot : HasOneLot class
 
--- each class of the name can write the identity
+-- holds if each class of the name can write the identity
 abbrev pub EachCanWrite : List AiRow → ClassRows → List ℕ → Elements → Type 0
 EachCanWrite ais set name identity =
     (i : ℕ) (class : Class) (option : OptionForm) → slice_get set.classes i ≡ Some class → slice_get set.level.options i ≡ Some option
     → bytes_eq name class.name ≡ true → CanWrite ais class option.items identity
 
--- the set has as many options of texts as classes, and each class of the name can write the identity
+-- holds if the set has as many options of texts as classes, and each class of the name can write the identity
 pub record CanBeWritten (ais : List AiRow) (set : ClassRows) (name : List ℕ) (identity : Elements) : Type 0 where
   pub as_many : length set.classes ≡ length set.level.options
   pub texts : set.level.bit_level ≡ false

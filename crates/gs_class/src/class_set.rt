@@ -51,8 +51,8 @@ impl Model for ClassSet {
 }
 
 impl ClassSet {
-    /// Returns the set that a document in JSON gives: an object with exactly `version`, the number 1, and `classes`, an array
-    /// of objects with exactly `name`, `key`, `lead`, `element`, `gcp` and `items`. Returns the first rejection in this order.
+    /// Returns the set of a document in JSON. It is an object with exactly `version`, the number 1, and `classes`, an array of
+    /// objects with exactly `name`, `key`, `lead`, `element`, `gcp` and `items`. Returns the first rejection in this order.
     /// `Json`: the bytes are not JSON text, or the document or a row does not have this form. `Version`: the version is not 1.
     /// `Limit`: more than 256 classes, or 24 items of one. Then, row by row, four rejections. `BadItem`: its first bad item.
     /// `Size`. `Mismatch`: it breaks a rule given the table and the earlier rows. `Duplicate`: the first earlier row of one
@@ -149,9 +149,9 @@ pub struct Class {
     pub key: Text,
     /// The AI of the element that identifies the class among the things of one key.
     pub element: Text,
-    /// How many digits of the key are before the company prefix and go with the rest, 0 or 1.
+    /// The number of digits of the key, 0 or 1, that are before the company prefix and go with the rest.
     pub lead: u8,
-    /// How many digits the GS1 Company Prefix has, 1 to 12.
+    /// The number of digits of the GS1 Company Prefix, 1 to 12.
     pub gcp: u8,
     /// The field of each item, none for literals.
     pub fields: List<Option<Field>>,

@@ -22,11 +22,11 @@ pub struct ClassRow {
     pub name: Text,
     /// The code of the key.
     pub key: Text,
-    /// How many digits of the key are before the company prefix and go with the rest.
+    /// The number of digits of the key that are before the company prefix and go with the rest.
     pub lead: u64,
     /// The AI of the element that identifies the class among the things of one key.
     pub element: Text,
-    /// How many digits the GS1 Company Prefix has.
+    /// The number of digits of the GS1 Company Prefix.
     pub gcp: u64,
     /// The items. One is absent if the document has an item there that is not an item of a text.
     pub items: List<Option<FieldItem>>,

@@ -1,8 +1,7 @@
-//! Class URIs: the class of things that a text names, such as a lot of a trade item, and the text that is written of its
-//! identity.
+//! Class URIs: the class of things that a text names, such as a lot of a trade item, and the text written of an identity.
 //!
-//! - `ClassSet::load` reads a document of classes (JSON), or gives its first rejection; `ClassSet::builtin` makes the set of the built-in
-//!   rows, and `ClassSet::none` that of no class.
+//! - `ClassSet::load` reads a document of classes (JSON), or gives its first rejection. `ClassSet::builtin` makes the set of
+//!   the built-in rows, and `ClassSet::none` the empty set.
 //! - `read_class` gives the identity that a class URI names; `write_class` the class URI of an identity.
 //!
 //! # Example
@@ -17,7 +16,7 @@
 //!
 //! # Differences from the standard
 //!
-//! - The document of classes and its rules are this project's own (docs/FORMATS.md, 'The class document'). A set by which a text has two
+//! - The document of classes and its rules are this project's own (docs/TABLES.md, 'The class document'). A set by which a text has two
 //!   readings is rejected, with such a text.
 //! - The length of the company prefix of an identity is given, or comes from a list of prefixes; a class URI carries it.
 //! - Limits: 256 classes, 24 items and 512 symbols of one.

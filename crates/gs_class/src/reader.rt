@@ -76,9 +76,9 @@ fn identity_of<'a>(
     Identity::of_key(alloc, ais, key, Some(element))
 }
 
-/// Returns the identity that a text is a class URI of, by the set (TDS 2.0, 'EPC Class URIs'): the key, laid out with its check
-/// digit, and the element with the lot. `NoReading` is returned if and only if the text has no derivation by a class of the set.
-/// May return `Memory` instead. The set is of the table.
+/// Returns the identity that a text is a class URI of, by the set (TDS 2.0, 'EPC Class URIs'). The key is laid out with its
+/// check digit, and the element has the lot. `NoReading` is returned if and only if the text has no derivation by a class of
+/// the set. May return `Memory` instead. The set is of the table.
 pub fn read_class<'a>(
     alloc: Global,
     set: &'a ClassSet,

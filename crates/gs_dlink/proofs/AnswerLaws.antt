@@ -33,7 +33,8 @@ choice_known false one other a b = b
 row_known : (table : List AiRow) (pair : Written) (row : Option AiRow) → IsKnown (by_row table pair row)
 row_known table pair None = value_known pair [] (Some (Value Unknown))
 row_known table pair (Some row) =
-    choice_known (not (are_escapes pair.value)) (by_value pair [] (Some Escape)) (by_value pair (value_of row pair.value) (option_map Value (value_error table pair.code (value_of row pair.value))))
+    choice_known (not (are_escapes pair.value)) (by_value pair [] (Some Escape))
+    (by_value pair (value_of row pair.value) (option_map Value (value_error table pair.code (value_of row pair.value))))
     (value_known pair [] (Some Escape)) (value_known pair (value_of row pair.value) (option_map Value (value_error table pair.code (value_of row pair.value))))
 
 pair_known : (table : List AiRow) (pair : Written) → IsKnown (pair_answer table pair)
@@ -83,9 +84,12 @@ one_list table text one other a b = let same : Ok one ≡ Ok other = sym a ∙ b
 pub no_error : (table : List AiRow) (text : List ℕ) (pairs : List Pair) (error : LinkFault) → IsLink table text pairs → link_error table text ≡ Some error → ⊥
 no_error table text pairs error a f = let same : None ≡ Some error = ap error_in (sym a) ∙ f in absurd (cc)
 
-answered_by : (table : List AiRow) (text : List ℕ) (answer : Result (List Pair) LinkFault) → link_answer table text ≡ answer → IsKnown answer → ((pairs : List Pair) × IsLink table text pairs) ⊎ ((error : LinkFault) × (error ≢ Memory) × (link_error table text ≡ Some error))
+answered_by : (table : List AiRow) (text : List ℕ) (answer : Result (List Pair) LinkFault) → link_answer table text ≡ answer
+    → IsKnown answer
+    → ((pairs : List Pair) × IsLink table text pairs) ⊎ ((error : LinkFault) × (error ≢ Memory) × (link_error table text ≡ Some error))
 answered_by table text (Ok pairs) e known = inl (pairs, e)
 answered_by table text (Err error) e known = inr (error, (λ f. known (ap Err f)), ap error_in e)
 
-pub answered : (table : List AiRow) (text : List ℕ) → ((pairs : List Pair) × IsLink table text pairs) ⊎ ((error : LinkFault) × (error ≢ Memory) × (link_error table text ≡ Some error))
+pub answered : (table : List AiRow) (text : List ℕ)
+    → ((pairs : List Pair) × IsLink table text pairs) ⊎ ((error : LinkFault) × (error ≢ Memory) × (link_error table text ≡ Some error))
 answered table text = answered_by table text (link_answer table text) refl (link_known table text)

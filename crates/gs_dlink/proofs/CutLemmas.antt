@@ -6,9 +6,10 @@ use Rattle.std.specs.Option.{MatchOption}
 use Rattle.std.proofs.lemmas.Bool.Decides.{nat_tests}
 use Rattle.std.proofs.lemmas.List.{get_or-drop, take_all}
 use Rattle.memchr.specs.Find.{IsLastByte, NoneAfter, Nowhere, Passes}
-use Rattle.gs_chars.proofs.TruthsAndLists.{false_from, or_second, true_or_false}
+use Rattle.gs_chars.proofs.TruthsAndLists.{or_second, true_or_false, equal_number}
 use Rattle.gs_dlink.specs.Uris.{authority_end, authority_from, ends_authority, is_slash, scheme_end, part_pairs, pieces_behind, query_pairs, query_parts, segments, separates_parts, Written}
 use Rattle.gs_dlink.specs.UrisSupport.{LastSlash, NoSlash}
+use Rattle.std.proofs.lemmas.Bool.{false_from_ne_true}
 
 -- ---- the results of the searches of `memchr`
 
@@ -17,15 +18,12 @@ none_any test [] none = refl
 none_any test (c ∷ text) none = rw (none zero (omega arith), none_any test text (λ k low. none (suc k) (omega arith))) refl
 
 pub no_slash : (text : List ℕ) → Nowhere (Passes is_slash text) 0 (length text) → NoSlash text
-no_slash text h = none_any is_slash text (λ k low. false_from _ (h k (omega arith) low))
+no_slash text h = none_any is_slash text (λ k low. false_from_ne_true _ (h k (omega arith) low))
 
 cut_at : (text : List ℕ) (k : ℕ) → k < length text → get_or text k 0 ≡ 47 → text ≡ take k text ++ 47 ∷ drop (k + 1) text
 cut_at text k within h =
     let e : drop k text ≡ 47 ∷ drop (k + 1) text = rw (add-one) (drop-cons text k 0 within ∙ ap (λ c. c ∷ drop (suc k) text) h) in
     sym (take-append-drop k text) ∙ ap (λ rest. take k text ++ rest) e
-
-equal_number : (a b : ℕ) → (a == b) ≡ true → a ≡ b
-equal_number a b h = grind (arith, nat_tests)
 
 pub last_at : (text : List ℕ) (k : ℕ) → NoneAfter (Passes is_slash text) 0 (length text) k → is_slash (get_or text k 0) ≡ true → LastSlash text k
 last_at text k none h = record {
@@ -34,7 +32,7 @@ last_at text k none h = record {
   last = none_any is_slash (drop (k + 1) text) (λ j low.
       let at = get_or-drop (k + 1) text j 0 in
       let inside : k + 1 + j < length text = below text k j none.high low in
-      rw at (false_from _ (none.after (k + 1 + j) (omega arith) inside)));
+      rw at (false_from_ne_true _ (none.after (k + 1 + j) (omega arith) inside)));
 }
   where
     below : (text : List ℕ) (k j : ℕ) → k < length text → j < length (drop (k + 1) text) → k + 1 + j < length text
@@ -108,7 +106,8 @@ module _ (test : ℕ → Bool) where
   ]
 
   -- the pieces of a text that is cut at a byte that passes
-  pub pieces_seam : (at : ℕ) (a b : List ℕ) (s : ℕ) → test s ≡ true → pieces_behind test at (a ++ s ∷ b) ≡ pieces_behind test at a ++ (record { at = at + length a + 1; text = before_first test b } ∷ pieces_behind test (at + length a + 1) b)
+  pub pieces_seam : (at : ℕ) (a b : List ℕ) (s : ℕ) → test s ≡ true
+      → pieces_behind test at (a ++ s ∷ b) ≡ pieces_behind test at a ++ (record { at = at + length a + 1; text = before_first test b } ∷ pieces_behind test (at + length a + 1) b)
   pieces_seam at [] b s h = let e : at + 1 ≡ at + 0 + 1 = omega arith in rw (h, e) refl
   pieces_seam at (c ∷ a) b s h =
       let rest = pieces_seam (at + 1) a b s h in
@@ -119,7 +118,8 @@ module _ (test : ℕ → Bool) where
       ]
 
 -- the segments of a path, by its last slash
-pub segments_last : (at : ℕ) (path : List ℕ) (k : ℕ) → LastSlash path k → segments at path ≡ segments at (take k path) ++ (record { at = at + length (take k path) + 1; text = drop (k + 1) path }) ∷ []
+pub segments_last : (at : ℕ) (path : List ℕ) (k : ℕ) → LastSlash path k
+    → segments at path ≡ segments at (take k path) ++ (record { at = at + length (take k path) + 1; text = drop (k + 1) path }) ∷ []
 unfolding segments
 segments_last at path k h =
     ap (λ text. pieces_behind is_slash at text) h.cut
@@ -137,7 +137,8 @@ no_segments at path h = no_pieces is_slash at path h
 abbrev first_place : List ℕ → ℕ
 first_place query = position_or_len separates_parts query
 
-pieces_step : (at : ℕ) (query : List ℕ) → first_place query < length query → pieces_behind separates_parts at query ≡ query_parts (at + first_place query + 1) (after_first separates_parts query)
+pieces_step : (at : ℕ) (query : List ℕ) → first_place query < length query
+    → pieces_behind separates_parts at query ≡ query_parts (at + first_place query + 1) (after_first separates_parts query)
 pieces_step at [] h = absurd (omega arith)
 pieces_step at (c ∷ query) h = elim (true_or_false (separates_parts c)) [
   | inl t ↦ let e : at + 0 + 1 ≡ at + 1 = omega arith in rw (after-cons separates_parts c query, t, e) refl
@@ -148,7 +149,9 @@ pieces_step at (c ∷ query) h = elim (true_or_false (separates_parts c)) [
       rw (after-cons separates_parts c query, t, e) (pieces_step (at + 1) query low)
 ]
 
-pub parts_step : (at : ℕ) (query : List ℕ) → first_place query < length query → query_pairs at query ≡ part_pairs (record { at = at; text = take (first_place query) query }) ++ query_pairs (at + first_place query + 1) (drop (first_place query + 1) query)
+pub parts_step : (at : ℕ) (query : List ℕ) → first_place query < length query → query_pairs at query ≡ part_pairs
+    (record { at = at; text = take (first_place query) query }) ++ query_pairs (at + first_place query + 1)
+    (drop (first_place query + 1) query)
 unfolding query_pairs
 parts_step at query h = rw (pieces_step at query h) refl
 
@@ -159,7 +162,8 @@ pieces_end at (c ∷ query) h = elim (true_or_false (separates_parts c)) [
   | inr t ↦ let g = rw t at h in let low : first_place query ≡ length query = omega arith in rw t (pieces_end (at + 1) query low)
 ]
 
-pub parts_end : (at : ℕ) (query : List ℕ) → first_place query ≡ length query → query_pairs at query ≡ part_pairs (record { at = at; text = take (first_place query) query })
+pub parts_end : (at : ℕ) (query : List ℕ) → first_place query ≡ length query → query_pairs at query ≡ part_pairs
+    (record { at = at; text = take (first_place query) query })
 unfolding query_pairs
 parts_end at query h = rw (pieces_end at query h) (append-nil _)
 
@@ -170,7 +174,8 @@ rest_taken n xs = take_all (length xs - n) (drop n xs) (omega (arith, length-dro
 
 -- ---- the loop over a query
 
-module _ (all front new : List Written) (at : ℕ) (rest : List ℕ) (end : ℕ) (so_far : front ++ query_pairs at rest ≡ all) (place : end ≡ first_place rest) (part : new ≡ front ++ part_pairs (record { at = at; text = take end rest })) where
+module _ (all front new : List Written) (at : ℕ) (rest : List ℕ) (end : ℕ) (so_far : front ++ query_pairs at rest ≡ all)
+    (place : end ≡ first_place rest) (part : new ≡ front ++ part_pairs (record { at = at; text = take end rest })) where
   pub query_ends : end ≡ length rest → new ≡ all
   query_ends last = part ∙ rw place (ap (λ pairs. front ++ pairs) (sym (parts_end at rest (sym place ∙ last)))) ∙ so_far
 
@@ -207,12 +212,14 @@ behind_scheme : (text : List ℕ) (n : ℕ) → Some n ≡ scheme_end text → a
 unfolding authority_end
 behind_scheme text n h = ap (option_and_then (authority_from text)) h
 
-pub no_authority : (text : List ℕ) (n len : ℕ) → Some n ≡ scheme_end text → len ≡ position_or_len ends_authority (drop n text) → len ≡ 0 → None ≡ authority_end text
+pub no_authority : (text : List ℕ) (n len : ℕ) → Some n ≡ scheme_end text → len ≡ position_or_len ends_authority (drop n text) → len ≡ 0
+    → None ≡ authority_end text
 no_authority text n len scheme place none =
     let own : None ≡ authority_from text n = rw (sym place ∙ none) refl in
     own ∙ behind_scheme text n scheme
 
-pub some_authority : (text : List ℕ) (n len : ℕ) → Some n ≡ scheme_end text → len ≡ position_or_len ends_authority (drop n text) → (len ≡ 0 → ⊥) → Some (n + len) ≡ authority_end text
+pub some_authority : (text : List ℕ) (n len : ℕ) → Some n ≡ scheme_end text → len ≡ position_or_len ends_authority (drop n text)
+    → (len ≡ 0 → ⊥) → Some (n + len) ≡ authority_end text
 some_authority text n len scheme place some =
     let own : Some (n + len) ≡ authority_from text n = rw (← place, not_zero len some) refl in
     own ∙ behind_scheme text n scheme

@@ -3,17 +3,18 @@ use Rattle.std.proofs.Common.{◌≡◌, ℕ, ◌/◌, ◌%◌, ◌<◌, ◌==�
 use Rattle.std.specs.Prelude.{codes}
 use Rattle.std.specs.Char.{is_ascii_hexdigit}
 use Rattle.std.specs.List.{list_all, list_any}
-use Rattle.std.proofs.lemmas.Bool.{agree_below, agree_below_at}
+use Rattle.std.proofs.lemmas.Bool.{agree_below, agree_below_at, and_from}
 use Rattle.std.proofs.lemmas.Bool.Decides.{nat_tests}
 use Rattle.std.proofs.lemmas.List.Elements.{All-cons, All-head, All-nil, All-tail}
 use Rattle.percent_encoding.specs.Percent.{percent_decode}
 use Rattle.percent_encoding.proofs.PercentLemmas.{round_trip}
 use Rattle.gs_chars.specs.Characters.{are_digits, are_in_set82, is_digit, is_in_set82, set82, is_byte}
 use Rattle.gs_chars.specs.Escapes.{hex_digit}
-use Rattle.gs_chars.proofs.TruthsAndLists.{and_first, and_second, and_true, true_or_false}
+use Rattle.gs_chars.proofs.TruthsAndLists.{and_first, and_second, true_or_false, equal_number}
 use Rattle.gs_ident.specs.Links.{escaped_byte, is_unescaped, percent_encoded}
 use Rattle.gs_ident.proofs.ValueEscapes.{IsByte, same_text}
 use Rattle.gs_dlink.specs.Values.{are_escapes}
+use Rattle.gs_ident.proofs.LinkLemmas.{escaped_percent}
 
 abbrev separators : List ℕ
 separators = codes "/?#&;="
@@ -23,9 +24,6 @@ is_free c = not (list_any (λ x. x == c) separators)
 
 abbrev pub are_free : List ℕ → Bool
 are_free text = list_all is_free text
-
-pub equal_number : (a b : ℕ) → (a == b) ≡ true → a ≡ b
-equal_number a b h = grind (arith, nat_tests)
 
 -- a fact of each number of a list holds for one that it has
 member_passes : (test : ℕ → Bool) (xs : List ℕ) (c : ℕ) → list_any (λ x. x == c) xs ≡ true → list_all test xs ≡ true → test c ≡ true
@@ -50,7 +48,8 @@ digit_free c h = free_if is_digit refl c h
 
 pub digits_free : (code : List ℕ) → are_digits code ≡ true → are_free code ≡ true
 digits_free [] h = refl
-digits_free (c ∷ code) h = and_true (is_free c) (are_free code) (digit_free c (and_first (is_digit c) (are_digits code) h)) (digits_free code (and_second (is_digit c) (are_digits code) h))
+digits_free (c ∷ code) h = and_from (is_free c) (are_free code) (digit_free c (and_first (is_digit c) (are_digits code) h))
+    (digits_free code (and_second (is_digit c) (are_digits code) h))
 
 -- ---- hexadecimal digits
 
@@ -67,13 +66,9 @@ hex_is_hex n h = agree_below_at (λ n. is_ascii_hexdigit (hex_digit n)) (λ _. t
 hex_no_percent : (n : ℕ) → n < 16 → (hex_digit n == 37) ≡ false
 hex_no_percent n h = agree_below_at (λ n. hex_digit n == 37) (λ _. false) 16 n hex_table.2 h
 
-percent_escaped : is_unescaped 37 ≡ false
-unfolding is_unescaped
-percent_escaped = refl
-
 unescaped_no_percent : (c : ℕ) → is_unescaped c ≡ true → (c == 37) ≡ false
 unescaped_no_percent c h = elim (true_or_false (c == 37)) [
-  | inl t ↦ absurd (let same = equal_number c 37 t in true≢false (sym h ∙ ap is_unescaped same ∙ percent_escaped))
+  | inl t ↦ absurd (let same = equal_number c 37 t in true≢false (sym h ∙ ap is_unescaped same ∙ escaped_percent))
   | inr t ↦ t
 ]
 
@@ -81,7 +76,8 @@ unescaped_no_percent c h = elim (true_or_false (c == 37)) [
 
 pub free_append : (a b : List ℕ) → are_free a ≡ true → are_free b ≡ true → are_free (a ++ b) ≡ true
 free_append [] b f g = g
-free_append (c ∷ a) b f g = and_true (is_free c) (are_free (a ++ b)) (and_first (is_free c) (are_free a) f) (free_append a b (and_second (is_free c) (are_free a) f) g)
+free_append (c ∷ a) b f g = and_from (is_free c) (are_free (a ++ b)) (and_first (is_free c) (are_free a) f)
+    (free_append a b (and_second (is_free c) (are_free a) f) g)
 
 byte_free : (c : ℕ) → c < 256 → are_free (escaped_byte c) ≡ true
 byte_free c low = elim (true_or_false (is_unescaped c)) [
@@ -89,13 +85,14 @@ byte_free c low = elim (true_or_false (is_unescaped c)) [
   | inr h ↦
       let high = unescaped_free (hex_digit (c / 16)) (hex_unescaped (c / 16) (omega arith)) in
       let rest = unescaped_free (hex_digit (c % 16)) (hex_unescaped (c % 16) (omega arith)) in
-      rw h (and_true (is_free (hex_digit (c / 16))) (is_free (hex_digit (c % 16)) && true) high (and_true (is_free (hex_digit (c % 16))) true rest refl))
+      rw h (and_from (is_free (hex_digit (c / 16))) (is_free (hex_digit (c % 16)) && true) high (and_from (is_free (hex_digit (c % 16))) true rest refl))
 ]
 
 pub encoded_free : (value : List ℕ) → All IsByte value → are_free (percent_encoded value) ≡ true
 unfolding percent_encoded
 encoded_free [] h = refl
-encoded_free (c ∷ value) h = free_append (escaped_byte c) (percent_encoded value) (byte_free c (All-head IsByte c value h)) (encoded_free value (All-tail IsByte c value h))
+encoded_free (c ∷ value) h = free_append (escaped_byte c) (percent_encoded value) (byte_free c (All-head IsByte c value h))
+    (encoded_free value (All-tail IsByte c value h))
 
 byte_escapes : (c : ℕ) (x : List ℕ) → c < 256 → are_escapes x ≡ true → are_escapes (escaped_byte c ++ x) ≡ true
 byte_escapes c x low h = elim (true_or_false (is_unescaped c)) [
@@ -123,7 +120,8 @@ low_character c h = let t : nat_lt c 256 ≡ true = member_passes (λ x. nat_lt 
 
 pub set82_bytes : (value : List ℕ) → are_in_set82 value ≡ true → All IsByte value
 set82_bytes [] h = All-nil IsByte
-set82_bytes (c ∷ value) h = All-cons IsByte c value (low_character c (and_first (is_in_set82 c) (are_in_set82 value) h)) (set82_bytes value (and_second (is_in_set82 c) (are_in_set82 value) h))
+set82_bytes (c ∷ value) h = All-cons IsByte c value (low_character c (and_first (is_in_set82 c) (are_in_set82 value) h))
+    (set82_bytes value (and_second (is_in_set82 c) (are_in_set82 value) h))
 
 -- ---- free texts have no byte that separates
 

@@ -11,7 +11,6 @@ use Rattle.gs_ai.specs.declared.errors.ValueFault.TheVariants.{Unknown}
 use Rattle.gs_ai.specs.declared.pair.Pair.{Pair}
 use Rattle.gs_ai.specs.declared.row.AiRow.{AiRow}
 use Rattle.gs_ai.specs.Values.{has_code, row_error, value_error}
-use Rattle.gs_ai.proofs.Searches.{find_read, position_within}
 use Rattle.gs_ident.specs.Identities.{IsInOrder}
 use Rattle.gs_ident.proofs.PairLemmas.{found_passes}
 use Rattle.gs_dlink.specs.declared.error.LinkFault.{LinkFault}
@@ -22,22 +21,27 @@ use Rattle.gs_dlink.specs.Uris.{Written}
 use Rattle.gs_dlink.specs.Values.{are_escapes, by_row, by_value, padded, pair_answer, value_of}
 use Rattle.gs_dlink.specs.ValuesSupport.{unescaped}
 use Rattle.gs_dlink.proofs.PlainValues.{spelled}
+use Rattle.gs_chars.proofs.Searches.{find_read, position_within}
 
 module _ (table : List AiRow) (pair : Written) where
   pub unknown : None ≡ find (has_code pair.code) table → Err (Element (record { at = pair.at; why = Value Unknown })) ≡ pair_answer table pair
   unfolding pair_answer
   unknown h = rw (← h) refl
 
-  pub no_escape : (row : AiRow) → Some row ≡ find (has_code pair.code) table → are_escapes pair.value ≡ false → Err (Element (record { at = pair.at; why = Escape })) ≡ pair_answer table pair
+  pub no_escape : (row : AiRow) → Some row ≡ find (has_code pair.code) table → are_escapes pair.value ≡ false → Err
+      (Element (record { at = pair.at; why = Escape })) ≡ pair_answer table pair
   unfolding pair_answer
   no_escape row h other = rw (← h, other) refl
 
-  pub valued : (row : AiRow) (value : List ℕ) (error : Option ValueFault) → Some row ≡ find (has_code pair.code) table → are_escapes pair.value ≡ true → value ≡ padded row.short (percent_decode pair.value) → value_error table pair.code value ≡ error → by_value pair value (option_map Value error) ≡ pair_answer table pair
+  pub valued : (row : AiRow) (value : List ℕ) (error : Option ValueFault) → Some row ≡ find (has_code pair.code) table
+      → are_escapes pair.value ≡ true → value ≡ padded row.short (percent_decode pair.value) → value_error table pair.code value ≡ error
+      → by_value pair value (option_map Value error) ≡ pair_answer table pair
   unfolding pair_answer
   valued row value error h escapes e f = let g : value_error table pair.code (value_of row pair.value) ≡ error = rw e at f in rw (← h, escapes, g, e) refl
 
 -- the row at the place of a pair's code, which judges the pair's value as the code does
-module _ (table : List AiRow) (pair : Written) (i : ℕ) (row : AiRow) (place : Some i ≡ position (has_code pair.code) table) (read : row ≡ get_or table i row) where
+module _ (table : List AiRow) (pair : Written) (i : ℕ) (row : AiRow) (place : Some i ≡ position (has_code pair.code) table)
+    (read : row ≡ get_or table i row) where
   pub row_found : Some row ≡ find (has_code pair.code) table
   row_found = sym (find_read (has_code pair.code) table i row (sym place) read)
 
@@ -47,34 +51,42 @@ module _ (table : List AiRow) (pair : Written) (i : ℕ) (row : AiRow) (place : 
       let low = position_within (has_code pair.code) table i (sym place) in
       rw (read_at table i row low read, own) refl
 
-  pub judged : (text value : List ℕ) (error : Option ValueFault) → Some text ≡ unescaped pair.value → value ≡ padded row.short text → row_error table i value ≡ error → by_value pair value (option_map Value error) ≡ pair_answer table pair
+  pub judged : (text value : List ℕ) (error : Option ValueFault) → Some text ≡ unescaped pair.value → value ≡ padded row.short text
+      → row_error table i value ≡ error → by_value pair value (option_map Value error) ≡ pair_answer table pair
   judged text value error spells e f =
       let own = spelled pair.value text spells in
       valued table pair row value error row_found own.0 (rw own.1 at e) (sym (same_error value) ∙ f)
 
 module _ (table : List AiRow) where
-  pub answer_append : (xs ys : List Written) (ps : List Pair) → written_answer table xs ≡ Ok ps → (qs : List Pair) → written_answer table ys ≡ Ok qs → written_answer table (xs ++ ys) ≡ Ok (ps ++ qs)
+  pub answer_append : (xs ys : List Written) (ps : List Pair) → written_answer table xs ≡ Ok ps → (qs : List Pair)
+      → written_answer table ys ≡ Ok qs → written_answer table (xs ++ ys) ≡ Ok (ps ++ qs)
   answer_append [] ys ps h qs k = let same : [] ≡ ps = cc in rw (← same) k
   answer_append (x ∷ xs) ys ps h qs k = by (pair_answer table x) (written_answer table xs) refl refl h (λ os e. answer_append xs ys os e qs k)
     where
-      by : (a : Result Pair LinkFault) (b : Result (List Pair) LinkFault) → pair_answer table x ≡ a → written_answer table xs ≡ b → then_pairs a b ≡ Ok ps → ((os : List Pair) → written_answer table xs ≡ Ok os → written_answer table (xs ++ ys) ≡ Ok (os ++ qs)) → then_pairs (pair_answer table x) (written_answer table (xs ++ ys)) ≡ Ok (ps ++ qs)
+      by : (a : Result Pair LinkFault) (b : Result (List Pair) LinkFault) → pair_answer table x ≡ a → written_answer table xs ≡ b
+          → then_pairs a b ≡ Ok ps → ((os : List Pair) → written_answer table xs ≡ Ok os → written_answer table (xs ++ ys) ≡ Ok (os ++ qs))
+          → then_pairs (pair_answer table x) (written_answer table (xs ++ ys)) ≡ Ok (ps ++ qs)
       by (Err e) b f g h rest = absurd (let bad : Err e ≡ Ok ps = h in cc)
       by (Ok p) (Err e) f g h rest = absurd (let bad : Err e ≡ Ok ps = h in cc)
       by (Ok p) (Ok os) f g h rest = let same : p ∷ os ≡ ps = cc in rw (f, rest os g, ← same) refl
 
   -- the first error after pairs without one
-  pub answer_rejected : (xs ys : List Written) (x : Written) (ps : List Pair) (e : LinkFault) → written_answer table xs ≡ Ok ps → pair_answer table x ≡ Err e → written_answer table (xs ++ x ∷ ys) ≡ Err e
+  pub answer_rejected : (xs ys : List Written) (x : Written) (ps : List Pair) (e : LinkFault) → written_answer table xs ≡ Ok ps
+      → pair_answer table x ≡ Err e → written_answer table (xs ++ x ∷ ys) ≡ Err e
   answer_rejected [] ys x ps e h f = rw f refl
   answer_rejected (w ∷ xs) ys x ps e h f = by (pair_answer table w) (written_answer table xs) refl refl h (λ os g. answer_rejected xs ys x os e g f)
     where
-      by : (a : Result Pair LinkFault) (b : Result (List Pair) LinkFault) → pair_answer table w ≡ a → written_answer table xs ≡ b → then_pairs a b ≡ Ok ps → ((os : List Pair) → written_answer table xs ≡ Ok os → written_answer table (xs ++ x ∷ ys) ≡ Err e) → then_pairs (pair_answer table w) (written_answer table (xs ++ x ∷ ys)) ≡ Err e
+      by : (a : Result Pair LinkFault) (b : Result (List Pair) LinkFault) → pair_answer table w ≡ a → written_answer table xs ≡ b
+          → then_pairs a b ≡ Ok ps → ((os : List Pair) → written_answer table xs ≡ Ok os → written_answer table (xs ++ x ∷ ys) ≡ Err e)
+          → then_pairs (pair_answer table w) (written_answer table (xs ++ x ∷ ys)) ≡ Err e
       by (Err d) b f g h rest = absurd (let bad : Err d ≡ Ok ps = h in cc)
       by (Ok p) (Err d) f g h rest = absurd (let bad : Err d ≡ Ok ps = h in cc)
       by (Ok p) (Ok os) f g h rest = rw (f, rest os g) refl
 
   -- ---- in a loop
 
-  split_at : {X : Type 0} (xs : List X) (i : ℕ) (x : X) → slice_get xs i ≡ Some x → (rest : List X) × (xs ≡ take i xs ++ x ∷ rest) × (take (i + 1) xs ≡ take i xs ++ x ∷ [])
+  split_at : {X : Type 0} (xs : List X) (i : ℕ) (x : X) → slice_get xs i ≡ Some x
+      → (rest : List X) × (xs ≡ take i xs ++ x ∷ rest) × (take (i + 1) xs ≡ take i xs ++ x ∷ [])
   split_at [] i x h = absurd (let g : None ≡ Some x = h in cc)
   split_at (y ∷ xs) zero x h = let same : y ≡ x = cc in rw same (xs, refl, refl)
   split_at (y ∷ xs) (suc i) x h =
@@ -87,21 +99,26 @@ module _ (table : List AiRow) where
   got (y ∷ xs) zero d low = refl
   got (y ∷ xs) (suc i) d low = got xs i d (omega arith)
 
-  module _ {X : Type 0} (f : X → Written) (xs : List X) (i : ℕ) (d : X) (ps : List Pair) (low : i < length xs) (so_far : written_answer table (map f (take i xs)) ≡ Ok ps) where
+  module _ {X : Type 0} (f : X → Written) (xs : List X) (i : ℕ) (d : X) (ps : List Pair) (low : i < length xs)
+      (so_far : written_answer table (map f (take i xs)) ≡ Ok ps) where
     pub pair_rejected : (e : LinkFault) → OrMemory (Err e) (pair_answer table (f (get_or xs i d))) → OrMemory (Err e) (written_answer table (map f xs))
     pair_rejected e (inl m) = let same : e ≡ Memory = cc in inl (ap Err same)
     pair_rejected e (inr h) =
         let split = split_at xs i (get_or xs i d) (got xs i d low) in
         inr (sym (ap (λ zs. written_answer table (map f zs)) split.1 ∙ ap (written_answer table) (map-append f (take i xs) (get_or xs i d ∷ split.0)) ∙ answer_rejected (map f (take i xs)) (map f split.0) (f (get_or xs i d)) ps e so_far (sym h)))
 
-    pub pair_more : (p : Pair) (new : List Pair) → OrMemory (Ok p) (pair_answer table (f (get_or xs i d))) → new ≡ ps ++ p ∷ [] → written_answer table (map f (take (i + 1) xs)) ≡ Ok new
+    pub pair_more : (p : Pair) (new : List Pair) → OrMemory (Ok p) (pair_answer table (f (get_or xs i d))) → new ≡ ps ++ p ∷ []
+        → written_answer table (map f (take (i + 1) xs)) ≡ Ok new
     pair_more p new (inl m) e = absurd (let bad : Ok p ≡ Err Memory = m in cc)
     pair_more p new (inr h) e =
         let split = split_at xs i (get_or xs i d) (got xs i d low) in
         let one : written_answer table (f (get_or xs i d) ∷ []) ≡ Ok (p ∷ []) = rw (← h) refl in
-        ap (λ zs. written_answer table (map f zs)) split.2 ∙ ap (written_answer table) (map-append f (take i xs) (get_or xs i d ∷ [])) ∙ answer_append (map f (take i xs)) (f (get_or xs i d) ∷ []) ps so_far (p ∷ []) one ∙ ap Ok (sym e)
+        ap (λ zs. written_answer table (map f zs)) split.2 ∙ ap (written_answer table)
+        (map-append f (take i xs) (get_or xs i d ∷ [])) ∙ answer_append (map f (take i xs)) (f (get_or xs i d) ∷ []) ps so_far
+        (p ∷ []) one ∙ ap Ok (sym e)
 
-pub all_pairs : {X : Type 0} (table : List AiRow) (f : X → Written) (xs : List X) (i : ℕ) (ps : List Pair) → length xs ≤ i → written_answer table (map f (take i xs)) ≡ Ok ps → OrMemory (Ok ps) (written_answer table (map f xs))
+pub all_pairs : {X : Type 0} (table : List AiRow) (f : X → Written) (xs : List X) (i : ℕ) (ps : List Pair) → length xs ≤ i
+    → written_answer table (map f (take i xs)) ≡ Ok ps → OrMemory (Ok ps) (written_answer table (map f xs))
 all_pairs table f xs i ps all h = inr (sym (rw (take_all i xs all) at h))
 
 -- ---- the answer of a public call
@@ -135,7 +152,9 @@ pub written_in_order : (table : List AiRow) (ws : List Written) (ps : List Pair)
 written_in_order table [] ps h = let same : [] ≡ ps = cc in rw (← same) (All-nil (IsInOrder table))
 written_in_order table (w ∷ ws) ps h = by (pair_answer table w) (written_answer table ws) refl refl h (λ os e. written_in_order table ws os e)
   where
-    by : (a : Result Pair LinkFault) (b : Result (List Pair) LinkFault) → pair_answer table w ≡ a → written_answer table ws ≡ b → then_pairs a b ≡ Ok ps → ((os : List Pair) → written_answer table ws ≡ Ok os → All (IsInOrder table) os) → All (IsInOrder table) ps
+    by : (a : Result Pair LinkFault) (b : Result (List Pair) LinkFault) → pair_answer table w ≡ a → written_answer table ws ≡ b
+        → then_pairs a b ≡ Ok ps → ((os : List Pair) → written_answer table ws ≡ Ok os → All (IsInOrder table) os)
+        → All (IsInOrder table) ps
     by (Err e) b f g h rest = absurd (let bad : Err e ≡ Ok ps = h in cc)
     by (Ok p) (Err e) f g h rest = absurd (let bad : Err e ≡ Ok ps = h in cc)
     by (Ok p) (Ok os) f g h rest = let same : p ∷ os ≡ ps = cc in rw (← same) (All-cons (IsInOrder table) p os (pair_in_order table w p f) (rest os g))

@@ -20,7 +20,8 @@ same_some : {X : Type 0} (a b : X) → Some a ≡ Some b → a ≡ b
 same_some a b h = cc
 
 -- the rest after a pair that is before others
-tail_of : (w : Written) (o : Option (List Written)) (pairs : List Written) → option_map (λ rest. w ∷ rest) o ≡ Some pairs → (rest : List Written) × (o ≡ Some rest) × (pairs ≡ w ∷ rest)
+tail_of : (w : Written) (o : Option (List Written)) (pairs : List Written) → option_map (λ rest. w ∷ rest) o ≡ Some pairs
+    → (rest : List Written) × (o ≡ Some rest) × (pairs ≡ w ∷ rest)
 tail_of w None pairs h = absurd (let g : None ≡ Some pairs = h in cc)
 tail_of w (Some rest) pairs h = (rest, refl, sym (same_some (w ∷ rest) pairs h))
 
@@ -33,7 +34,8 @@ odd x (y ∷ z ∷ u) d h =
     rw (odd z u rest.0 rest.1) refl
 
 -- segments before pairs are not pairs, or they are pairs before them
-pub in_front : (f u : List Piece) (d : List Written) → paired u ≡ Some d → (paired (f ++ u) ≡ None) ⊎ ((front : List Written) × (paired (f ++ u) ≡ Some (front ++ d)))
+pub in_front : (f u : List Piece) (d : List Written) → paired u ≡ Some d
+    → (paired (f ++ u) ≡ None) ⊎ ((front : List Written) × (paired (f ++ u) ≡ Some (front ++ d)))
 in_front [] u d h = inr ([], h)
 in_front (x ∷ []) u d h = inl (odd x u d h)
 in_front (x ∷ y ∷ f) u d h = elim (in_front f u d h) [
@@ -44,7 +46,8 @@ in_front (x ∷ y ∷ f) u d h = elim (in_front f u d h) [
 -- ---- codes in the order of a list
 
 -- a code that is not in the list is not in its order
-pub none_in_order : (test : List ℕ → Bool) (list codes : List (List ℕ)) → list_any test list ≡ false → is_in_order list codes ≡ true → list_any test codes ≡ false
+pub none_in_order : (test : List ℕ → Bool) (list codes : List (List ℕ)) → list_any test list ≡ false → is_in_order list codes ≡ true
+    → list_any test codes ≡ false
 none_in_order test list [] none h = refl
 none_in_order test [] (code ∷ codes) none h = absurd (true≢false (sym h))
 none_in_order test (first ∷ list) (code ∷ codes) none h =
@@ -78,7 +81,8 @@ module _ (table : List AiRow) (rules : KeepsRules table) where
         | inr t ↦ let g = rw t at h in let rest = found test rows row g in (suc rest.0, rest.1)
       ]
 
-      by : (o : Option AiRow) → ((row : AiRow) → o ≡ Some row → (i : ℕ) × (slice_get table i ≡ Some row)) → list_any is_key (Rattle.std.specs.Option.option_map_or (λ (row : AiRow). row.qualifiers) o []) ≡ false
+      by : (o : Option AiRow) → ((row : AiRow) → o ≡ Some row → (i : ℕ) × (slice_get table i ≡ Some row))
+          → list_any is_key (Rattle.std.specs.Option.option_map_or (λ (row : AiRow). row.qualifiers) o []) ≡ false
       by None h = refl
       by (Some row) h = let place = h row refl in (rules.lists_qualifiers place.0 row place.1).1
 
@@ -112,7 +116,8 @@ module _ (table : List AiRow) (rules : KeepsRules table) where
   path_if pairs = path_or table (Some pairs) None
 
   -- the segments before a key may be any
-  pub path_from_key : (f u : List Piece) (s : Written) (d : List Written) → paired u ≡ Some (s ∷ d) → is_key s.code ≡ true → list_any is_key (codes_of d) ≡ false → key_path table (f ++ u) ≡ path_if (s ∷ d)
+  pub path_from_key : (f u : List Piece) (s : Written) (d : List Written) → paired u ≡ Some (s ∷ d) → is_key s.code ≡ true
+      → list_any is_key (codes_of d) ≡ false → key_path table (f ++ u) ≡ path_if (s ∷ d)
   unfolding key_path
   path_from_key [] [] s d h key none = absurd (let g : Some [] ≡ Some (s ∷ d) = h in cc)
   path_from_key [] (x ∷ []) s d h key none = absurd (let g : None ≡ Some (s ∷ d) = h in cc)
@@ -133,7 +138,8 @@ module _ (table : List AiRow) (rules : KeepsRules table) where
 
   -- ---- the laws
 
-  split_path : (pairs : List Written) → is_key_path table pairs ≡ true → (s : Written) × (d : List Written) × (pairs ≡ s ∷ d) × (is_key s.code ≡ true) × (list_any is_key (codes_of d) ≡ false)
+  split_path : (pairs : List Written) → is_key_path table pairs ≡ true
+      → (s : Written) × (d : List Written) × (pairs ≡ s ∷ d) × (is_key s.code ≡ true) × (list_any is_key (codes_of d) ≡ false)
   split_path [] h = absurd (true≢false (sym h))
   split_path (s ∷ d) h =
       let key = and_first (is_key s.code) (is_in_order (listed_of table s.code) (codes_of d)) h in
@@ -161,7 +167,8 @@ found_is_path table (x ∷ segments) pairs h = by (λ g. found_is_path table seg
     later : IsKeyPath table segments pairs → IsKeyPath table (x ∷ segments) pairs
     later is = record { before = suc is.before; rest = is.rest; is_path = is.is_path }
 
-    by : (key_path table segments ≡ Some pairs → IsKeyPath table segments pairs) → (o : Option (List Written)) → paired (x ∷ segments) ≡ o → path_or table o (key_path table segments) ≡ Some pairs → IsKeyPath table (x ∷ segments) pairs
+    by : (key_path table segments ≡ Some pairs → IsKeyPath table segments pairs) → (o : Option (List Written)) → paired (x ∷ segments) ≡ o
+        → path_or table o (key_path table segments) ≡ Some pairs → IsKeyPath table (x ∷ segments) pairs
     by others None e h = later (others h)
     by others (Some own) e h = elim (true_or_false (is_key_path table own)) [
       | inl t ↦ let g = rw t at h in let same = same_some own pairs g in record { before = zero; rest = e ∙ ap Some same; is_path = rw (← same) t }
@@ -192,23 +199,29 @@ module _ (table : List AiRow) (rules : KeepsRules table) (at : ℕ) (path front 
   abbrev last_pair : ℕ → ℕ → Written
   last_pair value code = record { at = at + code + 1; code = drop (code + 1) (take value front); value = drop (value + 1) front }
 
-  two_behind : (value code : ℕ) → LastSlash front value → LastSlash (take value front) code → (u : List Piece) × (segments at path ≡ segments at (take code (take value front)) ++ u) × (paired u ≡ Some (last_pair value code ∷ pairs))
+  two_behind : (value code : ℕ) → LastSlash front value → LastSlash (take value front) code
+      → (u : List Piece) × (segments at path ≡ segments at (take code (take value front)) ++ u) × (paired u ≡ Some (last_pair value code ∷ pairs))
   two_behind value code last before =
       let low : length (take code (take value front)) ≡ code = length-take-le code (take value front) (let w = before.within in omega arith) in
       let c : Piece = record { at = at + length (take code (take value front)) + 1; text = drop (code + 1) (take value front) } in
       let v : Piece = record { at = at + length (take value front) + 1; text = drop (value + 1) front } in (
         c ∷ (v ∷ walked.behind),
-        walked.cut ∙ rw (segments_last at front value last, segments_last at (take value front) code before) (append_assoc (segments at (take code (take value front)) ++ c ∷ []) (v ∷ []) walked.behind ∙ append_assoc (segments at (take code (take value front))) (c ∷ []) (v ∷ walked.behind)),
+        walked.cut ∙ rw (segments_last at front value last, segments_last at (take value front) code before)
+            (append_assoc (segments at (take code (take value front)) ++ c ∷ []) (v ∷ []) walked.behind ∙ append_assoc (segments at (take code (take value front))) (c ∷ []) (v ∷ walked.behind)),
         rw (walked.in_pairs, low) refl,
       )
 
   -- the pair of a key before the others
-  pub key_found : (value code : ℕ) → LastSlash front value → LastSlash (take value front) code → is_key_of table (last_pair value code).code ≡ true → key_path table (segments at path) ≡ path_if table rules (last_pair value code ∷ pairs)
+  pub key_found : (value code : ℕ) → LastSlash front value → LastSlash (take value front) code
+      → is_key_of table (last_pair value code).code ≡ true
+      → key_path table (segments at path) ≡ path_if table rules (last_pair value code ∷ pairs)
   key_found value code last before key =
       let u = two_behind value code last before in
       ap (key_path table) u.1 ∙ path_from_key table rules (segments at (take code (take value front))) u.0 (last_pair value code) pairs u.2 key walked.no_key
 
-  pub one_pair_more : (value code : ℕ) → LastSlash front value → LastSlash (take value front) code → is_key_of table (last_pair value code).code ≡ false → Walked table at path (take code (take value front)) (last_pair value code ∷ pairs)
+  pub one_pair_more : (value code : ℕ) → LastSlash front value → LastSlash (take value front) code
+      → is_key_of table (last_pair value code).code ≡ false
+      → Walked table at path (take code (take value front)) (last_pair value code ∷ pairs)
   one_pair_more value code last before other =
       let u = two_behind value code last before in
       record {
@@ -231,8 +244,10 @@ pub behind_last : {X : Type 0} (old new all : List X) (x : X) → new ≡ old ++
 behind_last old new all x e t = let whole : all ≡ x ∷ reverse old = t ∙ turned old new x e in rw whole (rest_taken 1 (x ∷ reverse old))
 
 -- the key path of a key and the pairs after it
-pub ordered_path : (table : List AiRow) (key : Written) (pairs : List Written) → is_key_of table key.code ≡ true → is_in_order (listed_of table key.code) (codes_of pairs) ≡ true → Some (key ∷ pairs) ≡ path_or table (Some (key ∷ pairs)) None
+pub ordered_path : (table : List AiRow) (key : Written) (pairs : List Written) → is_key_of table key.code ≡ true
+    → is_in_order (listed_of table key.code) (codes_of pairs) ≡ true → Some (key ∷ pairs) ≡ path_or table (Some (key ∷ pairs)) None
 ordered_path table key pairs is ordered = rw (is, ordered) refl
 
-pub no_ordered_path : (table : List AiRow) (key : Written) (pairs : List Written) → is_key_of table key.code ≡ true → is_in_order (listed_of table key.code) (codes_of pairs) ≡ false → None ≡ path_or table (Some (key ∷ pairs)) None
+pub no_ordered_path : (table : List AiRow) (key : Written) (pairs : List Written) → is_key_of table key.code ≡ true
+    → is_in_order (listed_of table key.code) (codes_of pairs) ≡ false → None ≡ path_or table (Some (key ∷ pairs)) None
 no_ordered_path table key pairs is ordered = rw (is, ordered) refl

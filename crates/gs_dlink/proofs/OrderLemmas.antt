@@ -13,18 +13,21 @@ use Rattle.gs_dlink.specs.ValuesSupport.{written_of}
 -- ---- codes
 
 -- the code at an index, and none after the end
-pub code_there : (pairs : List WrittenPair) (i : ℕ) (code : List ℕ) (pair : WrittenPair) (r : Bool) → i < length pairs → pair ≡ get_or pairs i pair → r ≡ bytes_eq code pair.code.now → r ≡ is_code_at (map written_of pairs) i code
+pub code_there : (pairs : List WrittenPair) (i : ℕ) (code : List ℕ) (pair : WrittenPair) (r : Bool) → i < length pairs
+    → pair ≡ get_or pairs i pair → r ≡ bytes_eq code pair.code.now → r ≡ is_code_at (map written_of pairs) i code
 code_there pairs i code pair r low read e = e ∙ rw (slice_get-map written_of pairs i, read_at pairs i pair low read) refl
 
 pub none_there : (pairs : List WrittenPair) (i : ℕ) (code : List ℕ) → length pairs ≤ i → false ≡ is_code_at (map written_of pairs) i code
 none_there pairs i code high = rw (slice_get-map written_of pairs i, slice_get_past pairs i high) refl
 
-step_true : (first : List ℕ) (list : List (List ℕ)) (pairs : List Written) (n : ℕ) → is_code_at pairs n first ≡ true → is_in_order (first ∷ list) (codes_of (drop n pairs)) ≡ is_in_order list (codes_of (drop (n + 1) pairs))
+step_true : (first : List ℕ) (list : List (List ℕ)) (pairs : List Written) (n : ℕ) → is_code_at pairs n first ≡ true
+    → is_in_order (first ∷ list) (codes_of (drop n pairs)) ≡ is_in_order list (codes_of (drop (n + 1) pairs))
 step_true first list [] n h = absurd (true≢false (sym h))
 step_true first list (w ∷ pairs) zero h = let t : bytes_eq first w.code ≡ true = h in rw t refl
 step_true first list (w ∷ pairs) (suc n) h = let e : suc n + 1 ≡ suc (n + 1) = omega arith in rw e (step_true first list pairs n h)
 
-step_false : (first : List ℕ) (list : List (List ℕ)) (pairs : List Written) (n : ℕ) → is_code_at pairs n first ≡ false → is_in_order (first ∷ list) (codes_of (drop n pairs)) ≡ is_in_order list (codes_of (drop n pairs))
+step_false : (first : List ℕ) (list : List (List ℕ)) (pairs : List Written) (n : ℕ) → is_code_at pairs n first ≡ false
+    → is_in_order (first ∷ list) (codes_of (drop n pairs)) ≡ is_in_order list (codes_of (drop n pairs))
 step_false first [] [] zero h = refl
 step_false first (l ∷ list) [] zero h = refl
 step_false first [] [] (suc n) h = refl
@@ -48,7 +51,8 @@ code_within [] n code h = absurd (true≢false (sym h))
 code_within (w ∷ pairs) zero code h = omega arith
 code_within (w ∷ pairs) (suc n) code h = omega (arith, code_within pairs n code h)
 
-module _ (list : List (List ℕ)) (pairs : List Written) (index next : ℕ) (first : List ℕ) (ordered : Ordered list pairs index next) (low : index < length list) (here : first ≡ get_or list index first) where
+module _ (list : List (List ℕ)) (pairs : List Written) (index next : ℕ) (first : List ℕ) (ordered : Ordered list pairs index next)
+    (low : index < length list) (here : first ≡ get_or list index first) where
   cut : drop index list ≡ first ∷ drop (index + 1) list
   cut = rw add-one (drop-cons list index first low ∙ ap (λ c. c ∷ drop (suc index) list) (sym here))
 
@@ -58,5 +62,7 @@ module _ (list : List (List ℕ)) (pairs : List Written) (index next : ℕ) (fir
   pub code_passed : is_code_at pairs next first ≡ false → Ordered list pairs (index + 1) next
   code_passed h = record { within = ordered.within; left = ordered.left ∙ rw cut (step_false first (drop (index + 1) list) pairs next h) }
 
-pub order_ends : (list : List (List ℕ)) (pairs : List Written) (index next size : ℕ) → Ordered list pairs index next → length list ≤ index → length pairs ≡ size → (next == size) ≡ is_in_order list (codes_of pairs)
-order_ends list pairs index next size ordered all e = ap (λ (n : ℕ). next == n) (sym e) ∙ at_end pairs next ordered.within ∙ sym (ordered.left ∙ rw (drop_all index list all) refl)
+pub order_ends : (list : List (List ℕ)) (pairs : List Written) (index next size : ℕ) → Ordered list pairs index next → length list ≤ index
+    → length pairs ≡ size → (next == size) ≡ is_in_order list (codes_of pairs)
+order_ends list pairs index next size ordered all e = ap (λ (n : ℕ). next == n) (sym e) ∙ at_end pairs next ordered.within ∙ sym
+    (ordered.left ∙ rw (drop_all index list all) refl)

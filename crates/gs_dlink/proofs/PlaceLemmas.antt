@@ -5,7 +5,7 @@ use Rattle.std.proofs.lemmas.List.Elements.{All-head, All-nil, All-push, All-tai
 use Rattle.gs_ai.specs.declared.row.AiRow.{AiRow}
 use Rattle.gs_ai.specs.Tables.{is_key, is_key_of}
 use Rattle.gs_ai.specs.Values.{has_code}
-use Rattle.gs_ai.proofs.Searches.{none_any, passes_none}
+use Rattle.gs_chars.proofs.Searches.{none_any, passes_none}
 
 -- a code that no row has is not a key's
 pub no_row_no_key : (table : List AiRow) (code : List ℕ) → position (has_code code) table ≡ None → is_key_of table code ≡ false

@@ -7,7 +7,8 @@ use Rattle.gs_chars.specs.Characters.{is_byte}
 use Rattle.gs_dlink.specs.Values.{are_escapes}
 use Rattle.gs_dlink.specs.ValuesSupport.{unescaped}
 
-first_plain : (c : ℕ) (text : List ℕ) → position_or_len (is_byte 37) (c ∷ text) ≡ length (c ∷ text) → ((c == 37) ≡ false) × (position_or_len (is_byte 37) text ≡ length text)
+first_plain : (c : ℕ) (text : List ℕ) → position_or_len (is_byte 37) (c ∷ text) ≡ length (c ∷ text)
+    → ((c == 37) ≡ false) × (position_or_len (is_byte 37) text ≡ length text)
 first_plain c text h = elim (true_or_false (c == 37)) [
   | inl t ↦ absurd (let g = rw t at h in omega arith)
   | inr t ↦ let g = rw t at h in (t, omega arith)

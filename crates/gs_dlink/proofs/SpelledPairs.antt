@@ -5,7 +5,7 @@ use Rattle.std.specs.List.{after_first, before_first, flat_map, list_any}
 use Rattle.std.proofs.lemmas.Bool.Decides.{nat_tests}
 use Rattle.percent_encoding.specs.Percent.{percent_decode}
 use Rattle.gs_chars.specs.Characters.{are_digits, is_byte}
-use Rattle.gs_chars.proofs.TruthsAndLists.{and_first, and_second, equal_bytes, true_or_false}
+use Rattle.gs_chars.proofs.TruthsAndLists.{and_first, and_second, equal_bytes, true_or_false, equal_number}
 use Rattle.gs_ai.specs.declared.errors.ValueFault.TheVariants.{Unknown, Length}
 use Rattle.gs_ai.specs.declared.pair.Pair.{Pair}
 use Rattle.gs_ai.specs.declared.part.Part.{Part}
@@ -24,7 +24,7 @@ use Rattle.gs_dlink.specs.Paths.{paired}
 use Rattle.gs_dlink.specs.Uris.{Written, is_slash, part_pairs, pieces_behind, query_parts, separates_parts}
 use Rattle.gs_dlink.specs.Values.{is_short_gtin, padded, pair_answer}
 use Rattle.gs_dlink.proofs.CutLemmas.{after_seam, any_append, before_none, before_seam, no_pieces, pieces_seam}
-use Rattle.gs_dlink.proofs.FreeBytes.{are_free, decoded_again, digits_free, encoded_escapes, encoded_free, equal_number, is_free, no_byte, none_in, set82_bytes}
+use Rattle.gs_dlink.proofs.FreeBytes.{are_free, decoded_again, digits_free, encoded_escapes, encoded_free, is_free, no_byte, none_in, set82_bytes}
 use Rattle.gs_dlink.proofs.JudgementLemmas.{valued}
 
 -- ---- the written form of a pair
@@ -181,7 +181,8 @@ module _ (table : List AiRow) where
   steps_cut [] = refl
   steps_cut (p ∷ ps) = refl
 
-  pub steps_read : (at : ℕ) (ps : List Pair) → Each (IsOfTable table) ps → (ws : List Written) × (paired (pieces_behind is_slash at (steps ps)) ≡ Some ws) × AllSpelled ws ps
+  pub steps_read : (at : ℕ) (ps : List Pair) → Each (IsOfTable table) ps
+      → (ws : List Written) × (paired (pieces_behind is_slash at (steps ps)) ≡ Some ws) × AllSpelled ws ps
   steps_read at [] each = ([], refl, tt)
   steps_read at (p ∷ ps) each =
       let of = each zero p refl in
@@ -201,21 +202,25 @@ module _ (table : List AiRow) where
   equals_separates = refl
 
   part_whole : (p : Pair) → IsOfTable table p → list_any separates_parts (query_part p) ≡ false
-  part_whole p of = any_append separates_parts p.code (61 ∷ percent_encoded p.value) (none_in separates_parts no_separator p.code (code_free table p of)) (none_in separates_parts no_separator (percent_encoded p.value) (value_free table p of))
+  part_whole p of = any_append separates_parts p.code (61 ∷ percent_encoded p.value)
+      (none_in separates_parts no_separator p.code (code_free table p of))
+      (none_in separates_parts no_separator (percent_encoded p.value) (value_free table p of))
 
   before_tails : (a : List ℕ) (ps : List Pair) → list_any separates_parts a ≡ false → before_first separates_parts (a ++ tails ps) ≡ a
   before_tails a [] none = ap (before_first separates_parts) (append-nil a) ∙ before_none separates_parts a none
   before_tails a (p ∷ ps) none = before_seam separates_parts a (query_part p ++ tails ps) 38 refl ∙ before_none separates_parts a none
 
   -- the pair of a part that is written
-  part_read : (at : ℕ) (p : Pair) → IsOfTable table p → part_pairs (record { at = at; text = query_part p }) ≡ record { at = at; code = p.code; value = percent_encoded p.value } ∷ []
+  part_read : (at : ℕ) (p : Pair) → IsOfTable table p → part_pairs
+      (record { at = at; text = query_part p }) ≡ record { at = at; code = p.code; value = percent_encoded p.value } ∷ []
   part_read at p of =
       let none = no_byte 61 refl p.code (code_free table p of) in
       let name : before_first (is_byte 61) (query_part p) ≡ p.code = before_seam (is_byte 61) p.code (percent_encoded p.value) 61 refl ∙ before_none (is_byte 61) p.code none in
       let value : after_first (is_byte 61) (query_part p) ≡ percent_encoded p.value = after_seam (is_byte 61) p.code (percent_encoded p.value) 61 none refl in
       rw (name, value, code_there table p of, code_is_digits table p of) refl
 
-  pub query_read : (at : ℕ) (p : Pair) (ps : List Pair) → Each (IsOfTable table) (p ∷ ps) → (ws : List Written) × (flat_map part_pairs (query_parts at (query_part p ++ tails ps)) ≡ ws) × AllSpelled ws (p ∷ ps)
+  pub query_read : (at : ℕ) (p : Pair) (ps : List Pair) → Each (IsOfTable table) (p ∷ ps)
+      → (ws : List Written) × (flat_map part_pairs (query_parts at (query_part p ++ tails ps)) ≡ ws) × AllSpelled ws (p ∷ ps)
   query_read at p [] each =
       let of = each zero p refl in
       let none = part_whole p of in

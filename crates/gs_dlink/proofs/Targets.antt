@@ -16,7 +16,8 @@ use Rattle.gs_chars.specs.Characters.{is_byte}
 use Rattle.gs_dlink.specs.Uris.{authority_end, path_of, query_of, query_pairs, segments, Written}
 use Rattle.gs_dlink.proofs.JudgementLemmas.{written_in_order}
 
-module _ (table : List AiRow) (at : ℕ) (text : List ℕ) (hash end : ℕ) (h : hash ≡ position_or_len (is_byte 35) text) (e : end ≡ position_or_len (is_byte 63) (take hash text)) where
+module _ (table : List AiRow) (at : ℕ) (text : List ℕ) (hash end : ℕ) (h : hash ≡ position_or_len (is_byte 35) text)
+    (e : end ≡ position_or_len (is_byte 63) (take hash text)) where
   abbrev path : List ℕ
   path = take end (take hash text)
 
@@ -34,7 +35,10 @@ module _ (table : List AiRow) (at : ℕ) (text : List ℕ) (hash end : ℕ) (h :
   unfolding target_answer
   no_key_path rooted none = let g = rw path_is at rooted in let k = rw path_is at none in rw (g, ← k) refl
 
-  pub pairs_found : (found all : List Written) (rest : List ℕ) (result : Result (List Pair) LinkFault) → end ≤ length (take hash text) → is_rooted path ≡ true → Some found ≡ key_path table (segments at path) → rest ≡ drop (end + 1) (take hash text) → all ≡ found ++ query_pairs (at + end + 1) rest → OrMemory result (written_answer table all) → OrMemory result (target_answer table at text)
+  pub pairs_found : (found all : List Written) (rest : List ℕ) (result : Result (List Pair) LinkFault) → end ≤ length (take hash text)
+      → is_rooted path ≡ true → Some found ≡ key_path table (segments at path) → rest ≡ drop (end + 1) (take hash text)
+      → all ≡ found ++ query_pairs (at + end + 1) rest → OrMemory result (written_answer table all)
+      → OrMemory result (target_answer table at text)
   unfolding target_answer
   pairs_found found all rest result within rooted some behind both answer =
       let g = rw path_is at rooted in

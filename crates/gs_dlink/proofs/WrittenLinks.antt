@@ -5,7 +5,7 @@ use Rattle.std.specs.List.{after_first, before_first, filter_map, list_any, posi
 use Rattle.std.proofs.Math.Seq.{drop-append-add}
 use Rattle.std.proofs.lemmas.Bool.Decides.{nat_tests}
 use Rattle.std.proofs.lemmas.List.{drop-append-le}
-use Rattle.gs_chars.proofs.TruthsAndLists.{and_first, and_second, equal_bytes, false_from_not, place_left, place_right, true_or_false}
+use Rattle.gs_chars.proofs.TruthsAndLists.{and_first, and_second, equal_bytes, place_left, place_right, true_or_false, equal_number}
 use Rattle.gs_ai.specs.declared.pair.Pair.{Pair}
 use Rattle.gs_ai.specs.declared.row.AiRow.{AiRow}
 use Rattle.gs_ai.specs.Tables.{KeepsRules, is_key_of}
@@ -20,14 +20,17 @@ use Rattle.gs_dlink.specs.Stems.{are_stem_bytes, begins_authority, goes_on, is_s
 use Rattle.gs_chars.specs.Characters.{is_byte}
 use Rattle.gs_dlink.specs.Uris.{Written, authority_end, ends_authority, is_slash, path_of, pieces_behind, query_of as link_query_of, query_pairs, segments}
 use Rattle.gs_dlink.proofs.CutLemmas.{after_none, after_seam, any_append, any_drop, before_none, before_seam, pieces_seam, place_seam, place_within}
-use Rattle.gs_dlink.proofs.FreeBytes.{equal_number, is_free, no_byte}
+use Rattle.gs_dlink.proofs.FreeBytes.{is_free, no_byte}
 use Rattle.gs_dlink.proofs.KeyPaths.{lists_no_key, none_in_order, ordered_path, path_from_key}
 use Rattle.gs_dlink.proofs.SpelledPairs.{AllSpelled, IsOfTable, all_read_again, code_free, of_table, query_read, spelled_append, steps, steps_read, tails, value_free}
 use Rattle.gs_dlink.proofs.Targets.{link_by}
+use Rattle.std.proofs.lemmas.Bool.{not-true}
 
 -- ---- codes in the order of a list
 
-monotone : (first : List ℕ) (list : List (List ℕ)) → ((c : List ℕ) (cs : List (List ℕ)) → is_in_order list (c ∷ cs) ≡ true → is_in_order list cs ≡ true) → (cs : List (List ℕ)) → is_in_order list cs ≡ true → is_in_order (first ∷ list) cs ≡ true
+monotone : (first : List ℕ) (list : List (List ℕ))
+    → ((c : List ℕ) (cs : List (List ℕ)) → is_in_order list (c ∷ cs) ≡ true → is_in_order list cs ≡ true) → (cs : List (List ℕ))
+    → is_in_order list cs ≡ true → is_in_order (first ∷ list) cs ≡ true
 monotone first list fewer [] h = refl
 monotone first list fewer (c ∷ cs) h = elim (true_or_false (bytes_eq first c)) [
   | inl t ↦ rw t (fewer c cs h)
@@ -48,11 +51,13 @@ chosen_in_order : (pairs : List Pair) (list : List (List ℕ)) → is_in_order l
 chosen_in_order pairs [] = refl
 chosen_in_order pairs (first ∷ list) = by (pair_with pairs first) refl (chosen_in_order pairs list)
   where
-    by : (o : Option Pair) → pair_with pairs first ≡ o → is_in_order list (pair_codes (filter_map (pair_with pairs) list)) ≡ true → is_in_order (first ∷ list) (pair_codes (filter_map (pair_with pairs) (first ∷ list))) ≡ true
+    by : (o : Option Pair) → pair_with pairs first ≡ o → is_in_order list (pair_codes (filter_map (pair_with pairs) list)) ≡ true
+        → is_in_order (first ∷ list) (pair_codes (filter_map (pair_with pairs) (first ∷ list))) ≡ true
     by None e rest = rw e (monotone first list (fewer list) (pair_codes (filter_map (pair_with pairs) list)) rest)
     by (Some pair) e rest = let same = found_passes (λ (pair : Pair). bytes_eq first pair.code) pairs pair e in rw (e, same) rest
 
-ordered_for : (table : List AiRow) (pairs : List Pair) (key own : Pair) (qualifiers : List Pair) → key ≡ own → qualifiers ≡ filter_map (pair_with pairs) (listed table own) → is_in_order (listed_of table key.code) (pair_codes qualifiers) ≡ true
+ordered_for : (table : List AiRow) (pairs : List Pair) (key own : Pair) (qualifiers : List Pair) → key ≡ own
+    → qualifiers ≡ filter_map (pair_with pairs) (listed table own) → is_in_order (listed_of table key.code) (pair_codes qualifiers) ≡ true
 ordered_for table pairs key own qualifiers e f = rw (e, f) (chosen_in_order pairs (listed table own))
 
 -- ---- the facts of an identity that was made
@@ -99,11 +104,13 @@ module _ (table : List AiRow) (s : ℕ) (separates : is_free s ≡ false) where
       any_append (is_byte s) (path_step p) (steps ps) (rw other (any_append (is_byte s) p.code (47 ∷ percent_encoded p.value) code (rw other value))) rest
 
   no_part : is_byte s 61 ≡ false → (p : Pair) → IsOfTable table p → list_any (is_byte s) (query_part p) ≡ false
-  no_part equals p of = any_append (is_byte s) p.code (61 ∷ percent_encoded p.value) (no_byte s separates p.code (code_free table p of)) (rw equals (no_byte s separates (percent_encoded p.value) (value_free table p of)))
+  no_part equals p of = any_append (is_byte s) p.code (61 ∷ percent_encoded p.value) (no_byte s separates p.code (code_free table p of))
+      (rw equals (no_byte s separates (percent_encoded p.value) (value_free table p of)))
 
   no_tail : is_byte s 61 ≡ false → is_byte s 38 ≡ false → (ps : List Pair) → Each (IsOfTable table) ps → list_any (is_byte s) (tails ps) ≡ false
   no_tail equals and [] each = refl
-  no_tail equals and (p ∷ ps) each = any_append (is_byte s) (38 ∷ query_part p) (tails ps) (rw and (no_part equals p (each zero p refl))) (no_tail equals and ps (λ j q at. each (suc j) q at))
+  no_tail equals and (p ∷ ps) each = any_append (is_byte s) (38 ∷ query_part p) (tails ps) (rw and (no_part equals p (each zero p refl)))
+      (no_tail equals and ps (λ j q at. each (suc j) q at))
 
 -- ---- the answer to a path with its query that is written
 
@@ -126,7 +133,8 @@ module _ (table : List AiRow) (rules : KeepsRules table) (identity : Elements) (
   unfolding segments
   path_read at p0 = by (steps_read table (at + length p0) path_pairs path_of_table)
     where
-      by : ((ws : List Written) × (paired (pieces_behind is_slash (at + length p0) (steps path_pairs)) ≡ Some ws) × AllSpelled ws path_pairs) → (ws : List Written) × (key_path table (pieces_behind is_slash at (p0 ++ steps path_pairs)) ≡ Some ws) × AllSpelled ws path_pairs
+      by : ((ws : List Written) × (paired (pieces_behind is_slash (at + length p0) (steps path_pairs)) ≡ Some ws) × AllSpelled ws path_pairs)
+          → (ws : List Written) × (key_path table (pieces_behind is_slash at (p0 ++ steps path_pairs)) ≡ Some ws) × AllSpelled ws path_pairs
       by ([], h, spelled) = absurd spelled
       by (s ∷ d, h, spelled) =
           let ordered : is_in_order (listed_of table s.code) (codes_of d) ≡ true = rw (spelled.0.code, spelled_codes d identity.qualifiers spelled.1) (qualifiers_ordered table identity is_made) in
@@ -148,7 +156,8 @@ module _ (table : List AiRow) (rules : KeepsRules table) (identity : Elements) (
       by [] each = ([], refl, tt)
       by (p ∷ ps) each = query_read table n p ps each
 
-  module _ (p0 : List ℕ) (no_question : list_any (is_byte 63) p0 ≡ false) (no_hash : list_any (is_byte 35) p0 ≡ false) (rooted : is_rooted (p0 ++ steps path_pairs) ≡ true) where
+  module _ (p0 : List ℕ) (no_question : list_any (is_byte 63) p0 ≡ false) (no_hash : list_any (is_byte 35) p0 ≡ false)
+      (rooted : is_rooted (p0 ++ steps path_pairs) ≡ true) where
     abbrev front : List ℕ
     front = p0 ++ steps path_pairs
 
@@ -163,7 +172,8 @@ module _ (table : List AiRow) (rules : KeepsRules table) (identity : Elements) (
 
     query_hash : (ps : List Pair) → Each (IsOfTable table) ps → list_any (is_byte 35) (query_of ps) ≡ false
     query_hash [] each = refl
-    query_hash (p ∷ ps) each = any_append (is_byte 35) (query_part p) (tails ps) (no_part table 35 refl refl p (each zero p refl)) (no_tail table 35 refl refl refl ps (λ j q at. each (suc j) q at))
+    query_hash (p ∷ ps) each = any_append (is_byte 35) (query_part p) (tails ps) (no_part table 35 refl refl p (each zero p refl))
+        (no_tail table 35 refl refl refl ps (λ j q at. each (suc j) q at))
 
     whole : before_first (is_byte 35) rest ≡ rest
     whole = before_none (is_byte 35) rest (any_append (is_byte 35) front (query_of identity.attributes) front_hash (query_hash identity.attributes query_of_table))
@@ -188,7 +198,8 @@ module _ (table : List AiRow) (rules : KeepsRules table) (identity : Elements) (
 -- ---- the stem
 
 -- the path of a stem is empty or begins with a slash
-stem_rooted : (r z : List ℕ) → list_any (is_byte 63) r ≡ false → list_any (is_byte 35) r ≡ false → is_rooted (drop (position_or_len ends_authority r) r ++ 47 ∷ z) ≡ true
+stem_rooted : (r z : List ℕ) → list_any (is_byte 63) r ≡ false → list_any (is_byte 35) r ≡ false
+    → is_rooted (drop (position_or_len ends_authority r) r ++ 47 ∷ z) ≡ true
 stem_rooted [] z no_question no_hash = refl
 stem_rooted (c ∷ r) z no_question no_hash = elim (true_or_false (is_byte 63 c)) [
   | inl q ↦ absurd (let g = rw q at no_question in true≢false g)
@@ -199,7 +210,8 @@ stem_rooted (c ∷ r) z no_question no_hash = elim (true_or_false (is_byte 63 c)
         let hash = rw h at no_hash in
         elim (true_or_false (is_slash c)) [
           | inl t ↦ rw t t
-          | inr t ↦ let e : 1 + position_or_len ends_authority r ≡ suc (position_or_len ends_authority r) = grind arith in rw (t, q, h, e) (stem_rooted r z question hash)
+          | inr t ↦ let e : 1 + position_or_len ends_authority r ≡ suc (position_or_len ends_authority r) = grind arith in rw (t, q, h, e)
+              (stem_rooted r z question hash)
         ]
   ]
 ]
@@ -221,11 +233,11 @@ record Behind (r : List ℕ) : Type 0 where
 
 behind_http : (r : List ℕ) → goes_on (codes "http://" ++ r) 7 ≡ true → are_stem_bytes (codes "http://" ++ r) ≡ true → Behind r
 behind_http [] h bytes = absurd (true≢false (sym h))
-behind_http (c ∷ r) h bytes = record { first = c; others = r; is = refl; no_slash = false_from_not (c == 47) (and_second (nat_lt 7 (length (codes "http://" ++ c ∷ r))) (not (c == 47)) h); bytes = bytes }
+behind_http (c ∷ r) h bytes = record { first = c; others = r; is = refl; no_slash = not-true (c == 47) (and_second (nat_lt 7 (length (codes "http://" ++ c ∷ r))) (not (c == 47)) h); bytes = bytes }
 
 behind_https : (r : List ℕ) → goes_on (codes "https://" ++ r) 8 ≡ true → are_stem_bytes (codes "https://" ++ r) ≡ true → Behind r
 behind_https [] h bytes = absurd (true≢false (sym h))
-behind_https (c ∷ r) h bytes = record { first = c; others = r; is = refl; no_slash = false_from_not (c == 47) (and_second (nat_lt 8 (length (codes "https://" ++ c ∷ r))) (not (c == 47)) h); bytes = bytes }
+behind_https (c ∷ r) h bytes = record { first = c; others = r; is = refl; no_slash = not-true (c == 47) (and_second (nat_lt 8 (length (codes "https://" ++ c ∷ r))) (not (c == 47)) h); bytes = bytes }
 
 -- the stem is one of the schemes and the rest after it
 stem_cut : (stem : List ℕ) → stem_ok stem ≡ true → (r : List ℕ) × ((stem ≡ codes "http://" ++ r) ⊎ (stem ≡ codes "https://" ++ r)) × Behind r
@@ -261,7 +273,8 @@ https_end y h = rw h refl
 authority_there : (r : List ℕ) → Behind r → (position_or_len ends_authority r == 0) ≡ false
 authority_there r b = rw b.is (by b.first b.no_slash (stem_free 63 refl (b.first ∷ b.others) (rw b.is at b.bytes)) (stem_free 35 refl (b.first ∷ b.others) (rw b.is at b.bytes)))
   where
-    by : (c : ℕ) → is_slash c ≡ false → list_any (is_byte 63) (c ∷ b.others) ≡ false → list_any (is_byte 35) (c ∷ b.others) ≡ false → (position_or_len ends_authority (c ∷ b.others) == 0) ≡ false
+    by : (c : ℕ) → is_slash c ≡ false → list_any (is_byte 63) (c ∷ b.others) ≡ false → list_any (is_byte 35) (c ∷ b.others) ≡ false
+        → (position_or_len ends_authority (c ∷ b.others) == 0) ≡ false
     by c slash question hash = elim (true_or_false (is_byte 63 c)) [
       | inl q ↦ absurd (let g = rw q at question in true≢false g)
       | inr q ↦ elim (true_or_false (is_byte 35 c)) [
@@ -282,16 +295,20 @@ module _ (table : List AiRow) (rules : KeepsRules table) (identity : Elements) (
 
   -- the text after the scheme, cut at the end of the authority
   behind_read : (r : List ℕ) → Behind r → (text : List ℕ) (n : ℕ) → authority_end text ≡ Some (n + position_or_len ends_authority r)
-      → drop (n + position_or_len ends_authority r) text ≡ drop (position_or_len ends_authority r) (r ++ (steps (identity.key ∷ identity.qualifiers) ++ query_of identity.attributes)) → link_answer table text ≡ Ok (pairs_of identity)
+      → drop (n + position_or_len ends_authority r) text ≡ drop (position_or_len ends_authority r)
+      (r ++ (steps (identity.key ∷ identity.qualifiers) ++ query_of identity.attributes)) → link_answer table text ≡ Ok
+      (pairs_of identity)
   behind_read r b text n end left =
       let m : ℕ = position_or_len ends_authority r in
       let body : List ℕ = steps (identity.key ∷ identity.qualifiers) ++ query_of identity.attributes in
       let own : drop (n + m) text ≡ (drop m r ++ steps (identity.key ∷ identity.qualifiers)) ++ query_of identity.attributes =
-      left ∙ drop-append-le m r body (place_within ends_authority r) ∙ sym (append_assoc (drop m r) (steps (identity.key ∷ identity.qualifiers)) (query_of identity.attributes)) in
+      left ∙ drop-append-le m r body (place_within ends_authority r) ∙ sym
+      (append_assoc (drop m r) (steps (identity.key ∷ identity.qualifiers)) (query_of identity.attributes)) in
       let question = stem_free 63 refl r b.bytes in
       let hash = stem_free 35 refl r b.bytes in
       link_by table text (n + m) (sym end) ∙ ap (target_answer table (n + m)) own
-      ∙ target_read table rules identity is_made (drop m r) (any_drop (is_byte 63) r m question) (any_drop (is_byte 35) r m hash) (stem_rooted r _ question hash) (n + m)
+      ∙ target_read table rules identity is_made (drop m r) (any_drop (is_byte 63) r m question) (any_drop (is_byte 35) r m hash)
+      (stem_rooted r _ question hash) (n + m)
 
   pub link_read : (stem : List ℕ) → stem_ok stem ≡ true → link_answer table (spelled stem identity) ≡ Ok (pairs_of identity)
   link_read stem ok =
@@ -303,10 +320,14 @@ module _ (table : List AiRow) (rules : KeepsRules table) (identity : Elements) (
       elim cut.1 [
         | inl is ↦
             let text : spelled stem identity ≡ codes "http://" ++ (r ++ body) = in_shape stem ∙ ap (λ (front : List ℕ). front ++ body) is ∙ append_assoc (codes "http://") r body in
-            ap (link_answer table) text ∙ behind_read r cut.2 (codes "http://" ++ (r ++ body)) 7 (http_end (r ++ body) there ∙ ap (λ (n : ℕ). Some (7 + n)) place) (drop-append-add (codes "http://") (r ++ body) (position_or_len ends_authority r))
+            ap (link_answer table) text ∙ behind_read r cut.2 (codes "http://" ++ (r ++ body)) 7
+            (http_end (r ++ body) there ∙ ap (λ (n : ℕ). Some (7 + n)) place)
+            (drop-append-add (codes "http://") (r ++ body) (position_or_len ends_authority r))
         | inr is ↦
             let text : spelled stem identity ≡ codes "https://" ++ (r ++ body) = in_shape stem ∙ ap (λ (front : List ℕ). front ++ body) is ∙ append_assoc (codes "https://") r body in
-            ap (link_answer table) text ∙ behind_read r cut.2 (codes "https://" ++ (r ++ body)) 8 (https_end (r ++ body) there ∙ ap (λ (n : ℕ). Some (8 + n)) place) (drop-append-add (codes "https://") (r ++ body) (position_or_len ends_authority r))
+            ap (link_answer table) text ∙ behind_read r cut.2 (codes "https://" ++ (r ++ body)) 8
+            (https_end (r ++ body) there ∙ ap (λ (n : ℕ). Some (8 + n)) place)
+            (drop-append-add (codes "https://") (r ++ body) (position_or_len ends_authority r))
       ]
 
 pub canonical_stem_ok : stem_ok (codes "https://id.gs1.org") ≡ true

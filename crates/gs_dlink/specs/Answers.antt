@@ -8,7 +8,7 @@ use Rattle.gs_dlink.specs.Paths.{key_path}
 use Rattle.gs_dlink.specs.Uris.{authority_end, is_slash, path_of, query_of, query_pairs, segments, Written}
 use Rattle.gs_dlink.specs.Values.{pair_answer}
 
--- trusted, own: one pair more, before those of the others, or the first error
+-- trusted, own: the pair before those of the others, or the first error
 abbrev pub then_pairs : Result Pair LinkFault → Result (List Pair) LinkFault → Result (List Pair) LinkFault
 then_pairs (Err error) rest = Err error
 then_pairs (Ok pair) (Ok pairs) = Ok (pair ∷ pairs)
@@ -19,7 +19,7 @@ abbrev pub written_answer : List AiRow → List Written → Result (List Pair) L
 written_answer table [] = Ok []
 written_answer table (pair ∷ written) = then_pairs (pair_answer table pair) (written_answer table written)
 
--- trusted, own: the path is empty or begins with a slash
+-- trusted, own: holds if the path is empty or begins with a slash
 abbrev pub is_rooted : List ℕ → Bool
 is_rooted [] = true
 is_rooted (c ∷ _) = is_slash c
@@ -50,8 +50,8 @@ abbrev pub error_in : Result (List Pair) LinkFault → Option LinkFault
 error_in (Ok _) = None
 error_in (Err error) = Some error
 
--- trusted, GS1 Digital Link URI Syntax, section 3; the order of the errors is own: the text is a link that names these
--- pairs
+-- trusted, GS1 Digital Link URI Syntax, section 3; the order of the errors is own: holds if `text` is a Digital Link URI that
+-- names `pairs`
 abbrev pub IsLink : List AiRow → List ℕ → List Pair → Type 0
 IsLink table text pairs = link_answer table text ≡ Ok pairs
 
@@ -59,7 +59,8 @@ IsLink table text pairs = link_answer table text ≡ Ok pairs
 abbrev pub link_error : List AiRow → List ℕ → Option LinkFault
 link_error table text = error_in (link_answer table text)
 
--- trusted, RFC 9112, section 3.2.1; GS1 Digital Link URI Syntax, section 3: the same for the target of a request
+-- trusted, RFC 9112, section 3.2.1; GS1 Digital Link URI Syntax, section 3: holds if `text` is the target of a request that
+-- names `pairs`
 abbrev pub IsTarget : List AiRow → List ℕ → List Pair → Type 0
 IsTarget table text pairs = target_answer table 0 text ≡ Ok pairs
 

@@ -17,7 +17,7 @@ paired (code ∷ value ∷ segments) =
 abbrev pub codes_of : List Written → List (List ℕ)
 codes_of pairs = map (λ (pair : Written). pair.code) pairs
 
--- trusted, own: the codes are in the list in its order, each at most once
+-- trusted, own: holds if the codes are a subsequence of `list`
 abbrev pub is_in_order : List (List ℕ) → List (List ℕ) → Bool
 is_in_order list [] = true
 is_in_order [] (code ∷ codes) = false
@@ -28,13 +28,14 @@ is_in_order (first ∷ list) (code ∷ codes) =
 abbrev pub listed_of : List AiRow → List ℕ → List (List ℕ)
 listed_of table key = option_map_or (λ row. row.qualifiers) (find (has_code key) table) []
 
--- trusted, own: a key, and then qualifiers of its list in its order, each at most once
+-- trusted, own: holds if the pairs are a key, and then qualifiers of its list in its order, each at most once
 abbrev pub is_key_path : List AiRow → List Written → Bool
 is_key_path table [] = false
 is_key_path table (key ∷ qualifiers) =
     is_key_of table key.code && is_in_order (listed_of table key.code) (codes_of qualifiers)
 
--- trusted, GS1 Digital Link URI Syntax, section 3: these pairs are a key path in which the segments end
+-- trusted, GS1 Digital Link URI Syntax, section 3: holds if the segments from some place to the end, taken two at a time, are
+-- the key path `pairs`
 pub record IsKeyPath (table : List AiRow) (segments : List Piece) (pairs : List Written) : Type 0 where
   pub before : ℕ
   pub rest : paired (drop before segments) ≡ Some pairs

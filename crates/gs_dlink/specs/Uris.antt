@@ -7,21 +7,21 @@ use Rattle.gs_ai.specs.Tables.{is_empty}
 
 -- ---- the bytes that separate
 
--- trusted, own: the byte is `/`
+-- trusted, own: holds if the byte `c` is `/`
 abbrev pub is_slash : ℕ → Bool
 is_slash c = is_byte 47 c
 
--- trusted, own: a byte that ends an authority: `/`, `?` or `#` (section 3.2)
+-- trusted, own: holds if the byte `c` ends an authority: `/`, `?` or `#` (section 3.2)
 abbrev pub ends_authority : ℕ → Bool
 ends_authority c = c == 47 || c == 63 || c == 35
 
--- trusted, own: a byte that separates the parts of a query: `&` or `;`
+-- trusted, own: holds if the byte `c` separates the parts of a query: `&` or `;`
 abbrev pub separates_parts : ℕ → Bool
 separates_parts c = c == 38 || c == 59
 
 -- ---- scheme and authority (sections 3.1 and 3.2)
 
--- trusted, own: the text begins with the scheme case-insensitively
+-- trusted, own: holds if `text` begins with `scheme`, case-insensitively for a lower-case scheme
 abbrev pub has_scheme : List ℕ → List ℕ → Bool
 has_scheme scheme text = bytes_eq (map to_ascii_lowercase (take (length scheme) text)) scheme
 
@@ -95,7 +95,7 @@ part_pair part = record {
   value = after_first (is_byte 61) part.text;
 }
 
--- trusted, own: the name of a part is that of an application identifier: one digit or more
+-- trusted, own: holds if the name of the part `pair` is that of an application identifier: one digit or more
 abbrev pub is_named : Written → Bool
 is_named pair = not (is_empty pair.code) && are_digits pair.code
 

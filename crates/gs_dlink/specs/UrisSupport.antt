@@ -3,11 +3,11 @@ use Rattle.std.specs.Prelude.{◌≡◌, ℕ, ◌+◌, ◌<◌, false, List, ◌
 use Rattle.std.specs.List.{list_any}
 use Rattle.gs_dlink.specs.Uris.{is_slash}
 
--- no byte of a text is a slash
+-- holds if no byte of a text is a slash
 abbrev pub NoSlash : List ℕ → Type 0
 NoSlash text = list_any is_slash text ≡ false
 
--- the last slash is at this place
+-- holds if the last slash is at this place
 pub record LastSlash (text : List ℕ) (place : ℕ) : Type 0 where
   pub within : place < length text
   pub cut : text ≡ take place text ++ 47 ∷ drop (place + 1) text

@@ -15,22 +15,22 @@ use Rattle.gs_dlink.specs.declared.error.LinkFault.TheVariants.{Element}
 use Rattle.gs_dlink.specs.declared.value.WrittenPair.{WrittenPair}
 use Rattle.gs_dlink.specs.Uris.{Written}
 
--- the row of the pair is that of its code
+-- holds if the row of the pair is that of its code
 abbrev pub IsPlaced : List AiRow → WrittenPair → Type 0
 IsPlaced table pair = pair.row ≡ position (has_code pair.code.now) table
 
--- trusted, own: the text begins with two hexadecimal digits
+-- trusted, own: holds if the text begins with two hexadecimal digits
 abbrev pub begins_hex : List ℕ → Bool
 begins_hex [] = false
 begins_hex (high ∷ []) = false
 begins_hex (high ∷ low ∷ text) = is_ascii_hexdigit high && is_ascii_hexdigit low
 
--- trusted, own: each percent sign begins an escape
+-- trusted, own: holds if each percent sign of the text begins an escape
 abbrev pub are_escapes : List ℕ → Bool
 are_escapes [] = true
 are_escapes (c ∷ text) = (not (c == 37) || begins_hex text) && are_escapes text
 
--- trusted, own: a GTIN of 8, 12 or 13 digits
+-- trusted, own: holds if `value` is 8, 12 or 13 digits, as a short GTIN is
 abbrev pub is_short_gtin : List ℕ → Bool
 is_short_gtin value = ((length value == 8) || (length value == 12) || (length value == 13)) && are_digits value
 

@@ -16,7 +16,7 @@
 //!
 //! # Differences from the standard
 //!
-//! - Of GS1 Digital Link: URI Syntax it has uncompressed links with numeric codes; the names of codes, as `gtin`, and
+//! - Of GS1 Digital Link: URI Syntax it has uncompressed links with numeric codes. The names of codes, such as `gtin`, and
 //!   compressed links are not read.
 //! - A GTIN may have 8, 12 or 13 digits, which are filled up with leading zeros; it is written with 14.
 #![tactic(auto)]

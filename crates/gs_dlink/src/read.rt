@@ -15,9 +15,9 @@ use gs_ai::{AiTable, Pair};
 use gs_chars::{List, place_of};
 use std::alloc::Global;
 
-/// Returns the pairs that a link names: those of its key path, then those of its query (GS1 Digital Link URI Syntax, section 3).
-/// The first error is the answer: `NotHttp`, `NoKeyPath`, then pair by pair `Unknown`, `Escape` and the errors of the value, at
-/// the place of the pair's code in the text. May return `Memory` instead.
+/// Returns the pairs that a link names: those of its key path, then those of its query (GS1 Digital Link URI Syntax, section
+/// 3). The first error is the answer: `NotHttp`, `NoKeyPath`, then pair by pair `Unknown`, `Escape` and the errors of the
+/// value. Its place is that of the pair's code in the text. May return `Memory` instead.
 pub fn read_link<'a>(
     alloc: Global,
     table: &AiTable,

@@ -7,7 +7,7 @@ use Rattle.std.proofs.lemmas.List.{append_cancel_left}
 use Rattle.std.proofs.lemmas.List.Sums.{take_while-cons}
 use Rattle.memchr.specs.Find.{is_byte2}
 use Rattle.gs_chars.specs.Characters.{are_digits, are_in_set82, is_digit, is_in_set82}
-use Rattle.gs_chars.proofs.TruthsAndLists.{and_first, and_second, false_from, or_parts, true_or_false}
+use Rattle.gs_chars.proofs.TruthsAndLists.{and_first, and_second, true_or_false, equal_number}
 use Rattle.gs_ai.specs.declared.errors.ElementFault.{ElementFault}
 use Rattle.gs_ai.specs.declared.errors.ElementWhy.TheVariants.{Value, Bracket}
 use Rattle.gs_ai.specs.declared.errors.ValueFault.{ValueFault}
@@ -20,6 +20,7 @@ use Rattle.gs_ai.proofs.ValueLemmas.{code_of_row, value_in_set82}
 use Rattle.gs_element.specs.BracketedTexts.{bracketed_element, bracketed_error, closed_code, code_front, front_error, is_cut, value_before, written_character, written_value, IsBracketedElement}
 use Rattle.gs_element.specs.BracketedSupport.{is_escape}
 use Rattle.gs_element.proofs.JoinLemmas.{IsBlocked, IsGreedy, IsKnown}
+use Rattle.std.proofs.lemmas.Bool.{or_parts, false_from_ne_true}
 
 -- ---- codes
 
@@ -56,7 +57,7 @@ unfolding is_in_set82
 backslash_outside = refl
 
 no_backslash : (c : ℕ) → is_in_set82 c ≡ true → (c == 92) ≡ false
-no_backslash c h = false_from (c == 92) (λ e. let same : c ≡ 92 = grind (arith, nat_tests) in true≢false (sym h ∙ ap is_in_set82 same ∙ backslash_outside))
+no_backslash c h = false_from_ne_true (c == 92) (λ e. let same : c ≡ 92 = grind (arith, nat_tests) in true≢false (sym h ∙ ap is_in_set82 same ∙ backslash_outside))
 
 pub value_none : (after : List ℕ) → is_cut after ≡ true → value_before after ≡ []
 value_none [] cut = refl
@@ -69,9 +70,6 @@ value_one c [] other plain = rw other refl
 value_one c (d ∷ text) other plain = rw (other, plain) refl
 
 -- ---- the next character of a value
-
-equal_number : (a b : ℕ) → (a == b) ≡ true → a ≡ b
-equal_number a b h = grind (arith, nat_tests)
 
 other_number : (a b : ℕ) → (a ≡ b → ⊥) → (a == b) ≡ false
 other_number a b h = grind (arith, nat_tests)
@@ -90,7 +88,8 @@ pub some_behind : (c : ℕ) (rest : List ℕ) → is_escape c rest ≡ true → 
 some_behind c [] h = absurd (true≢false (sym h))
 some_behind c (d ∷ rest) h = omega arith
 
-pub escape_next : (text : List ℕ) (c : ℕ) (rest left : List ℕ) → text ≡ c ∷ rest → is_escape c rest ≡ true → left ≡ drop 1 rest → (value_before text ≡ 40 ∷ value_before left) × (text ≡ 92 ∷ 40 ∷ left)
+pub escape_next : (text : List ℕ) (c : ℕ) (rest left : List ℕ) → text ≡ c ∷ rest → is_escape c rest ≡ true → left ≡ drop 1 rest
+    → (value_before text ≡ 40 ∷ value_before left) × (text ≡ 92 ∷ 40 ∷ left)
 escape_next text c [] left e h l = absurd (true≢false (sym h))
 escape_next text c (d ∷ rest) left e h l =
     let first : c ≡ 92 = equal_number c 92 (and_first (c == 92) (d == 40) h) in
@@ -99,12 +98,14 @@ escape_next text c (d ∷ rest) left e h l =
     let same : left ≡ rest = l in
     rw (whole, same) (refl, refl)
 
-pub plain_next : (text : List ℕ) (c : ℕ) (rest : List ℕ) → text ≡ c ∷ rest → (c ≡ 40 → ⊥) → is_escape c rest ≡ false → (value_before text ≡ c ∷ value_before rest) × (text ≡ written_character c ++ rest)
+pub plain_next : (text : List ℕ) (c : ℕ) (rest : List ℕ) → text ≡ c ∷ rest → (c ≡ 40 → ⊥) → is_escape c rest ≡ false
+    → (value_before text ≡ c ∷ value_before rest) × (text ≡ written_character c ++ rest)
 plain_next text c [] e other plain = let o = other_number c 40 other in rw e (rw o (refl, refl))
 plain_next text c (d ∷ rest) e other plain = let o = other_number c 40 other in rw e (rw (o, plain) (refl, refl))
 
 -- the characters before the first opening bracket or backslash stand for themselves
-pub plain_front : (text : List ℕ) → (value_before text ≡ take (position_or_len (is_byte2 40 92) text) text ++ value_before (drop (position_or_len (is_byte2 40 92) text) text)) × (text ≡ written_value (take (position_or_len (is_byte2 40 92) text) text) ++ drop (position_or_len (is_byte2 40 92) text) text)
+pub plain_front : (text : List ℕ)
+    → (value_before text ≡ take (position_or_len (is_byte2 40 92) text) text ++ value_before (drop (position_or_len (is_byte2 40 92) text) text)) × (text ≡ written_value (take (position_or_len (is_byte2 40 92) text) text) ++ drop (position_or_len (is_byte2 40 92) text) text)
 plain_front [] = (refl, refl)
 plain_front (c ∷ text) = elim (true_or_false (is_byte2 40 92 c)) [
   | inl ends ↦ rw ends (refl, refl)
@@ -171,7 +172,8 @@ module _ (rows : List AiRow) (rules : KeepsRules rows) where
   in_shape pair text after h = h.text_is ∙ ap (λ (x : List ℕ). 40 ∷ x) (append_assoc pair.code (41 ∷ written_value pair.value) after)
 
   code_is : (pair : Pair) (text after : List ℕ) → Element pair text after → code_front text ≡ Some (pair.code, written_value pair.value ++ after)
-  code_is pair text after h = ap code_front (in_shape pair text after h) ∙ code_known pair.code (written_value pair.value ++ after) (code_of_row rows rules pair.code pair.value h.in_order.fits)
+  code_is pair text after h = ap code_front (in_shape pair text after h) ∙ code_known pair.code (written_value pair.value ++ after)
+      (code_of_row rows rules pair.code pair.value h.in_order.fits)
 
   value_is : (pair : Pair) (text after : List ℕ) → Element pair text after → value_before (written_value pair.value ++ after) ≡ pair.value
   value_is pair text after h = value_known pair.value after (value_in_set82 rows pair.code pair.value h.in_order.fits) h.cut
@@ -260,9 +262,11 @@ module _ (rows : List AiRow) (rules : KeepsRules rows) where
         | inr h ↦ rw (take_while-cons is_digit x xs, h) refl
       ]
 
-  pub cut_is : (text code value behind after : List ℕ) → code_front text ≡ Some (code, behind) → value_error rows code value ≡ None → behind ≡ written_value value ++ after → is_cut after ≡ true → Element (record { code = code; value = value }) text after
+  pub cut_is : (text code value behind after : List ℕ) → code_front text ≡ Some (code, behind) → value_error rows code value ≡ None
+      → behind ≡ written_value value ++ after → is_cut after ≡ true → Element (record { code = code; value = value }) text after
   cut_is text code value behind after front fits value_text cut = record {
-    text_is = code_shape text code behind front ∙ ap (λ (x : List ℕ). 40 ∷ (code ++ 41 ∷ x)) value_text ∙ sym (ap (λ (x : List ℕ). 40 ∷ x) (append_assoc code (41 ∷ written_value value) after));
+    text_is = code_shape text code behind front ∙ ap (λ (x : List ℕ). 40 ∷ (code ++ 41 ∷ x)) value_text ∙ sym
+        (ap (λ (x : List ℕ). 40 ∷ x) (append_assoc code (41 ∷ written_value value) after));
     in_order = record { fits = fits };
     cut = cut;
   }
@@ -270,7 +274,8 @@ module _ (rows : List AiRow) (rules : KeepsRules rows) where
   abbrev GoesOn : List ℕ → Type 0
   GoesOn text = ((error : ElementFault) × (bracketed_error rows text ≡ Some error)) ⊎ ((pair : Pair) × ((next : List ℕ) × (Element pair text next × IsGreedy Element text next)))
 
-  goes_by_value : (c : ℕ) (text code behind : List ℕ) → code_front (c ∷ text) ≡ Some (code, behind) → (f : Option ValueFault) → value_error rows code (value_before behind) ≡ f → GoesOn (c ∷ text)
+  goes_by_value : (c : ℕ) (text code behind : List ℕ) → code_front (c ∷ text) ≡ Some (code, behind) → (f : Option ValueFault)
+      → value_error rows code (value_before behind) ≡ f → GoesOn (c ∷ text)
   goes_by_value c text code behind e (Some f) h = inl (record { at = 1; why = Value f }, ap (front_error rows) e ∙ (rw h refl))
   goes_by_value c text code behind e None h =
       let value = value_front behind in
@@ -288,11 +293,14 @@ module _ (rows : List AiRow) (rules : KeepsRules rows) where
   bracketed_known = record { ends = ends; same_pair = same_pair; blocked = blocked; goes_on = goes_on; greedy = λ p text a h. inl (greedy_known p text a h); none_at_end = refl }
 
 -- no code at the start
-pub no_code : (rows : List AiRow) (text : List ℕ) → 0 < length text → None ≡ code_front text → bracketed_error rows text ≡ Some (record { at = 0; why = Bracket })
+pub no_code : (rows : List AiRow) (text : List ℕ) → 0 < length text → None ≡ code_front text → bracketed_error rows text ≡ Some
+    (record { at = 0; why = Bracket })
 no_code rows [] some e = absurd (omega arith)
 no_code rows (c ∷ text) some e = ap (front_error rows) (sym e)
 
 -- an error of the value after the code at the start
-pub no_value : (rows : List AiRow) (text code behind value : List ℕ) (error : ValueFault) → 0 < length text → Some (code, behind) ≡ code_front text → value ≡ value_before behind → value_error rows code value ≡ Some error → bracketed_error rows text ≡ Some (record { at = 1; why = Value error })
+pub no_value : (rows : List AiRow) (text code behind value : List ℕ) (error : ValueFault) → 0 < length text → Some
+    (code, behind) ≡ code_front text → value ≡ value_before behind → value_error rows code value ≡ Some error
+    → bracketed_error rows text ≡ Some (record { at = 1; why = Value error })
 no_value rows [] code behind value error some e v f = absurd (omega arith)
 no_value rows (c ∷ text) code behind value error some e v f = ap (front_error rows) (sym e) ∙ (rw (← v, f) refl)

@@ -11,7 +11,8 @@ IsBlocked Element text = (pair : Pair) (after : List ℕ) → Element pair text 
 
 -- each element at the start of the text leaves this, or more with no element at its start
 abbrev pub IsGreedy : Form → List ℕ → List ℕ → Type 0
-IsGreedy Element text next = (pair : Pair) (after : List ℕ) → Element pair text after → (after ≡ next) ⊎ (IsBlocked Element after × (length next < length after))
+IsGreedy Element text next = (pair : Pair) (after : List ℕ) → Element pair text after
+    → (after ≡ next) ⊎ (IsBlocked Element after × (length next < length after))
 
 -- The reasons why joins and errors of a form are unique.
 pub record IsKnown (Element : Form) (error_of : List ℕ → Option ElementFault) : Type 0 where
@@ -20,14 +21,16 @@ pub record IsKnown (Element : Form) (error_of : List ℕ → Option ElementFault
   pub same_pair : (text : List ℕ) (p q : Pair) (a b : List ℕ) → Element p text a → Element q text b → p ≡ q
   -- an error at the start, or an element
   pub blocked : (text : List ℕ) (error : ElementFault) → error_of text ≡ Some error → IsBlocked Element text
-  pub goes_on : (c : ℕ) (text : List ℕ) → ((error : ElementFault) × (error_of (c ∷ text) ≡ Some error)) ⊎ ((pair : Pair) × ((next : List ℕ) × (Element pair (c ∷ text) next × IsGreedy Element (c ∷ text) next)))
+  pub goes_on : (c : ℕ) (text : List ℕ)
+      → ((error : ElementFault) × (error_of (c ∷ text) ≡ Some error)) ⊎ ((pair : Pair) × ((next : List ℕ) × (Element pair (c ∷ text) next × IsGreedy Element (c ∷ text) next)))
   pub greedy : (pair : Pair) (text after : List ℕ) → Element pair text after → IsGreedy Element text after ⊎ IsBlocked Element after
   pub none_at_end : error_of [] ≡ None
 
 module _ (Element : Form) where
   -- the prefixes that are joins are no longer than that which ends before the rest, or they go on from there
   abbrev pub Reaches : List ℕ → List ℕ → Type 0
-  Reaches text rest = (others : List Pair) (after : List ℕ) → Joined Element others text after → (length rest ≤ length after) ⊎ ((later : List Pair) × Joined Element later rest after)
+  Reaches text rest = (others : List Pair) (after : List ℕ) → Joined Element others text after
+      → (length rest ≤ length after) ⊎ ((later : List Pair) × Joined Element later rest after)
 
   pub reaches_start : (text : List ℕ) → Reaches text text
   reaches_start text others after joined = inr (others, joined)
@@ -48,7 +51,8 @@ module _ (Element : Form) where
         ] j.2)
       ]
 
-  pub reaches_stop : (text rest : List ℕ) → IsBlocked Element rest → Reaches text rest → (others : List Pair) (after : List ℕ) → Joined Element others text after → length rest ≤ length after
+  pub reaches_stop : (text rest : List ℕ) → IsBlocked Element rest → Reaches text rest → (others : List Pair) (after : List ℕ)
+      → Joined Element others text after → length rest ≤ length after
   reaches_stop text rest blocked reaches others after joined = elim (reaches others after joined) [
     | inl h ↦ h
     | inr later ↦ elim later.0 as (λ qs. Joined Element qs rest after → length rest ≤ length after) [
@@ -58,12 +62,14 @@ module _ (Element : Form) where
   ]
 
   -- one element more at the end
-  pub joined_more : (pairs : List Pair) (pair : Pair) (text rest next : List ℕ) → Joined Element pairs text rest → Element pair rest next → Joined Element (pairs ++ pair ∷ []) text next
+  pub joined_more : (pairs : List Pair) (pair : Pair) (text rest next : List ℕ) → Joined Element pairs text rest → Element pair rest next
+      → Joined Element (pairs ++ pair ∷ []) text next
   joined_more [] pair text rest next e h = (next, subst (λ (x : List ℕ). Element pair x next) (sym e) h, refl)
   joined_more (p ∷ pairs) pair text rest next j h = (j.0, j.1, joined_more pairs pair j.0 rest next j.2 h)
 
   -- a fact of the pair of each element holds for all pairs
-  pub all_joined : (P : Pair → Type 0) → ((pair : Pair) (text after : List ℕ) → Element pair text after → P pair) → (pairs : List Pair) (text rest : List ℕ) → Joined Element pairs text rest → All P pairs
+  pub all_joined : (P : Pair → Type 0) → ((pair : Pair) (text after : List ℕ) → Element pair text after → P pair)
+      → (pairs : List Pair) (text rest : List ℕ) → Joined Element pairs text rest → All P pairs
   all_joined P each [] text rest j = All-nil P
   all_joined P each (p ∷ pairs) text rest j = All-cons P p pairs (each p text j.0 j.1) (all_joined P each pairs j.0 rest j.2)
 
@@ -108,7 +114,8 @@ module _ (Element : Form) (error_of : List ℕ → Option ElementFault) (known :
   blocked_end [] after blocked e = e
   blocked_end (p ∷ pairs) after blocked j = absurd (blocked p j.0 j.1)
 
-  ends_alike : (text : List ℕ) (p q : Pair) (a b : List ℕ) (ps qs : List Pair) → Element p text a → Element q text b → Joined Element ps a [] → Joined Element qs b [] → a ≡ b
+  ends_alike : (text : List ℕ) (p q : Pair) (a b : List ℕ) (ps qs : List Pair) → Element p text a → Element q text b
+      → Joined Element ps a [] → Joined Element qs b [] → a ≡ b
   ends_alike text p q a b ps qs e f j k = elim (known.greedy p text a e) [
     | inl g ↦ elim (g q b f) [
       | inl same ↦ sym same
@@ -163,12 +170,15 @@ module _ (Element : Form) (error_of : List ℕ → Option ElementFault) (known :
     pub joined : Joined Element pairs text rest
     pub reaches : Reaches Element text rest
 
-  pub next_read : (text : List ℕ) (pairs : List Pair) (pair : Pair) (rest next : List ℕ) → Element pair rest next → IsGreedy Element rest next → Joined Element pairs text rest → Reaches Element text rest → IsRead text (pairs ++ pair ∷ []) next
+  pub next_read : (text : List ℕ) (pairs : List Pair) (pair : Pair) (rest next : List ℕ) → Element pair rest next
+      → IsGreedy Element rest next → Joined Element pairs text rest → Reaches Element text rest → IsRead text (pairs ++ pair ∷ []) next
   next_read text pairs pair rest next element greedy joined reaches =
       let less = shorter pair rest next element in
       record { joined = joined_more Element pairs pair text rest next joined element; reaches = reaches_next Element text rest next (omega arith) greedy reaches }
 
-  pub first_error : (whole text : List ℕ) (pairs : List Pair) (rest : List ℕ) (own error : ElementFault) → length text ≤ length whole → error_of rest ≡ Some own → error.at ≡ (length whole - length rest) + own.at → error.why ≡ own.why → Joined Element pairs text rest → Reaches Element text rest → IsFirstError Element error_of whole text error
+  pub first_error : (whole text : List ℕ) (pairs : List Pair) (rest : List ℕ) (own error : ElementFault) → length text ≤ length whole
+      → error_of rest ≡ Some own → error.at ≡ (length whole - length rest) + own.at → error.why ≡ own.why → Joined Element pairs text rest
+      → Reaches Element text rest → IsFirstError Element error_of whole text error
   first_error whole text pairs rest own error fits e place why joined reaches = record {
     pairs = pairs;
     rest = rest;
@@ -185,7 +195,8 @@ module _ (Element : Form) (error_of : List ℕ → Option ElementFault) (known :
   abbrev pub Answered : List ℕ → List ℕ → Type 0
   Answered whole text = ((pairs : List Pair) × Joined Element pairs text []) ⊎ ((error : ElementFault) × IsFirstError Element error_of whole text error)
 
-  answered_from : (whole text : List ℕ) → length text ≤ length whole → (n : ℕ) (done : List Pair) (rest : List ℕ) → length rest ≤ n → Joined Element done text rest → Reaches Element text rest → Answered whole text
+  answered_from : (whole text : List ℕ) → length text ≤ length whole → (n : ℕ) (done : List Pair) (rest : List ℕ) → length rest ≤ n
+      → Joined Element done text rest → Reaches Element text rest → Answered whole text
   answered_from whole text fits n done [] h j reaches = inl (done, j)
   answered_from whole text fits zero done (c ∷ rest) h j reaches = absurd (omega arith)
   answered_from whole text fits (suc n) done (c ∷ rest) h j reaches = elim (known.goes_on c rest) [

@@ -7,7 +7,7 @@ use Rattle.std.proofs.lemmas.Bool.Decides.{nat_tests}
 use Rattle.std.proofs.lemmas.List.{length-take, take-append-drop}
 use Rattle.std.proofs.lemmas.List.Sums.{take_while-cons}
 use Rattle.gs_chars.specs.Characters.{are_digits, are_in_set82, is_digit, is_in_set82}
-use Rattle.gs_chars.proofs.TruthsAndLists.{and_first, and_second, equal_bytes, false_from, read_at, same_bytes, true_or_false}
+use Rattle.gs_chars.proofs.TruthsAndLists.{and_first, and_second, equal_bytes, read_at, same_bytes, true_or_false}
 use Rattle.gs_ai.specs.declared.errors.ElementFault.{ElementFault}
 use Rattle.gs_ai.specs.declared.errors.ElementWhy.TheVariants.{Value}
 use Rattle.gs_ai.specs.declared.errors.ValueFault.{ValueFault}
@@ -18,13 +18,14 @@ use Rattle.gs_ai.specs.PredefinedLengths.{predefined_length}
 use Rattle.gs_ai.specs.Tables.{begins, is_code, row_at, KeepsRules}
 use Rattle.gs_ai.specs.Values.{has_code, row_error, value_error}
 use Rattle.gs_ai.proofs.RowLemmas.{code_digits, code_long}
-use Rattle.gs_ai.proofs.Searches.{find_at_place, find_none, find_read, position_is, position_some, position_within}
 use Rattle.gs_ai.proofs.TableLemmas.{begun, one_begins}
 use Rattle.gs_ai.proofs.ValueLemmas.{code_of_row, of_row, predefined_kept, value_in_set82}
-use Rattle.gs_ident.proofs.PairLemmas.{found_passes}
+use Rattle.gs_ident.proofs.PairLemmas.{found_passes, pair_same}
 use Rattle.gs_element.specs.Raw.{raw_error, raw_value, raw_value_error, IsRawElement}
 use Rattle.gs_element.specs.RawSupport.{without_separator, IsCutFrom}
 use Rattle.gs_element.proofs.JoinLemmas.{IsBlocked, IsGreedy, IsKnown}
+use Rattle.gs_chars.proofs.Searches.{find_at_place, find_none, find_read, position_is, position_some, position_within}
+use Rattle.std.proofs.lemmas.Bool.{false_from_ne_true}
 
 -- ---- codes and values
 
@@ -50,7 +51,7 @@ unfolding is_in_set82
 separator_outside = refl
 
 no_separator : (c : ℕ) → is_in_set82 c ≡ true → (c == 29) ≡ false
-no_separator c h = false_from (c == 29) (λ e. let same : c ≡ 29 = grind (arith, nat_tests) in true≢false (sym h ∙ ap is_in_set82 same ∙ separator_outside))
+no_separator c h = false_from_ne_true (c == 29) (λ e. let same : c ≡ 29 = grind (arith, nat_tests) in true≢false (sym h ∙ ap is_in_set82 same ∙ separator_outside))
 
 -- the text ends, or goes on with a byte 29
 abbrev is_closed : List ℕ → Bool
@@ -77,9 +78,10 @@ module _ (rows : List AiRow) (rules : KeepsRules rows) where
     found : find (λ r. begins r.code text) rows ≡ Some row
     code_is : row.code ≡ pair.code
 
-  found_front : (text : List ℕ) (i : ℕ) (row : AiRow) → slice_get rows i ≡ Some row → begins row.code text ≡ true → find (λ r. begins r.code text) rows ≡ Some row
+  found_front : (text : List ℕ) (i : ℕ) (row : AiRow) → slice_get rows i ≡ Some row → begins row.code text ≡ true
+      → find (λ r. begins r.code text) rows ≡ Some row
   found_front text i row at front =
-      let place = position_is (λ r. begins r.code text) rows i row at front (λ j other low there. false_from (begins other.code text) (λ too.
+      let place = position_is (λ r. begins r.code text) rows i row at front (λ j other low there. false_from_ne_true (begins other.code text) (λ too.
       let e = one_begins rows rules text j i other row there at too front in
       absurd (omega arith))) in
       find_at_place (λ r. begins r.code text) rows i row place at
@@ -93,10 +95,14 @@ module _ (rows : List AiRow) (rules : KeepsRules rows) where
   behind_code : (pair : Pair) (text after : List ℕ) (h : Element pair text after) → drop (length pair.code) text ≡ pair.value ++ (h.closing ++ after)
   behind_code pair text after h = ap (drop (length pair.code)) h.text_is ∙ drop-append_seam pair.code (pair.value ++ (h.closing ++ after))
 
-  behind_value : (pair : Pair) (text after : List ℕ) (h : Element pair text after) → drop (length pair.value) (drop (length pair.code) text) ≡ h.closing ++ after
+  behind_value : (pair : Pair) (text after : List ℕ) (h : Element pair text after)
+      → drop (length pair.value) (drop (length pair.code) text) ≡ h.closing ++ after
   behind_value pair text after h = ap (drop (length pair.value)) (behind_code pair text after h) ∙ drop-append_seam pair.value (h.closing ++ after)
 
-  cut_by : (code value left : List ℕ) (r : Option ℕ) → predefined_length code ≡ r → ((n : ℕ) → predefined_length code ≡ Some n → length code + length value ≡ n) → are_in_set82 value ≡ true → (r ≡ None → is_closed left ≡ true) → option_map_or (λ n. take (n - length code) (value ++ left)) r (before_first (λ c. c == 29) (value ++ left)) ≡ value
+  cut_by : (code value left : List ℕ) (r : Option ℕ) → predefined_length code ≡ r
+      → ((n : ℕ) → predefined_length code ≡ Some n → length code + length value ≡ n) → are_in_set82 value ≡ true
+      → (r ≡ None → is_closed left ≡ true)
+      → option_map_or (λ n. take (n - length code) (value ++ left)) r (before_first (λ c. c == 29) (value ++ left)) ≡ value
   cut_by code value left (Some n) e size plain closed =
       let sum = size n e in
       let long : n - length code ≡ length value = omega arith in
@@ -117,9 +123,6 @@ module _ (rows : List AiRow) (rules : KeepsRules rows) where
       let cut = cut_by pair.code pair.value (h.closing ++ after) (predefined_length pair.code) refl h.predefined (value_in_set82 rows pair.code pair.value h.in_order.fits) (closed_left pair text after h) in
       sym (rw (behind_code pair text after h) cut)
 
-  pair_same : (p q : Pair) → p.code ≡ q.code → p.value ≡ q.value → p ≡ q
-  pair_same p q e f = λ i. record { code = e i; value = f i }
-
   same_pair : (text : List ℕ) (p q : Pair) (a b : List ℕ) → Element p text a → Element q text b → p ≡ q
   same_pair text p q a b h k =
       let one = of_front p text a h in
@@ -134,7 +137,8 @@ module _ (rows : List AiRow) (rules : KeepsRules rows) where
   ends pair text after h =
       let digit = digit_front pair.code (code_of_row rows rules pair.code pair.value h.in_order.fits) in
       let whole : text ≡ (pair.code ++ (pair.value ++ h.closing)) ++ after =
-      h.text_is ∙ ap (λ (x : List ℕ). pair.code ++ x) (sym (append_assoc pair.value h.closing after)) ∙ sym (append_assoc pair.code (pair.value ++ h.closing) after) in
+      h.text_is ∙ ap (λ (x : List ℕ). pair.code ++ x) (sym (append_assoc pair.value h.closing after)) ∙ sym
+      (append_assoc pair.code (pair.value ++ h.closing) after) in
       let size : length pair.code ≡ suc (length digit.others) = ap length digit.is in
       (pair.code ++ (pair.value ++ h.closing), whole, omega (arith, length-append pair.code (pair.value ++ h.closing)))
 
@@ -159,7 +163,8 @@ module _ (rows : List AiRow) (rules : KeepsRules rows) where
 
   -- each element at the start of the text is followed by these bytes
   abbrev Leaves : List ℕ → List ℕ → Type 0
-  Leaves text left = (pair : Pair) (after : List ℕ) → Element pair text after → (closing : List ℕ) × (left ≡ closing ++ after) × ((closing ≡ 29 ∷ []) ⊎ (closing ≡ []))
+  Leaves text left = (pair : Pair) (after : List ℕ) → Element pair text after
+      → (closing : List ℕ) × (left ≡ closing ++ after) × ((closing ≡ 29 ∷ []) ⊎ (closing ≡ []))
 
   leaves : (p : Pair) (text a : List ℕ) (h : Element p text a) → Leaves text (h.closing ++ a)
   leaves p text a h q b k =
@@ -224,11 +229,14 @@ module _ (rows : List AiRow) (rules : KeepsRules rows) where
       let size = ap length front ∙ length-take (length row.code) text in
       record { at = read_at rows index row within read; found = found; front = front; fits = omega arith }
 
-  pub judged : (text : List ℕ) (index : ℕ) (row : AiRow) (code after value : List ℕ) → IsFrontRow text index row → code ≡ row.code → after ≡ drop (length row.code) text → value ≡ raw_value code after → raw_value_error rows text ≡ row_error rows index value
+  pub judged : (text : List ℕ) (index : ℕ) (row : AiRow) (code after value : List ℕ) → IsFrontRow text index row → code ≡ row.code
+      → after ≡ drop (length row.code) text → value ≡ raw_value code after → raw_value_error rows text ≡ row_error rows index value
   judged text index row code after value is c a v = rw (is.found, is.at, v, c, a) refl
 
   -- the value that is cut by that row
-  pub cut_at : (text : List ℕ) (index : ℕ) (row : AiRow) (code after value rest : List ℕ) → IsFrontRow text index row → code ≡ row.code → after ≡ drop (length row.code) text → value ≡ raw_value code after → row_error rows index value ≡ None → rest ≡ without_separator (drop (length value) after) → IsCutFrom rows text code value rest
+  pub cut_at : (text : List ℕ) (index : ℕ) (row : AiRow) (code after value rest : List ℕ) → IsFrontRow text index row → code ≡ row.code
+      → after ≡ drop (length row.code) text → value ≡ raw_value code after → row_error rows index value ≡ None
+      → rest ≡ without_separator (drop (length value) after) → IsCutFrom rows text code value rest
   cut_at text index row code after value rest is c a v fits r =
       let behind : after ≡ drop (length code) text = a ∙ ap (λ (x : List ℕ). drop (length x) text) (sym c) in
       record {
@@ -263,7 +271,8 @@ module _ (rows : List AiRow) (rules : KeepsRules rows) where
       fronts (suc n) [] = refl
       fronts (suc n) (x ∷ xs) = ap (λ (ys : List ℕ). x ∷ ys) (fronts n xs)
 
-      by : (r : Option ℕ) → option_map_or (λ n. take (n - length code) after) r (before_first (λ c. c == 29) after) ≡ take (length (option_map_or (λ n. take (n - length code) after) r (before_first (λ c. c == 29) after))) after
+      by : (r : Option ℕ)
+          → option_map_or (λ n. take (n - length code) after) r (before_first (λ c. c == 29) after) ≡ take (length (option_map_or (λ n. take (n - length code) after) r (before_first (λ c. c == 29) after))) after
       by (Some n) = fronts (n - length code) after
       by None = fronts _ after
 
@@ -341,13 +350,15 @@ module _ (rows : List AiRow) (rules : KeepsRules rows) where
     cut_greedy =
         let own = cut_is in
         let left_is : own.closing ++ rest ≡ left = sym (behind_value (record { code = code; value = value }) text rest own) in
-        subst (λ (x : List ℕ). IsGreedy Element text x) (sym cut.rest_is) (greedy_left text left (subst (λ (x : List ℕ). Leaves text x) left_is (leaves (record { code = code; value = value }) text rest own)))
+        subst (λ (x : List ℕ). IsGreedy Element text x) (sym cut.rest_is)
+        (greedy_left text left (subst (λ (x : List ℕ). Leaves text x) left_is (leaves (record { code = code; value = value }) text rest own)))
 
   -- an error at the start of the text, or an element
   abbrev GoesOn : List ℕ → Type 0
   GoesOn text = ((error : ElementFault) × (raw_error rows text ≡ Some error)) ⊎ ((pair : Pair) × ((next : List ℕ) × (Element pair text next × IsGreedy Element text next)))
 
-  goes_by_value : (c : ℕ) (text : List ℕ) (row : AiRow) → find (λ r. begins r.code (c ∷ text)) rows ≡ Some row → (f : Option ValueFault) → value_error rows row.code (raw_value row.code (drop (length row.code) (c ∷ text))) ≡ f → GoesOn (c ∷ text)
+  goes_by_value : (c : ℕ) (text : List ℕ) (row : AiRow) → find (λ r. begins r.code (c ∷ text)) rows ≡ Some row → (f : Option ValueFault)
+      → value_error rows row.code (raw_value row.code (drop (length row.code) (c ∷ text))) ≡ f → GoesOn (c ∷ text)
   goes_by_value c text row e (Some f) h = inl (record { at = 0; why = Value f }, rw (e, h) refl)
   goes_by_value c text row e None h =
       let value = raw_value row.code (drop (length row.code) (c ∷ text)) in
@@ -366,7 +377,8 @@ module _ (rows : List AiRow) (rules : KeepsRules rows) where
   raw_known = record { ends = ends; same_pair = same_pair; blocked = blocked; goes_on = goes_on; greedy = greedy; none_at_end = refl }
 
 -- an error of the value at the start
-pub front_error : (rows : List AiRow) (text : List ℕ) (error : ValueFault) → 0 < length text → raw_value_error rows text ≡ Some error → raw_error rows text ≡ Some (record { at = 0; why = Value error })
+pub front_error : (rows : List AiRow) (text : List ℕ) (error : ValueFault) → 0 < length text → raw_value_error rows text ≡ Some error
+    → raw_error rows text ≡ Some (record { at = 0; why = Value error })
 front_error rows [] error some e = absurd (omega arith)
 front_error rows (c ∷ text) error some e = rw e refl
 
@@ -385,7 +397,8 @@ value_within code after value e = rw e (by (predefined_length code))
 
 -- ---- the predefined length by the row of a code
 
-pub length_by_row : (rows : List AiRow) (code : List ℕ) (index : ℕ) → Some index ≡ position (has_code code) rows → option_and_then (λ r. predefined_length r.code) (slice_get rows index) ≡ predefined_length code
+pub length_by_row : (rows : List AiRow) (code : List ℕ) (index : ℕ) → Some index ≡ position (has_code code) rows
+    → option_and_then (λ r. predefined_length r.code) (slice_get rows index) ≡ predefined_length code
 length_by_row rows code index e =
     let place = position_some (has_code code) rows index (sym e) in
     let same : code ≡ place.0.code = equal_bytes code place.0.code place.2 in

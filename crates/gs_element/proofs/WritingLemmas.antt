@@ -34,19 +34,24 @@ last_open-append : (u : Bool) (a b : List Pair) → last_open u (a ++ b) ≡ las
 last_open-append u [] b = refl
 last_open-append u (p ∷ a) b = last_open-append (is_none (predefined_length p.code)) a b
 
-pub one_written : (u : Bool) (pairs : List Pair) (i : ℕ) (pair : Pair) (base out closed coded new : List ℕ) → i < length pairs → pair ≡ get_or pairs i pair → out ≡ base ++ raw_behind u (take i pairs) → closed ≡ out ++ separator_of (last_open u (take i pairs)) → coded ≡ closed ++ pair.code → new ≡ coded ++ pair.value → new ≡ base ++ raw_behind u (take (i + 1) pairs)
+pub one_written : (u : Bool) (pairs : List Pair) (i : ℕ) (pair : Pair) (base out closed coded new : List ℕ) → i < length pairs
+    → pair ≡ get_or pairs i pair → out ≡ base ++ raw_behind u (take i pairs) → closed ≡ out ++ separator_of (last_open u (take i pairs))
+    → coded ≡ closed ++ pair.code → new ≡ coded ++ pair.value → new ≡ base ++ raw_behind u (take (i + 1) pairs)
 one_written u pairs i pair base out closed coded new low read e f g h =
     let done = raw_behind u (take i pairs) in
     let sep = separator_of (last_open u (take i pairs)) in
     let all : new ≡ (((base ++ done) ++ sep) ++ pair.code) ++ pair.value = h ∙ ap (λ (x : List ℕ). x ++ pair.value) (g ∙ ap (λ (x : List ℕ). x ++ pair.code) (f ∙ ap (λ (x : List ℕ). x ++ sep) e)) in
     let one : raw_behind (last_open u (take i pairs)) (pair ∷ []) ≡ sep ++ (pair.code ++ pair.value) = ap (λ (x : List ℕ). sep ++ (pair.code ++ x)) (append-nil pair.value) in
     let more : raw_behind u (take (i + 1) pairs) ≡ done ++ (sep ++ (pair.code ++ pair.value)) = ap (raw_behind u) (taken pairs i pair low read) ∙ raw_behind-append u (take i pairs) (pair ∷ []) ∙ ap (λ (x : List ℕ). done ++ x) one in
-    all ∙ append_assoc ((base ++ done) ++ sep) pair.code pair.value ∙ append_assoc (base ++ done) sep (pair.code ++ pair.value) ∙ append_assoc base done (sep ++ (pair.code ++ pair.value)) ∙ ap (λ (x : List ℕ). base ++ x) (sym more)
+    all ∙ append_assoc ((base ++ done) ++ sep) pair.code pair.value ∙ append_assoc (base ++ done) sep
+    (pair.code ++ pair.value) ∙ append_assoc base done (sep ++ (pair.code ++ pair.value)) ∙ ap (λ (x : List ℕ). base ++ x) (sym more)
 
-pub one_open : (u : Bool) (pairs : List Pair) (i : ℕ) (pair : Pair) → i < length pairs → pair ≡ get_or pairs i pair → is_none (predefined_length pair.code) ≡ last_open u (take (i + 1) pairs)
+pub one_open : (u : Bool) (pairs : List Pair) (i : ℕ) (pair : Pair) → i < length pairs → pair ≡ get_or pairs i pair
+    → is_none (predefined_length pair.code) ≡ last_open u (take (i + 1) pairs)
 one_open u pairs i pair low read = sym (ap (last_open u) (taken pairs i pair low read) ∙ last_open-append u (take i pairs) (pair ∷ []))
 
-pub all_behind : (u : Bool) (pairs : List Pair) (i : ℕ) (base out : List ℕ) → length pairs ≤ i → out ≡ base ++ raw_behind u (take i pairs) → out ≡ base ++ raw_behind u pairs
+pub all_behind : (u : Bool) (pairs : List Pair) (i : ℕ) (base out : List ℕ) → length pairs ≤ i → out ≡ base ++ raw_behind u (take i pairs)
+    → out ≡ base ++ raw_behind u pairs
 all_behind u pairs i base out high e = e ∙ ap (λ (x : List Pair). base ++ raw_behind u x) (take_all i pairs high)
 
 pub all_open : (u : Bool) (pairs : List Pair) (i : ℕ) (last : Bool) → length pairs ≤ i → last ≡ last_open u (take i pairs) → last ≡ last_open u pairs
@@ -54,15 +59,18 @@ all_open u pairs i last high e = e ∙ ap (last_open u) (take_all i pairs high)
 
 -- ---- character by character
 
-pub value_more : (value : List ℕ) (i : ℕ) (base out new : List ℕ) → i < length value → out ≡ base ++ written_value (take i value) → new ≡ out ++ written_character (get_or value i 0) → new ≡ base ++ written_value (take (i + 1) value)
+pub value_more : (value : List ℕ) (i : ℕ) (base out new : List ℕ) → i < length value → out ≡ base ++ written_value (take i value)
+    → new ≡ out ++ written_character (get_or value i 0) → new ≡ base ++ written_value (take (i + 1) value)
 value_more value i base out new low e f =
     let done : List ℕ = written_value (take i value) in
     let one : List ℕ = written_character (get_or value i 0) in
     let more : written_value (take (i + 1) value) ≡ done ++ one =
-    ap written_value (take_more value i 0 low) ∙ flat_map-append written_character (take i value) (get_or value i 0 ∷ []) ∙ ap (λ (x : List ℕ). done ++ x) (append-nil one) in
+    ap written_value (take_more value i 0 low) ∙ flat_map-append written_character (take i value) (get_or value i 0 ∷ []) ∙ ap
+    (λ (x : List ℕ). done ++ x) (append-nil one) in
     f ∙ ap (λ (x : List ℕ). x ++ one) e ∙ append_assoc base done one ∙ ap (λ (x : List ℕ). base ++ x) (sym more)
 
-pub value_whole : (value : List ℕ) (i : ℕ) (base out : List ℕ) → length value ≤ i → out ≡ base ++ written_value (take i value) → out ≡ base ++ written_value value
+pub value_whole : (value : List ℕ) (i : ℕ) (base out : List ℕ) → length value ≤ i → out ≡ base ++ written_value (take i value)
+    → out ≡ base ++ written_value value
 value_whole value i base out high e = e ∙ ap (λ (x : List ℕ). base ++ written_value x) (take_all i value high)
 
 -- ---- the whole text
@@ -71,13 +79,17 @@ separator_is : (r : Option ℕ) → (if is_some r then [] else 29 ∷ []) ≡ se
 separator_is None = refl
 separator_is (Some n) = refl
 
-raw_text_is : (pair : Pair) (pairs : List Pair) → raw_text (pair ∷ pairs) ≡ pair.code ++ (pair.value ++ raw_behind (is_none (predefined_length pair.code)) pairs)
+raw_text_is : (pair : Pair) (pairs : List Pair)
+    → raw_text (pair ∷ pairs) ≡ pair.code ++ (pair.value ++ raw_behind (is_none (predefined_length pair.code)) pairs)
 raw_text_is pair [] = ap (λ (x : List ℕ). pair.code ++ x) (sym (append-nil pair.value))
 raw_text_is pair (next ∷ pairs) =
     ap (λ (x : List ℕ). pair.code ++ (pair.value ++ (x ++ raw_text (next ∷ pairs)))) (separator_is (predefined_length pair.code))
     ∙ ap (λ (x : List ℕ). pair.code ++ (pair.value ++ (separator_of (is_none (predefined_length pair.code)) ++ x))) (raw_text_is next pairs)
 
-pub all_written : (key : Pair) (qualifiers attributes : List Pair) (old coded valued some all : List ℕ) (u v : Bool) → coded ≡ old ++ key.code → valued ≡ coded ++ key.value → u ≡ is_none (predefined_length key.code) → some ≡ valued ++ raw_behind u qualifiers → v ≡ last_open u qualifiers → all ≡ some ++ raw_behind v attributes → all ≡ old ++ raw_text (key ∷ (qualifiers ++ attributes))
+pub all_written : (key : Pair) (qualifiers attributes : List Pair) (old coded valued some all : List ℕ) (u v : Bool)
+    → coded ≡ old ++ key.code → valued ≡ coded ++ key.value → u ≡ is_none (predefined_length key.code)
+    → some ≡ valued ++ raw_behind u qualifiers → v ≡ last_open u qualifiers → all ≡ some ++ raw_behind v attributes
+    → all ≡ old ++ raw_text (key ∷ (qualifiers ++ attributes))
 all_written key qualifiers attributes old coded valued some all u v e f g h j k =
     let w = is_none (predefined_length key.code) in
     let q = raw_behind w qualifiers in
@@ -87,7 +99,8 @@ all_written key qualifiers attributes old coded valued some all u v e f g h j k 
     let whole : all ≡ (((old ++ key.code) ++ key.value) ++ q) ++ a = k ∙ ap (λ (x : List ℕ). some ++ x) last ∙ ap (λ (x : List ℕ). x ++ a) first in
     let both : raw_behind w (qualifiers ++ attributes) ≡ q ++ a = raw_behind-append w qualifiers attributes in
     let text : raw_text (key ∷ (qualifiers ++ attributes)) ≡ key.code ++ (key.value ++ (q ++ a)) = raw_text_is key (qualifiers ++ attributes) ∙ ap (λ (x : List ℕ). key.code ++ (key.value ++ x)) both in
-    whole ∙ append_assoc ((old ++ key.code) ++ key.value) q a ∙ append_assoc (old ++ key.code) key.value (q ++ a) ∙ append_assoc old key.code (key.value ++ (q ++ a)) ∙ ap (λ (x : List ℕ). old ++ x) (sym text)
+    whole ∙ append_assoc ((old ++ key.code) ++ key.value) q a ∙ append_assoc (old ++ key.code) key.value
+    (q ++ a) ∙ append_assoc old key.code (key.value ++ (q ++ a)) ∙ ap (λ (x : List ℕ). old ++ x) (sym text)
 
 -- ---- the parts of pairs that are all valid by a table
 
@@ -115,7 +128,8 @@ module _ (rows : List AiRow) (key : Pair) (qualifiers attributes : List Pair) (v
 -- ---- the written text is read
 
 module _ (rows : List AiRow) (rules : KeepsRules rows) where
-  some_or_not : (code : List ℕ) (r : Option ℕ) → predefined_length code ≡ r → (separator code ≡ 29 ∷ []) ⊎ ((separator code ≡ []) × IsSome (predefined_length code))
+  some_or_not : (code : List ℕ) (r : Option ℕ) → predefined_length code ≡ r
+      → (separator code ≡ 29 ∷ []) ⊎ ((separator code ≡ []) × IsSome (predefined_length code))
   some_or_not code None e = inl (rw e refl)
   some_or_not code (Some n) e = inr (rw e refl, rw e refl)
 
@@ -159,7 +173,8 @@ module _ (rows : List AiRow) (rules : KeepsRules rows) where
   pub raw_read : (identity : Elements) → IsMadeWith rows identity → IsRaw rows (raw_text (pairs_of identity)) (pairs_of identity)
   raw_read identity made =
       let own = All-head (IsInOrder rows) identity.key (identity.qualifiers ++ identity.attributes) made.in_order in
-      subst (λ (x : List ℕ). Joined (IsRawElement rows) (pairs_of identity) x []) (sym (body_is identity.key (identity.qualifiers ++ identity.attributes) own)) (raw_joined (pairs_of identity) made.in_order)
+      subst (λ (x : List ℕ). Joined (IsRawElement rows) (pairs_of identity) x [])
+      (sym (body_is identity.key (identity.qualifiers ++ identity.attributes) own)) (raw_joined (pairs_of identity) made.in_order)
 
   next_cut : (pairs : List Pair) → is_cut (bracketed_text pairs) ≡ true
   next_cut [] = refl

@@ -15,11 +15,11 @@ use Rattle.gs_element.specs.Joins.{Joined, IsFirstError}
 
 -- ---- the written text
 
--- trusted, own: an opening bracket of a value is written with a backslash before it
+-- trusted, own: the character `c` as written in a value: with a backslash before it if it is an opening bracket
 abbrev pub written_character : ℕ → List ℕ
 written_character c = if c == 40 then 92 ∷ 40 ∷ [] else c ∷ []
 
--- trusted, own: a value with a backslash before each opening bracket
+-- trusted, own: the text of `value` with a backslash before each opening bracket
 abbrev pub written_value : List ℕ → List ℕ
 written_value value = flat_map written_character value
 
@@ -33,21 +33,21 @@ bracketed_text pairs = flat_map bracketed_element pairs
 
 -- ---- the text that is read
 
--- trusted, own: the text ends, or goes on with an opening bracket
+-- trusted, own: holds if the text is empty or begins with an opening bracket
 abbrev pub is_cut : List ℕ → Bool
 is_cut [] = true
 is_cut (c ∷ _) = c == 40
 
--- trusted, GS1 General Specifications, section 4; own for the backslash: the text is the element of the pair and then
--- `after`, which is nothing or a further element
+-- trusted, GS1 General Specifications, section 4; own for the backslash: holds if `text` is the element of `pair`, which is
+-- valid, and then `after`, which is empty or begins with an opening bracket
 pub record IsBracketedElement (table : List AiRow) (pair : Pair) (text after : List ℕ) : Type 0 where
   pub text_is : text ≡ bracketed_element pair ++ after
   -- the value is one of its code's
   pub in_order : IsInOrder table pair
   pub cut : is_cut after ≡ true
 
--- trusted, GS1 General Specifications, section 4; own for the backslash: the text is the join of the elements of these
--- pairs
+-- trusted, GS1 General Specifications, section 4; own for the backslash: holds if `text` concatenates the bracketed elements of
+-- `pairs`, which are valid
 abbrev pub IsBracketed : List AiRow → List ℕ → List Pair → Type 0
 IsBracketed table text pairs = Joined (IsBracketedElement table) pairs text []
 
@@ -75,7 +75,8 @@ code_front (c ∷ text) =
     if c == 40 then closed_code (take_while is_digit text) (drop (length (take_while is_digit text)) text)
     else None
 
--- trusted, own: no code at the start, at the place of its bracket; or an error of its value, at the place of the code
+-- trusted, own: the error that there is no code, at the place of its bracket, or the error of its value, at the place of the
+-- code
 abbrev pub front_error : List AiRow → Option (List ℕ × List ℕ) → Option ElementFault
 front_error table None = Some (record { at = 0; why = Bracket })
 front_error table (Some (code, text)) =
@@ -86,7 +87,7 @@ abbrev pub bracketed_error : List AiRow → List ℕ → Option ElementFault
 bracketed_error table [] = None
 bracketed_error table (c ∷ text) = front_error table (code_front (c ∷ text))
 
--- trusted, own: the error of a text that no pairs are read from
+-- trusted, own: holds if `error` is the error of `text` after its longest prefix of elements
 abbrev pub IsBracketedError : List AiRow → List ℕ → ElementFault → Type 0
 IsBracketedError table text error =
     IsFirstError (IsBracketedElement table) (bracketed_error table) text text error

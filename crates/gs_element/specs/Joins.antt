@@ -7,14 +7,14 @@ use Rattle.gs_ai.specs.declared.pair.Pair.{Pair}
 abbrev pub Form : Type 1
 Form = Pair → List ℕ → List ℕ → Type 0
 
--- trusted, GS1 General Specifications, section 7.8: the text is an element of each pair in turn, and then the rest
+-- trusted, GS1 General Specifications, section 7.8: holds if `text` is an element of each pair in turn, and then `rest`
 abbrev pub Joined : Form → List Pair → List ℕ → List ℕ → Type 0
 Joined Element [] text rest = text ≡ rest
 Joined Element (pair ∷ pairs) text rest =
     (after : List ℕ) × Element pair text after × Joined Element pairs after rest
 
--- trusted, own: Holds if this is the error of a text that is not a join of elements: the error at the start of the rest, after
--- the longest prefix that is one. `whole` is the given text, and `text` its end.
+-- trusted, own: Holds if `error` is that of the rest, after the longest prefix of `text` that is a join of elements. `whole` is
+-- the given text, and `text` its end.
 pub record IsFirstError (Element : Form) (error_of : List ℕ → Option ElementFault) (whole text : List ℕ)
     (error : ElementFault) : Type 0 where
   -- the pairs of a prefix that is a join, and the rest

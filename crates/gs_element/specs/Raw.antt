@@ -27,8 +27,9 @@ body_of text =
 
 -- ---- the text that is read
 
--- trusted, GS1 General Specifications, section 7.8: The text is an element of the pair and then `after`: code and value, and
--- after them one byte 29 or nothing. Nothing follows them only if the code has a predefined length or the text ends there.
+-- trusted, GS1 General Specifications, section 7.8: Holds if `text` is the code and value of `pair`, which is valid, one byte
+-- 29 or nothing, and then `after`. A predefined length is met. The byte 29 is missing only if there is such a length, or
+-- `after` is empty.
 pub record IsRawElement (table : List AiRow) (pair : Pair) (text after : List ℕ) : Type 0 where
   pub closing : List ℕ
   pub text_is : text ≡ pair.code ++ (pair.value ++ (closing ++ after))
@@ -38,15 +39,15 @@ pub record IsRawElement (table : List AiRow) (pair : Pair) (text after : List �
   pub predefined : (n : ℕ) → predefined_length pair.code ≡ Some n → length pair.code + length pair.value ≡ n
   pub closed : (closing ≡ 29 ∷ []) ⊎ ((closing ≡ []) × (IsSome (predefined_length pair.code) ⊎ (after ≡ [])))
 
--- trusted, GS1 General Specifications, section 7.8; that a byte 29 may follow any element is own: holds if the text,
--- without the bytes that a barcode scanner may send at the start, concatenates elements of these pairs
+-- trusted, GS1 General Specifications, section 7.8; that a byte 29 may follow any element is own: holds if `text`, without the
+-- bytes that a barcode scanner may send at the start, concatenates elements of `pairs`
 abbrev pub IsRaw : List AiRow → List ℕ → List Pair → Type 0
 IsRaw table text pairs = Joined (IsRawElement table) pairs (body_of text) []
 
 -- ---- errors
 
--- trusted, GS1 General Specifications, section 7.8: the value that is cut after a code: the part that the predefined length
--- leaves to it, or all before the next byte 29; the whole rest if that is shorter
+-- trusted, GS1 General Specifications, section 7.8: The value that is cut after a code: the part that the predefined length
+-- leaves to it, or all before the next byte 29. It is the whole rest if that is shorter.
 abbrev pub raw_value : List ℕ → List ℕ → List ℕ
 raw_value code after =
     option_map_or (λ n. take (n - length code) after) (predefined_length code) (before_first (λ c. c == 29) after)
@@ -63,13 +64,13 @@ raw_error table [] = None
 raw_error table (c ∷ text) =
     option_map (λ error. record { at = 0; why = Value error }) (raw_value_error table (c ∷ text))
 
--- trusted, own: the error of a text that no pairs are read from
+-- trusted, own: holds if `error` is the error of the body of `text` after its longest prefix of elements
 abbrev pub IsRawError : List AiRow → List ℕ → ElementFault → Type 0
 IsRawError table text error = IsFirstError (IsRawElement table) (raw_error table) text (body_of text) error
 
 -- ---- the written text
 
--- trusted, own: nothing after an element of predefined length, otherwise a byte 29
+-- trusted, own: the separator after an element: nothing after one of predefined length, otherwise a byte 29
 abbrev pub separator : List ℕ → List ℕ
 separator code = if is_some (predefined_length code) then [] else 29 ∷ []
 

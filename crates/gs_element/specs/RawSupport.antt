@@ -10,7 +10,8 @@ abbrev pub without_separator : List ℕ → List ℕ
 without_separator [] = []
 without_separator (c ∷ text) = if c == 29 then text else c ∷ text
 
--- the parts that are cut from the start of a text: the code that begins it, its value, and the rest after one byte 29
+-- Holds if these are the parts that are cut from the start of a text. They are the code that begins it, its value, and the rest
+-- after one byte 29.
 pub record IsCutFrom (table : List AiRow) (text code value rest : List ℕ) : Type 0 where
   pub row : AiRow
   pub found : find (λ r. begins r.code text) table ≡ Some row

@@ -13,7 +13,7 @@ raw_behind unclosed [] = []
 raw_behind unclosed (pair ∷ pairs) =
     separator_of unclosed ++ (pair.code ++ (pair.value ++ raw_behind (is_none (predefined_length pair.code)) pairs))
 
--- whether the last element is open, or the one before them if there are none
+-- holds if the last element is open, or the one before them if there are none
 abbrev pub last_open : Bool → List Pair → Bool
 last_open unclosed [] = unclosed
 last_open unclosed (pair ∷ pairs) = last_open (is_none (predefined_length pair.code)) pairs

@@ -15,12 +15,12 @@ use gs_chars::{CowText, Memory, Text, count_digits};
 use memchr::memchr2;
 use std::alloc::Global;
 
-/// Reads an element string in the printed form: for each element `(`, its code, `)` and its value, in which `\(` stands for an
-/// opening bracket (GS1 General Specifications, section 4; the backslash is this project's own). An empty text has no pairs.
+/// Reads an element string in the printed form: for each element `(`, its code, `)` and its value (GS1 General Specifications,
+/// section 4). In a value `\(` stands for an opening bracket; the backslash is this project's own. An empty text has no pairs.
 ///
 /// The error is the one at the smallest place: `Bracket` if `(` is missing, or if digits and `)` do not follow it. At the place
 /// of the code's first digit it is `Unknown` if no row has the code, or the error of the value. May return `Memory` instead.
-/// Reads the text from left to right. The pairs are lent by it, but for a value with a backslash before a bracket.
+/// Reads the text from left to right. It lends the pairs, except a value with a backslash before a bracket.
 pub fn read_bracketed<'a>(
     alloc: Global,
     table: &AiTable,
@@ -90,8 +90,8 @@ fn is_escape(character: u8, behind: &[u8]) -> bool
     }
 }
 
-/// Returns the next character of a value, or `None` if the value ends: at the end of the text, or at an opening bracket
-/// without a backslash before it. A backslash before an opening bracket is not a character of the value.
+/// Returns the next character of a value, or `None` at its end. A value ends with the text, or before an opening bracket
+/// without a backslash. A backslash before an opening bracket is not a character of the value.
 fn next_character(text: &[u8]) -> Option<Next<'_>>
     ensures value { IfSome result (λ next. value_before text.now
         ≡ next.character ∷ value_before next.rest.now) }

@@ -34,7 +34,7 @@ pub fn one_error_each(table: &AiTable)
     let _ = table.rows();
 }
 
-/// States that a text gives pairs or has an error, in either form: if no pairs are joined to it, there is a longest prefix that
+/// States that a text gives pairs or has an error, in either form. If no pairs are joined to it, there is a longest prefix that
 /// is a join, and an error after it.
 pub fn some_answer(table: &AiTable)
     ensures raw { (text : List ℕ) → ((pairs : List Pair) × IsRaw table.now text pairs)

@@ -61,8 +61,8 @@ fn len_before_separator(text: &[u8]) -> usize
     text.iter().take_while(|c| **c != FNC1).count()
 }
 
-/// Returns the value that is cut after a code: the part that the predefined length of code and value leaves to it, or all up to
-/// the next FNC1; the whole rest if that is shorter.
+/// Returns the value that is cut after a code: the part that the predefined length leaves to it, or all up to the next FNC1. It
+/// is the whole rest if that is shorter.
 fn cut_value<'a>(predefined: Option<usize>, code: &[u8], after: &'a [u8]) -> &'a [u8]
     requires { predefined ≡ predefined_length code.now }
     ensures { result.now ≡ raw_value code.now after.now }
@@ -100,9 +100,9 @@ fn cut_element<'a>(table: &AiTable, text: &'a [u8]) -> Result<Cut<'a>, ValueFaul
     Ok(Cut { code, value, rest })
 }
 
-/// Returns the pairs of an element string as a scanner transmits it: one of the symbology identifiers `]C1`, `]e0`, `]d2`, `]Q3`
-/// or one FNC1 (the byte 29) may be at the start; an FNC1 follows each element without predefined length, except at the end, and
-/// may follow any other (GS1 General Specifications, section 7.8). An empty text has no pairs.
+/// Returns the pairs of an element string as a scanner transmits it (GS1 General Specifications, section 7.8). One of the
+/// symbology identifiers `]C1`, `]e0`, `]d2`, `]Q3` or one FNC1 (the byte 29) may be at the start. An FNC1 follows each element
+/// without predefined length, except at the end, and may follow any other. An empty text has no pairs.
 ///
 /// Returns the first error from the left, at the place of the code: `Unknown` if no code begins the rest, otherwise that of the
 /// value. May return `Memory` instead. Scans the text once, from left to right, and allocates only the list of the pairs, which

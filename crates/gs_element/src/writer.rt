@@ -97,9 +97,9 @@ pub fn append_raw(out: &mut Vec<u8>, table: &AiTable, identity: &Identity<'_>) -
     )
 }
 
-/// Returns the element string of the identity, in the order of its pairs: code and value of each, and an FNC1 (the byte 29) after
-/// each element without predefined length, except the last (GS1 General Specifications, section 7.8). It has no symbology
-/// identifier. Fails only with `Memory`. `make` of gs_ident made the identity with this table.
+/// Returns the element string of the identity (GS1 General Specifications, section 7.8): code and value of each pair, in order.
+/// An FNC1 (the byte 29) follows each element without predefined length, except the last. It has no symbology identifier. Fails
+/// only with `Memory`. `make` of gs_ident made the identity with this table.
 pub fn write_raw(alloc: Global, table: &AiTable, identity: &Identity<'_>) -> Result<Text, Memory>
     requires { IsMadeWith table.now identity.now }
     ensures { IfOk result (λ text. text ≡ raw_text (pairs_of identity.now)) }
@@ -157,8 +157,8 @@ fn write_pairs(out: &mut Vec<u8>, pairs: &[Pair<'_>]) -> Result<(), Memory>
     Ok(())
 }
 
-/// Appends the element string of a key, of the pairs that qualify it, and of its attributes in the printed form, as
-/// `append_bracketed` does for an identity. Fails only with `Memory`; `out` then begins with its old contents.
+/// Appends the element string of a key, its qualifiers and its attributes in the printed form, as `append_bracketed` does for
+/// an identity. Fails only with `Memory`; `out` then begins with its old contents.
 pub fn append_bracketed_pairs(
     out: &mut Vec<u8>,
     key: &Pair<'_>,
@@ -189,8 +189,8 @@ pub fn append_bracketed(out: &mut Vec<u8>, identity: &Identity<'_>) -> Result<()
     )
 }
 
-/// Returns the element string of the identity in the printed form, in the order of its pairs: each code in brackets, and its
-/// value with `\(` for an opening bracket. Fails only with `Memory`.
+/// Returns the element string of the identity in the printed form, in the order of its pairs. Each code is in brackets, and its
+/// value has `\(` for an opening bracket. Fails only with `Memory`.
 pub fn write_bracketed(alloc: Global, identity: &Identity<'_>) -> Result<Text, Memory>
     ensures { IfOk result (λ text. text ≡ bracketed_text (pairs_of identity.now)) }
 {

@@ -36,10 +36,13 @@ word_of_filter (Num bits most) value w h word = digit_of word.0 value (seven wor
 word_of_filter item value w h word = absurd (let g : false ≡ true = h in cc)
 
 -- the value of the filter, if each item of it is a filter value
-filter_of_items : (items : List FieldItem) (values words : List (List ℕ)) → EachWord (map (λ (i : FieldItem). i.1) items) values words → list_all is_filter (items_of_field Filter items) ≡ true → IfSome (value_at Filter (map (λ (i : FieldItem). i.0) items) values) IsFilter
+filter_of_items : (items : List FieldItem) (values words : List (List ℕ)) → EachWord (map (λ (i : FieldItem). i.1) items) values words
+    → list_all is_filter (items_of_field Filter items) ≡ true
+    → IfSome (value_at Filter (map (λ (i : FieldItem). i.0) items) values) IsFilter
 filter_of_items [] values words no_item all = tt
 filter_of_items ((None, item) ∷ items) values words (one_item _ value w _ values' words' word each) all = filter_of_items items values' words' each all
-filter_of_items ((Some Filter, item) ∷ items) values words (one_item _ value w _ values' words' word each) all = word_of_filter item value w (and_first (is_filter item) (list_all is_filter (items_of_field Filter items)) all) word
+filter_of_items ((Some Filter, item) ∷ items) values words (one_item _ value w _ values' words' word each) all = word_of_filter item value w
+    (and_first (is_filter item) (list_all is_filter (items_of_field Filter items)) all) word
 filter_of_items ((Some Gcp, item) ∷ items) values words (one_item _ value w _ values' words' word each) all = filter_of_items items values' words' each all
 filter_of_items ((Some Rest, item) ∷ items) values words (one_item _ value w _ values' words' word each) all = filter_of_items items values' words' each all
 filter_of_items ((Some Piece, item) ∷ items) values words (one_item _ value w _ values' words' word each) all = filter_of_items items values' words' each all
@@ -57,16 +60,20 @@ none_of_all : (test : Item → Bool) (items : List Item) → is_empty items ≡ 
 none_of_all test [] h = refl
 none_of_all test (item ∷ items) h = absurd (let g : false ≡ true = h in cc)
 
-all_filters : (level : LevelName) (encoding : List ℕ) (items : List FieldItem) → keeps_level level encoding items ≡ true → list_all is_filter (items_of_field Filter items) ≡ true
+all_filters : (level : LevelName) (encoding : List ℕ) (items : List FieldItem) → keeps_level level encoding items ≡ true
+    → list_all is_filter (items_of_field Filter items) ≡ true
 unfolding keeps_level
 all_filters Binary encoding items h =
     let front = and_first (not (is_empty encoding) && is_one is_filter (items_of_field Filter items)) (size_of_all (map (λ (i : FieldItem). i.1) items) % 16 == 0) h in
     one_of_all is_filter (items_of_field Filter items) (and_second (not (is_empty encoding)) (is_one is_filter (items_of_field Filter items)) front)
-all_filters Tag encoding items h = one_of_all is_filter (items_of_field Filter items) (and_second (not (is_empty encoding)) (is_one is_filter (items_of_field Filter items)) h)
-all_filters Pure encoding items h = none_of_all is_filter (items_of_field Filter items) (and_second (is_empty encoding) (is_empty (items_of_field Filter items)) h)
+all_filters Tag encoding items h = one_of_all is_filter (items_of_field Filter items)
+    (and_second (not (is_empty encoding)) (is_one is_filter (items_of_field Filter items)) h)
+all_filters Pure encoding items h = none_of_all is_filter (items_of_field Filter items)
+    (and_second (is_empty encoding) (is_empty (items_of_field Filter items)) h)
 
 -- ---- the filter of an option that satisfies the rules
 
-pub filter_kept : (set : TableRows) (level : LevelName) (items : List Item) (info : OptInfo) (values words : List (List ℕ)) → KeptOption set level items info → EachWord items values words → IfSome (value_at Filter info.fields values) IsFilter
+pub filter_kept : (set : TableRows) (level : LevelName) (items : List Item) (info : OptInfo) (values words : List (List ℕ))
+    → KeptOption set level items info → EachWord items values words → IfSome (value_at Filter info.fields values) IsFilter
 filter_kept set level items info values words kept held =
     rw kept.fields_are (filter_of_items kept.parts values words (rw kept.items_are at held) (all_filters level info.encoding kept.parts kept.of_level))

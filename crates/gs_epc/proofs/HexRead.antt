@@ -3,7 +3,6 @@ use Rattle.std.proofs.Common.{◌≡◌, ℕ, ◌*◌, ◌%◌, ◌^◌, ◌<◌
 use Rattle.std.specs.Prelude.{is_some}
 use Rattle.std.specs.List.{AllPass, flat_map}
 use Rattle.std.proofs.lemmas.List.Elements.{All-append, All-cons, All-head, All-nil, All-replicate, All-tail}
-use Rattle.gs_ai.proofs.Searches.{cons_none}
 use Rattle.gs_chars.specs.Escapes.{hex_digit}
 use Rattle.gs_bits.specs.Bits.{AreBits, bits_of, number_of}
 use Rattle.gs_bits.specs.BitLaws.{AreBits-bits_of, bits_of-number_of, number_of-below}
@@ -17,6 +16,7 @@ use Rattle.gs_grammar.proofs.WritingLemmas.{lit_bits}
 use Rattle.gs_epc.proofs.WrittenSizes.{in_bounds}
 use Rattle.gs_chars.proofs.Spellings.{digit_reads}
 use Rattle.gs_grammar_level.proofs.BitSymbols.{code_bits as packed_bits}
+use Rattle.gs_chars.proofs.Searches.{cons_none}
 
 -- ---- the text written by an option of bits is bits
 
@@ -69,7 +69,8 @@ hex_read (a ∷ b ∷ c ∷ d ∷ bits) are whole =
     let fourth = tail_of c (d ∷ bits) third in
     let rest = tail_of d bits fourth in
     let four : AreBits (a ∷ b ∷ c ∷ d ∷ []) =
-    All-cons (λ b. b < 2) a (b ∷ c ∷ d ∷ []) (head_of a (b ∷ c ∷ d ∷ bits) are) (All-cons (λ b. b < 2) b (c ∷ d ∷ []) (head_of b (c ∷ d ∷ bits) second) (All-cons (λ b. b < 2) c (d ∷ []) (head_of c (d ∷ bits) third) (All-cons (λ b. b < 2) d [] (head_of d bits fourth) (All-nil (λ b. b < 2))))) in
+    All-cons (λ b. b < 2) a (b ∷ c ∷ d ∷ []) (head_of a (b ∷ c ∷ d ∷ bits) are)
+    (All-cons (λ b. b < 2) b (c ∷ d ∷ []) (head_of b (c ∷ d ∷ bits) second) (All-cons (λ b. b < 2) c (d ∷ []) (head_of c (d ∷ bits) third) (All-cons (λ b. b < 2) d [] (head_of d bits fourth) (All-nil (λ b. b < 2))))) in
     let first = four_read (a ∷ b ∷ c ∷ d ∷ []) four refl in
     let others = hex_read bits rest (omega arith) in
     rw (first, others) refl
@@ -95,10 +96,12 @@ hex_digits (a ∷ b ∷ c ∷ d ∷ bits) are whole =
     let third = tail_of b (c ∷ d ∷ bits) second in
     let fourth = tail_of c (d ∷ bits) third in
     let four : AreBits (a ∷ b ∷ c ∷ d ∷ []) =
-    All-cons (λ b. b < 2) a (b ∷ c ∷ d ∷ []) (head_of a (b ∷ c ∷ d ∷ bits) are) (All-cons (λ b. b < 2) b (c ∷ d ∷ []) (head_of b (c ∷ d ∷ bits) second) (All-cons (λ b. b < 2) c (d ∷ []) (head_of c (d ∷ bits) third) (All-cons (λ b. b < 2) d [] (head_of d bits fourth) (All-nil (λ b. b < 2))))) in
+    All-cons (λ b. b < 2) a (b ∷ c ∷ d ∷ []) (head_of a (b ∷ c ∷ d ∷ bits) are)
+    (All-cons (λ b. b < 2) b (c ∷ d ∷ []) (head_of b (c ∷ d ∷ bits) second) (All-cons (λ b. b < 2) c (d ∷ []) (head_of c (d ∷ bits) third) (All-cons (λ b. b < 2) d [] (head_of d bits fourth) (All-nil (λ b. b < 2))))) in
     let rest = hex_digits bits (tail_of d bits fourth) (omega arith) in
     let count = rest.count in
     record {
-      digits = All-cons (λ x. is_hex_digit x ≡ true) (hex_digit (number_of (a ∷ b ∷ c ∷ d ∷ []))) (hex_of_bits bits) (four_digit (a ∷ b ∷ c ∷ d ∷ []) four refl) rest.digits;
+      digits = All-cons (λ x. is_hex_digit x ≡ true) (hex_digit (number_of (a ∷ b ∷ c ∷ d ∷ []))) (hex_of_bits bits)
+          (four_digit (a ∷ b ∷ c ∷ d ∷ []) four refl) rest.digits;
       count = omega arith;
     }

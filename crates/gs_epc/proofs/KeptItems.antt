@@ -7,7 +7,6 @@ use Rattle.gs_grammar.specs.declared.item.Item.{Item}
 use Rattle.gs_grammar.specs.declared.item.Item.TheVariants.{Lit, Pad, Digits, Int, Esc, NumPad, Num, NumStr, Ascii7, Fill}
 use Rattle.gs_grammar.specs.Items.{is_between, IsItem}
 use Rattle.gs_grammar.specs.Words.{IsNumeral, HasLength, Word}
-use Rattle.gs_chars.proofs.TruthsAndLists.{and_parts}
 use Rattle.gs_grammar.proofs.HoldLemmas.{spelled_set}
 use Rattle.gs_grammar.proofs.ItemTests.{between_is}
 use Rattle.gs_grammar.proofs.Numbers.{count_order, digits_of_decimal}
@@ -15,6 +14,7 @@ use Rattle.gs_grammar.proofs.WordLaws.{digits_bounds, greatest_small}
 use Rattle.gs_tables.specs.Rules.{has_room, is_digits, is_number, is_numeral}
 use Rattle.gs_epc.specs.KeptFields.{AreCharacters, AreNumbers}
 use Rattle.gs_chars.proofs.SpelledSets.{digit_in_set82 as digit_in_set}
+use Rattle.std.proofs.lemmas.Bool.{and_parts}
 
 -- ---- digits
 
@@ -41,13 +41,15 @@ digits_of_word n (Fill _ _) value w h word = absurd (let f : false ≡ true = h 
 -- ---- characters
 
 -- a text of a length within two bounds, which leave it room and one character
-characters_between : (low high most : ℕ) (value : List ℕ) → 1 ≤ low → high ≤ most → HasLength low high value → are_in_set82 value ≡ true → AreCharacters most value
+characters_between : (low high most : ℕ) (value : List ℕ) → 1 ≤ low → high ≤ most → HasLength low high value → are_in_set82 value ≡ true
+    → AreCharacters most value
 characters_between low high most value one room has set =
     let least = has.least in
     let greatest = has.most in
     record { least = omega arith; room = omega arith; characters = set }
 
-numeral_characters : (most greatest number : ℕ) (value : List ℕ) → greatest < 2 ^ 64 → length (decimal greatest) ≤ most → IsNumeral greatest number value → AreCharacters most value
+numeral_characters : (most greatest number : ℕ) (value : List ℕ) → greatest < 2 ^ 64 → length (decimal greatest) ≤ most
+    → IsNumeral greatest number value → AreCharacters most value
 numeral_characters most greatest number value small room numeral =
     let up = numeral.small in
     let low : number < 2 ^ 64 = omega arith in
@@ -89,7 +91,8 @@ characters_of_word most (Esc lo hi) value w i room word =
 characters_of_word most (NumPad _ n) value w i room word = padded_characters n most value room word.0 word.1
 characters_of_word most (Num bits greatest) value w i room word =
     numeral_characters most greatest word.0 value (greatest_small (Num bits greatest) i) (between_is 1 most (length (decimal greatest)) room).1 word.1.0
-characters_of_word most (NumStr bits hi) value w i room word = characters_between 1 hi most value (omega arith) (between_is 1 most hi room).1 word.0 (digits_in_set value word.1)
+characters_of_word most (NumStr bits hi) value w i room word = characters_between 1 hi most value (omega arith)
+    (between_is 1 most hi room).1 word.0 (digits_in_set value word.1)
 characters_of_word most (Ascii7 lo hi bits) value w i room word =
     characters_between lo hi most value (ascii7_least lo hi bits i) (between_is 1 most hi room).1 word.0 word.1.characters
 characters_of_word most (Fill _ _) value w i room word = absurd (no_room most room)
@@ -102,7 +105,8 @@ digits_of_numeral greatest number value small numeral =
     let low : number < 2 ^ 64 = omega arith in
     ap are_digits numeral.text ∙ digits_of_decimal number low
 
-digits_of_number : (most : ℕ) (item : Item) (value w : List ℕ) → IsItem item → is_numeral item ≡ true → has_room most item ≡ true → Word item value w → are_digits value ≡ true
+digits_of_number : (most : ℕ) (item : Item) (value w : List ℕ) → IsItem item → is_numeral item ≡ true → has_room most item ≡ true
+    → Word item value w → are_digits value ≡ true
 digits_of_number most (Lit _) value w i h room word = absurd (no_room most room)
 digits_of_number most (Pad n) value w i h room word = word.1
 digits_of_number most (Digits lo hi) value w i h room word = word.1

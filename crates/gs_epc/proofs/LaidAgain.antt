@@ -2,20 +2,19 @@
 use Rattle.std.proofs.Common.{◌≡◌, ℕ, zero, suc, ◌+◌, ◌-◌, ◌≤◌, nat_le, not, if◌then◌else◌, Bool, true, false, List, [], ◌∷◌, ◌++◌, length, take, drop, position, Option, Some, None, bytes_eq, is_some, is_none, refl, sym, ap, ◌∙◌, arith, append_assoc}
 use Rattle.std.specs.List.{list_all}
 use Rattle.std.specs.Option.{option_map, option_or}
-use Rattle.std.proofs.lemmas.Bool.{leb-true}
+use Rattle.std.proofs.lemmas.Bool.{leb-true, and_parts}
 use Rattle.std.proofs.lemmas.Bool.Decides.{nat_tests}
 use Rattle.std.proofs.lemmas.List.{append-nil, drop_at, length-drop, length-take, drop_all, take-append-drop, take_all, take_at}
 use Rattle.std.proofs.lemmas.List.Sums.{sum_by-cons}
 use Rattle.gs_chars.specs.Characters.{are_digits}
 use Rattle.gs_chars.specs.CheckDigits.{check_digit_of}
-use Rattle.gs_chars.proofs.TruthsAndLists.{and_parts}
+use Rattle.gs_chars.proofs.TruthsAndLists.{equal_bytes}
 use Rattle.gs_ai.specs.declared.part.Part.{Part}
 use Rattle.gs_ai.specs.declared.part.Part.TheVariants.{Zero, Num, NumCheck, NumOpt, Set, SetOpt}
 use Rattle.gs_ai.specs.declared.errors.ValueFault.TheVariants.{Length, Char, Check, Date}
 use Rattle.gs_ai.specs.Parts.{greatest_length, is_of_part, is_part, least_length}
 use Rattle.gs_ai.specs.Values.{greatest_of, has_length_of, is_checked, keeps_check, keeps_date, least_of, parts_error, pieces, wrong_character}
 use Rattle.gs_ai.proofs.PartLemmas.{wrong-cons}
-use Rattle.gs_ai.proofs.Searches.{cons_none, equal_bytes}
 use Rattle.gs_tables_document.specs.declared.document.Kind.{Kind}
 use Rattle.gs_tables.specs.declared.form.Behind.{Behind}
 use Rattle.gs_tables.specs.declared.form.Behind.TheVariants.{Nothing, Further, Tail as BehindTail}
@@ -26,6 +25,7 @@ use Rattle.gs_tables.specs.Forms.{further_of, key_form, tail_of}
 use Rattle.gs_tables.specs.Rules.{is_lead}
 use Rattle.gs_epc.specs.Layout.{behind_check, key_digits, key_value, tail_of_key, with_check}
 use Rattle.gs_epc.specs.KeyParts.{fields_at, tail_in}
+use Rattle.gs_chars.proofs.Searches.{cons_none}
 
 -- ---- a value in order
 
@@ -69,7 +69,8 @@ checked_again k value h =
     shorter (suc m) (suc n) (x ∷ xs) low = ap (λ (t : List ℕ). x ∷ t) (shorter m n xs (omega arith))
 
 -- the digits of a key by their prefix and rest
-digits_again : (lead n : ℕ) (digits : List ℕ) → lead ≤ length digits → key_digits lead (take n (drop lead digits)) (take lead digits ++ drop n (drop lead digits)) ≡ digits
+digits_again : (lead n : ℕ) (digits : List ℕ) → lead ≤ length digits
+    → key_digits lead (take n (drop lead digits)) (take lead digits ++ drop n (drop lead digits)) ≡ digits
 digits_again lead n digits within =
     let first = take lead digits in
     let others = drop lead digits in
@@ -81,7 +82,8 @@ digits_again lead n digits within =
 -- ---- the value of a key
 
 -- a value of digits with their check digit, and a tail
-checked_value : (k : ℕ) (parts : List Part) (lead n : ℕ) (value tail : List ℕ) → list_all keeps_check (pieces (NumCheck k ∷ parts) value) ≡ true → lead ≤ k - 1 → k ≤ length value → tail ≡ drop k value
+checked_value : (k : ℕ) (parts : List Part) (lead n : ℕ) (value tail : List ℕ)
+    → list_all keeps_check (pieces (NumCheck k ∷ parts) value) ≡ true → lead ≤ k - 1 → k ≤ length value → tail ≡ drop k value
     → with_check (key_digits lead (take n (drop lead (take (k - 1) value))) (take lead (take (k - 1) value) ++ drop n (drop lead (take (k - 1) value)))) ++ tail ≡ value
 checked_value k parts lead n value tail checks low long is =
     let digits = take (k - 1) value in
@@ -124,7 +126,8 @@ pub record IsTail (form : KeyForm) (tail behind : List ℕ) : Type 0 where
   pub some : is_some (tail_of form) ≡ true → tail ≡ behind
   pub none : is_none (tail_of form) ≡ true → tail ≡ []
 
-lead_low : (k : ℕ) (tail : Behind) (form : KeyForm) (lead : ℕ) → Digits (k - 1) tail ≡ form → is_lead form lead ≡ true → is_part (NumCheck k) ≡ true → lead ≤ k - 1
+lead_low : (k : ℕ) (tail : Behind) (form : KeyForm) (lead : ℕ) → Digits (k - 1) tail ≡ form → is_lead form lead ≡ true
+    → is_part (NumCheck k) ≡ true → lead ≤ k - 1
 lead_low k tail form lead same h part =
     let low : lead ≤ 1 = leb-true lead 1 (rw (← same) at h) in
     let two : 2 ≤ k = leb-true 2 k (and_parts (nat_le 2 k) (nat_le k 18) part).0 in
@@ -143,7 +146,8 @@ none_behind_check k value short =
 -- ---- the rest after the check digit
 
 -- a kind without further fields has its tail there
-no_further : (parts : List Part) (kind : Kind) (n : ℕ) (value serial : List ℕ) → kind.further ≡ [] → behind_check kind (fields_at parts kind n value serial) ≡ tail_of_key kind.serial serial
+no_further : (parts : List Part) (kind : Kind) (n : ℕ) (value serial : List ℕ) → kind.further ≡ []
+    → behind_check kind (fields_at parts kind n value serial) ≡ tail_of_key kind.serial serial
 no_further parts kind n value serial none = rw none refl
 
 -- the piece and the total are all
@@ -153,7 +157,8 @@ split_again a b others tail short none =
     let whole : take b (drop a others) ≡ drop a others = take_all b (drop a others) left in
     rw (none, append-nil, whole) (take-append-drop a others)
 
-both_further : (parts : List Part) (kind : Kind) (n a b : ℕ) (value serial : List ℕ) → kind.further ≡ a ∷ b ∷ [] → tail_of_key kind.serial serial ≡ [] → length (tail_in parts value) ≤ a + b
+both_further : (parts : List Part) (kind : Kind) (n a b : ℕ) (value serial : List ℕ) → kind.further ≡ a ∷ b ∷ []
+    → tail_of_key kind.serial serial ≡ [] → length (tail_in parts value) ≤ a + b
     → behind_check kind (fields_at parts kind n value serial) ≡ tail_in parts value
 both_further parts kind n a b value serial are none short = rw are (split_again a b (tail_in parts value) (tail_of_key kind.serial serial) short none)
 
@@ -165,7 +170,8 @@ two_behind_check k a b value short =
     let left = length-drop k value in
     omega arith
 
-pub key_again : (parts : List Part) (form : KeyForm) (kind : Kind) (n : ℕ) (value serial : List ℕ) → key_form parts ≡ Some form → is_lead form kind.lead ≡ true → kind.further ≡ further_of form → list_all is_part parts ≡ true → PartsKept parts value
+pub key_again : (parts : List Part) (form : KeyForm) (kind : Kind) (n : ℕ) (value serial : List ℕ) → key_form parts ≡ Some form
+    → is_lead form kind.lead ≡ true → kind.further ≡ further_of form → list_all is_part parts ≡ true → PartsKept parts value
     → IsTail form (tail_of_key kind.serial serial) (tail_in parts value) → key_value parts kind (fields_at parts kind n value serial) ≡ value
 key_again (Zero ∷ NumCheck k ∷ []) form kind n value serial formed lead further are kept tail =
     let same : Digits (k - 1) Nothing ≡ form = cc in
@@ -203,7 +209,8 @@ key_again (NumCheck k ∷ []) form kind n value serial formed lead further are k
     let none : kind.further ≡ [] = rw (← same) at further in
     let no_tail : tail_of_key kind.serial serial ≡ [] = tail.none (rw (← same) refl) in
     let behind : tail_of_key kind.serial serial ≡ drop k value = no_tail ∙ sym (none_behind_check k value kept.short) in
-    checked_value k [] kind.lead n value (behind_check kind (fields_at (NumCheck k ∷ []) kind n value serial)) kept.checks low (least_checked k [] value kept.long) (no_further (NumCheck k ∷ []) kind n value serial none ∙ behind)
+    checked_value k [] kind.lead n value (behind_check kind (fields_at (NumCheck k ∷ []) kind n value serial)) kept.checks low
+    (least_checked k [] value kept.long) (no_further (NumCheck k ∷ []) kind n value serial none ∙ behind)
 key_again (NumCheck k ∷ SetOpt most ∷ []) form kind n value serial formed lead further are kept tail =
     let same : Digits (k - 1) (BehindTail (room.Characters most)) ≡ form = cc in
     let low = lead_low k (BehindTail (room.Characters most)) form kind.lead same lead (and_parts (is_part (NumCheck k)) (list_all is_part (SetOpt most ∷ [])) are).0 in

@@ -37,7 +37,8 @@ unfolding row_rejections
 no_kinds document none =
     let levels = level_rejections document.ais document.kinds Binary document.binary ++ (level_rejections document.ais document.kinds Tag document.tag ++ level_rejections document.ais document.kinds Pure document.pure) in
     let behind = none_behind (limit_rejections document) (map AiFault (table_errors document.ais) ++ (kinds_rejections document.ais document.kinds ++ levels)) none in
-    none_in_front (kinds_rejections document.ais document.kinds) levels (none_behind (map AiFault (table_errors document.ais)) (kinds_rejections document.ais document.kinds ++ levels) behind)
+    none_in_front (kinds_rejections document.ais document.kinds) levels
+    (none_behind (map AiFault (table_errors document.ais)) (kinds_rejections document.ais document.kinds ++ levels) behind)
 
 kept_kind : (set : TableRows) (i : ℕ) (row : Kind) → IsShaped set → slice_get set.kinds i ≡ Some row → KeptKind set.ais row
 kept_kind set i row shaped at =
@@ -49,7 +50,9 @@ kept_kind set i row shaped at =
 -- ---- the qualifiers
 
 -- the qualifiers are the pairs that are found by the codes that the key's row lists
-found_by_codes : (ais : List AiRow) (identity : Elements) (row : AiRow) → IsMadeWith ais identity → find (has_code identity.key.code) ais ≡ Some row → identity.qualifiers ≡ filter_map (pair_with (counted ais (pairs_of identity))) row.qualifiers
+found_by_codes : (ais : List AiRow) (identity : Elements) (row : AiRow) → IsMadeWith ais identity
+    → find (has_code identity.key.code) ais ≡ Some row
+    → identity.qualifiers ≡ filter_map (pair_with (counted ais (pairs_of identity))) row.qualifiers
 unfolding elements_of
 found_by_codes ais identity row made found =
     let facts = made_facts ais (counted ais (pairs_of identity)) identity made.given_back in
@@ -58,8 +61,10 @@ found_by_codes ais identity row made found =
     let lists : option_map_or (λ (r : AiRow). r.qualifiers) (find (has_code facts.key.code) ais) [] ≡ row.qualifiers = rw row_is refl in
     ap (λ (e : Elements). e.qualifiers) facts.elements ∙ ap (filter_map (pair_with (counted ais (pairs_of identity)))) lists
 
-qualifiers_are : (ais : List AiRow) (row : AiRow) (at : SerialAt) (serial : List ℕ) (identity : Elements) → identity.qualifiers ≡ filter_map (pair_with (counted ais (pairs_of identity))) row.qualifiers → are_distinct row.qualifiers ≡ true
-    → ((i : ℕ) (pair : Pair) → slice_get identity.qualifiers i ≡ Some pair → at ≡ Ai pair.code) → serial_in ais row.parts at identity ≡ Some serial → identity.qualifiers ≡ serial_elements ais at serial
+qualifiers_are : (ais : List AiRow) (row : AiRow) (at : SerialAt) (serial : List ℕ) (identity : Elements)
+    → identity.qualifiers ≡ filter_map (pair_with (counted ais (pairs_of identity))) row.qualifiers → are_distinct row.qualifiers ≡ true
+    → ((i : ℕ) (pair : Pair) → slice_get identity.qualifiers i ≡ Some pair → at ≡ Ai pair.code)
+    → serial_in ais row.parts at identity ≡ Some serial → identity.qualifiers ≡ serial_elements ais at serial
 qualifiers_are ais row Nowhere serial identity found distinct all e = no_pairs identity.qualifiers (λ i pair at. let f = all i pair at in cc)
 qualifiers_are ais row Tail serial identity found distinct all e = no_pairs identity.qualifiers (λ i pair at. let f = all i pair at in cc)
 qualifiers_are ais row (Ai code) serial identity found distinct all e =
@@ -69,13 +74,15 @@ qualifiers_are ais row (Ai code) serial identity found distinct all e =
 
 -- ---- the identity
 
-equal_elements : (identity : Elements) (key : Pair) (qualifiers : List Pair) → identity.key ≡ key → identity.qualifiers ≡ qualifiers → identity.attributes ≡ [] → identity ≡ record { key = key; qualifiers = qualifiers; attributes = [] }
+equal_elements : (identity : Elements) (key : Pair) (qualifiers : List Pair) → identity.key ≡ key → identity.qualifiers ≡ qualifiers
+    → identity.attributes ≡ [] → identity ≡ record { key = key; qualifiers = qualifiers; attributes = [] }
 equal_elements identity key qualifiers a b c = rw (← a, ← b, ← c) refl
 
 equal_pair : (pair : Pair) (code value : List ℕ) → pair.code ≡ code → pair.value ≡ value → pair ≡ record { code = code; value = value }
 equal_pair pair code value a b = rw (← a, ← b) refl
 
-pub again : (ais : List AiRow) (kind : Kind) (n : ℕ) (serial : List ℕ) (identity : Elements) → KeepsRules ais → KeptKind ais kind → IsOfKind kind identity → IsMadeWith ais identity → serial_in ais (parts_at ais kind.key) kind.serial identity ≡ Some serial
+pub again : (ais : List AiRow) (kind : Kind) (n : ℕ) (serial : List ℕ) (identity : Elements) → KeepsRules ais → KeptKind ais kind
+    → IsOfKind kind identity → IsMadeWith ais identity → serial_in ais (parts_at ais kind.key) kind.serial identity ≡ Some serial
     → identity ≡ lay ais kind (fields_at (parts_at ais kind.key) kind n identity.key.value serial)
 again ais kind n serial identity rules kept of made e =
     let row = kept.row in
@@ -92,7 +99,9 @@ again ais kind n serial identity rules kept of made e =
     let qualifiers = qualifiers_are ais row kind.serial serial identity (found_by_codes ais identity row made found) (row_distinct row in_order) of.qualifiers serial_is in
     rw parts (equal_elements identity _ _ (equal_pair identity.key _ _ of.key (sym value)) qualifiers of.attributes)
 
-pub laid_again : (set : TableRows) (kind n : ℕ) (row : Kind) (identity : Elements) (epc : Epc) → IsShaped set → KeepsRules set.ais → slice_get set.kinds kind ≡ Some row → IsOfKind row identity → IsMadeWith set.ais identity → epc_at set kind identity n ≡ Some epc → IsLaidOut set epc identity
+pub laid_again : (set : TableRows) (kind n : ℕ) (row : Kind) (identity : Elements) (epc : Epc) → IsShaped set → KeepsRules set.ais
+    → slice_get set.kinds kind ≡ Some row → IsOfKind row identity → IsMadeWith set.ais identity → epc_at set kind identity n ≡ Some epc
+    → IsLaidOut set epc identity
 laid_again set kind n row identity epc shaped rules named of made e =
     let taken : option_map (epc_of_key kind n) (take_apart set.ais row identity n) ≡ Some epc = rw named at e in
     let fields = mapped (epc_of_key kind n) (take_apart set.ais row identity n) epc taken in

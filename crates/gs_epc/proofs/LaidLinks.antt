@@ -27,11 +27,13 @@ without_bytes : (text : List ℕ) → (length text == 0) ≡ is_empty text
 without_bytes [] = refl
 without_bytes (x ∷ text) = not_none (length text)
 
-none_of : (found : Option AiRow) (none value : List ℕ) → none ≡ option_map_or (λ (row : AiRow). row.none) found [] → (not (length none == 0) && bytes_eq none value) ≡ option_map_or (λ (row : AiRow). not (is_empty row.none) && bytes_eq row.none value) found false
+none_of : (found : Option AiRow) (none value : List ℕ) → none ≡ option_map_or (λ (row : AiRow). row.none) found []
+    → (not (length none == 0) && bytes_eq none value) ≡ option_map_or (λ (row : AiRow). not (is_empty row.none) && bytes_eq row.none value) found false
 none_of None none value e = rw e refl
 none_of (Some row) none value e = rw e (ap (λ (b : Bool). not b && bytes_eq row.none value) (without_bytes row.none))
 
-pub means_none : (ais : List AiRow) (code value none : List ℕ) → none ≡ none_text ais code → (not (length none == 0) && bytes_eq none value) ≡ stands_for_none ais (record { code = code; value = value })
+pub means_none : (ais : List AiRow) (code value none : List ℕ) → none ≡ none_text ais code
+    → (not (length none == 0) && bytes_eq none value) ≡ stands_for_none ais (record { code = code; value = value })
 means_none ais code value none e = none_of (find (has_code code) ais) none value e
 
 -- ---- the code of a serial that counts
@@ -40,7 +42,8 @@ module _ (ais : List AiRow) (code serial : List ℕ) where
   pub no_code : stands_for_none ais (record { code = code; value = serial }) ≡ true → coded_pairs None serial ≡ serial_elements ais (Ai code) serial
   no_code none = rw none refl
 
-  pub one_code : (seen : List ℕ) → seen ≡ code → stands_for_none ais (record { code = code; value = serial }) ≡ false → coded_pairs (Some seen) serial ≡ serial_elements ais (Ai code) serial
+  pub one_code : (seen : List ℕ) → seen ≡ code → stands_for_none ais (record { code = code; value = serial }) ≡ false → coded_pairs
+      (Some seen) serial ≡ serial_elements ais (Ai code) serial
   one_code seen same some = rw (same, some) refl
 
 -- ---- the steps of the path
@@ -49,20 +52,25 @@ module _ (elements : List Pair) (serial : List ℕ) where
   pub no_step : (out : List ℕ) → coded_pairs None serial ≡ elements → out ≡ out ++ flat_map path_step elements
   no_step out are = rw (← are) (sym (append-nil out))
 
-  pub one_step : (code before now : List ℕ) → coded_pairs (Some code) serial ≡ elements → now ≡ before ++ (47 ∷ (code ++ 47 ∷ percent_encoded serial)) → now ≡ before ++ flat_map path_step elements
+  pub one_step : (code before now : List ℕ) → coded_pairs (Some code) serial ≡ elements
+      → now ≡ before ++ (47 ∷ (code ++ 47 ∷ percent_encoded serial)) → now ≡ before ++ flat_map path_step elements
   one_step code before now are is =
       rw (← are) (is ∙ ap (λ (step : List ℕ). before ++ step) (sym (append-nil (47 ∷ (code ++ 47 ∷ percent_encoded serial)))))
 
 joined : (old stem step path start key all : List ℕ) → start ≡ old ++ stem → key ≡ start ++ step → all ≡ key ++ path → all ≡ old ++ (stem ++ step ++ path ++ [])
 joined old stem step path start key all a b c = rw (c, b, a, append-nil (stem ++ step ++ path)) (simp append_assoc)
 
-pub link_written : (ais : List AiRow) (kind : Kind) (fields : KeyFields) (old stem value start key all : List ℕ) → value ≡ key_value (parts_at ais kind.key) kind fields → start ≡ old ++ stem → key ≡ start ++ (47 ∷ (kind.key ++ 47 ∷ percent_encoded value))
+pub link_written : (ais : List AiRow) (kind : Kind) (fields : KeyFields) (old stem value start key all : List ℕ)
+    → value ≡ key_value (parts_at ais kind.key) kind fields → start ≡ old ++ stem
+    → key ≡ start ++ (47 ∷ (kind.key ++ 47 ∷ percent_encoded value))
     → all ≡ key ++ flat_map path_step (serial_elements ais kind.serial fields.serial) → all ≡ old ++ spelled stem (lay ais kind fields)
 link_written ais kind fields old stem value start key all v a b c = joined old stem _ _ start key all a (rw v at b) c
 
 -- ---- the identity of the EPC
 
-pub laid_is : (set : TableRows) (epc : Epc) (identity : Elements) (kind : Kind) (ais : List AiRow) (fields : KeyFields) → slice_get set.kinds epc.kind ≡ Some kind → ais ≡ set.ais → fields ≡ fields_in epc → IsLaidOut set epc identity → lay ais kind fields ≡ identity
+pub laid_is : (set : TableRows) (epc : Epc) (identity : Elements) (kind : Kind) (ais : List AiRow) (fields : KeyFields)
+    → slice_get set.kinds epc.kind ≡ Some kind → ais ≡ set.ais → fields ≡ fields_in epc → IsLaidOut set epc identity
+    → lay ais kind fields ≡ identity
 laid_is set epc identity kind ais fields named of_set of_epc laid =
     let both : Some kind ≡ Some laid.kind = sym named ∙ laid.named in
     let same : kind ≡ laid.kind = cc in

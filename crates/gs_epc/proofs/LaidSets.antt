@@ -2,14 +2,13 @@
 use Rattle.std.proofs.Common.{◌≡◌, ℕ, suc, ◌&&◌, ◌||◌, not, Bool, true, false, List, [], ◌∷◌, filter, Option, Some, None, bytes_eq, find, is_some, is_none, slice_get, refl, sym, ◌∙◌, inl, inr, true≢false}
 use Rattle.std.specs.List.{filter_map, list_any}
 use Rattle.std.specs.Option.{option_map_or}
-use Rattle.gs_chars.proofs.TruthsAndLists.{and_parts, true_or_false}
+use Rattle.gs_chars.proofs.TruthsAndLists.{true_or_false, equal_bytes, same_bytes}
 use Rattle.gs_ai.specs.declared.pair.Pair.{Pair}
 use Rattle.gs_ai.specs.declared.part.Part.{Part}
 use Rattle.gs_ai.specs.declared.row.AiRow.{AiRow}
 use Rattle.gs_ai.specs.Tables.{are_distinct, is_empty}
 use Rattle.gs_ai.specs.Values.{has_code}
 use Rattle.gs_ai.proofs.RowLemmas.{and_left}
-use Rattle.gs_ai.proofs.Searches.{equal_bytes, same_bytes}
 use Rattle.gs_ident.specs.Elements.{Elements}
 use Rattle.gs_ident.specs.Identities.{counted, pair_with, stands_for_none}
 use Rattle.gs_ident.proofs.PairLemmas.{find_by_cases, found_passes}
@@ -22,6 +21,7 @@ use Rattle.gs_tables.specs.Rules.{is_characters, is_serial_of}
 use Rattle.gs_epc.specs.Layout.{serial_elements, tail_of_key}
 use Rattle.gs_epc.specs.KeyParts.{none_text, serial_in, tail_in, unless_empty}
 use Rattle.gs_epc.proofs.LaidAgain.{IsTail}
+use Rattle.std.proofs.lemmas.Bool.{and_parts}
 
 -- ---- the qualifiers
 
@@ -48,7 +48,8 @@ differs_first true b h = absurd (let e : false ≡ true = h in cc)
 differs_first false b h = refl
 
 -- if each found pair has a code that is not one of these, no pair is found
-none_else : (pairs : List Pair) (code : List ℕ) (codes : List (List ℕ)) → list_any (bytes_eq code) codes ≡ false → AllOf code (filter_map (pair_with pairs) codes) → filter_map (pair_with pairs) codes ≡ []
+none_else : (pairs : List Pair) (code : List ℕ) (codes : List (List ℕ)) → list_any (bytes_eq code) codes ≡ false
+    → AllOf code (filter_map (pair_with pairs) codes) → filter_map (pair_with pairs) codes ≡ []
 none_else pairs code [] apart all = refl
 none_else pairs code (other ∷ codes) apart all = elim (find_by_cases (λ (p : Pair). bytes_eq other p.code) pairs) [
   | inl found ↦
@@ -74,10 +75,14 @@ pub data AreOne (table : List AiRow) (code : List ℕ) (qualifiers : List Pair) 
   nothing : qualifiers ≡ [] → AreOne table code qualifiers
   one : (pair : Pair) → qualifiers ≡ pair ∷ [] → pair.code ≡ code → stands_for_none table pair ≡ false → AreOne table code qualifiers
 
-counts : (table : List AiRow) (given : List Pair) (code : List ℕ) (pair : Pair) → pair_with (counted table given) code ≡ Some pair → stands_for_none table pair ≡ false
-counts table given code pair e = differs_first (stands_for_none table pair) true (found_kept (λ p. not (stands_for_none table p)) (λ p. bytes_eq code p.code) given pair e)
+counts : (table : List AiRow) (given : List Pair) (code : List ℕ) (pair : Pair) → pair_with (counted table given) code ≡ Some pair
+    → stands_for_none table pair ≡ false
+counts table given code pair e = differs_first (stands_for_none table pair) true
+    (found_kept (λ p. not (stands_for_none table p)) (λ p. bytes_eq code p.code) given pair e)
 
-pub are_one : (table : List AiRow) (given : List Pair) (code : List ℕ) (codes : List (List ℕ)) → are_distinct codes ≡ true → AllOf code (filter_map (pair_with (counted table given)) codes) → AreOne table code (filter_map (pair_with (counted table given)) codes)
+pub are_one : (table : List AiRow) (given : List Pair) (code : List ℕ) (codes : List (List ℕ)) → are_distinct codes ≡ true
+    → AllOf code (filter_map (pair_with (counted table given)) codes)
+    → AreOne table code (filter_map (pair_with (counted table given)) codes)
 are_one table given code [] distinct all = nothing refl
 are_one table given code (other ∷ codes) distinct all =
     let parts = and_parts (not (list_any (bytes_eq other) codes)) (are_distinct codes) distinct in
@@ -102,7 +107,8 @@ no_pairs (pair ∷ pairs) none = absurd (none 0 pair refl)
 
 -- ---- the serial's element
 
-none_stands : (row : Option AiRow) (serial : List ℕ) → unless_empty (option_map_or (λ (r : AiRow). r.none) row []) ≡ Some serial → option_map_or (λ (r : AiRow). not (is_empty r.none) && bytes_eq r.none serial) row false ≡ true
+none_stands : (row : Option AiRow) (serial : List ℕ) → unless_empty (option_map_or (λ (r : AiRow). r.none) row []) ≡ Some serial
+    → option_map_or (λ (r : AiRow). not (is_empty r.none) && bytes_eq r.none serial) row false ≡ true
 none_stands None serial e = absurd (let f : None ≡ Some serial = e in cc)
 none_stands (Some row) serial e = by row.none e
   where
@@ -110,7 +116,8 @@ none_stands (Some row) serial e = by row.none e
     by [] e = absurd (let f : None ≡ Some serial = e in cc)
     by (c ∷ text) e = let same : c ∷ text ≡ serial = cc in rw same (same_bytes serial)
 
-pub own_element : (ais : List AiRow) (parts : List Part) (code serial : List ℕ) (identity : Elements) → AreOne ais code identity.qualifiers → serial_in ais parts (Ai code) identity ≡ Some serial → identity.qualifiers ≡ serial_elements ais (Ai code) serial
+pub own_element : (ais : List AiRow) (parts : List Part) (code serial : List ℕ) (identity : Elements) → AreOne ais code identity.qualifiers
+    → serial_in ais parts (Ai code) identity ≡ Some serial → identity.qualifiers ≡ serial_elements ais (Ai code) serial
 own_element ais parts code serial identity (nothing none) e =
     let f : unless_empty (none_text ais code) ≡ Some serial = rw none at e in
     let stands : stands_for_none ais (record { code = code; value = serial }) ≡ true = none_stands (find (has_code code) ais) serial f in
@@ -143,7 +150,9 @@ full : (text serial : List ℕ) → unless_empty text ≡ Some serial → serial
 full [] serial e = absurd (let f : None ≡ Some serial = e in cc)
 full (c ∷ text) serial e = let same : c ∷ text ≡ serial = cc in sym same
 
-pub is_tail : (ais : List AiRow) (row : AiRow) (form : KeyForm) (parts : List Part) (at : SerialAt) (serial : List ℕ) (identity : Elements) → is_serial_of ais row form at ≡ true → serial_in ais parts at identity ≡ Some serial → IsTail form (tail_of_key at serial) (tail_in parts identity.key.value)
+pub is_tail : (ais : List AiRow) (row : AiRow) (form : KeyForm) (parts : List Part) (at : SerialAt) (serial : List ℕ) (identity : Elements)
+    → is_serial_of ais row form at ≡ true → serial_in ais parts at identity ≡ Some serial
+    → IsTail form (tail_of_key at serial) (tail_in parts identity.key.value)
 is_tail ais row form parts Nowhere serial identity rule e = record { some = λ some. absurd (not_both (tail_of form) rule some); none = λ none. refl }
 is_tail ais row form parts Tail serial identity rule e = record { some = λ some. full (tail_in parts identity.key.value) serial e; none = λ none. absurd (not_both (tail_of form) none rule) }
 is_tail ais row form parts (Ai code) serial identity rule e = record { some = λ some. absurd (open_tail form (list_any (bytes_eq code) row.qualifiers) (is_characters ais code) rule some); none = λ none. refl }

@@ -32,7 +32,8 @@ counted_one ais pair = elim (true_or_false (stands_for_none ais pair)) [
   | inr some ↦ rw some refl
 ]
 
-by_serial : (ais : List AiRow) (row : AiRow) (form : KeyForm) (at : SerialAt) (key : Pair) (serial : List ℕ) → IsKeyPair ais row.qualifiers key → is_serial_of ais row form at ≡ true
+by_serial : (ais : List AiRow) (row : AiRow) (form : KeyForm) (at : SerialAt) (key : Pair) (serial : List ℕ)
+    → IsKeyPair ais row.qualifiers key → is_serial_of ais row form at ≡ true
     → identity_of_pairs ais (key ∷ serial_pairs at serial) ≡ Ok (record { key = key; qualifiers = serial_elements ais at serial; attributes = [] })
 by_serial ais row form Nowhere key serial is rule = alone_made ais row.qualifiers key is
 by_serial ais row form Tail key serial is rule = alone_made ais row.qualifiers key is
@@ -51,7 +52,8 @@ module _ (ais : List AiRow) (kind : Kind) (fields : KeyFields) (fit : FitKind ai
   pub laid_identity : identity_of_pairs ais (key_pair ais kind fields ∷ serial_pairs kind.serial fields.serial) ≡ Ok (lay ais kind fields)
   laid_identity =
       let key = key_pair ais kind fields in
-      by_serial ais fit.of_kind.row fit.of_kind.form kind.serial key fields.serial (is_key_pair ais fit.of_kind.row key rules fit.of_kind.found fit.of_kind.key) fit.of_kind.serial
+      by_serial ais fit.of_kind.row fit.of_kind.form kind.serial key fields.serial
+      (is_key_pair ais fit.of_kind.row key rules fit.of_kind.found fit.of_kind.key) fit.of_kind.serial
 
   -- the identity of the layout was made with the table
   pub laid_with : IsMadeWith ais (lay ais kind fields)
@@ -60,24 +62,30 @@ module _ (ais : List AiRow) (kind : Kind) (fields : KeyFields) (fit : FitKind ai
   -- its pairs, without a list of attributes
   pub pairs_laid_in_order : All (IsInOrder ais) (key_pair ais kind fields ∷ serial_elements ais kind.serial fields.serial)
   pairs_laid_in_order =
-      subst (λ (pairs : List Pair). All (IsInOrder ais) (key_pair ais kind fields ∷ pairs)) (append-nil (serial_elements ais kind.serial fields.serial)) laid_with.in_order
+      subst (λ (pairs : List Pair). All (IsInOrder ais) (key_pair ais kind fields ∷ pairs))
+      (append-nil (serial_elements ais kind.serial fields.serial)) laid_with.in_order
 
 -- ---- the identity, and its pairs alone
 
 -- the identity of these pairs is the layout
-pub laid_out : (ais : List AiRow) (kind : Kind) (fields : KeyFields) (identity : Elements) (key : Pair) (qualifiers attributes : List Pair) → identity ≡ elements_with key qualifiers attributes → key ≡ key_pair ais kind fields → qualifiers ≡ serial_elements ais kind.serial fields.serial → attributes ≡ []
+pub laid_out : (ais : List AiRow) (kind : Kind) (fields : KeyFields) (identity : Elements) (key : Pair) (qualifiers attributes : List Pair)
+    → identity ≡ elements_with key qualifiers attributes → key ≡ key_pair ais kind fields
+    → qualifiers ≡ serial_elements ais kind.serial fields.serial → attributes ≡ []
     → identity ≡ lay ais kind fields
 laid_out ais kind fields identity key qualifiers attributes is keyed qualified none = rw (is, keyed, qualified, none) refl
 
 module _ {E : Type 0} (ais : List AiRow) (kind : Kind) (fields : KeyFields) where
   -- the pairs that were made are those of the identity
-  pub pairs_are : (result : Result KeyAndSerial E) (identity : Elements) → IfOk result (λ pairs. pairs.key ≡ key_pair ais kind fields) → IfOk result (λ pairs. pairs_in pairs.serial ≡ serial_elements ais kind.serial fields.serial) → lay ais kind fields ≡ identity
+  pub pairs_are : (result : Result KeyAndSerial E) (identity : Elements) → IfOk result (λ pairs. pairs.key ≡ key_pair ais kind fields)
+      → IfOk result (λ pairs. pairs_in pairs.serial ≡ serial_elements ais kind.serial fields.serial) → lay ais kind fields ≡ identity
       → IfOk result (λ pairs. pairs_of identity ≡ pairs.key ∷ pairs_in pairs.serial)
   pairs_are (Ok pairs) identity keyed qualified is =
       rw (← is, keyed, qualified) (ap (λ (others : List Pair). key_pair ais kind fields ∷ others) (append-nil (serial_elements ais kind.serial fields.serial)))
   pairs_are (Err error) identity keyed qualified is = tt
 
-  pub made_in_order : (result : Result KeyAndSerial E) → IfOk result (λ pairs. pairs.key ≡ key_pair ais kind fields) → IfOk result (λ pairs. pairs_in pairs.serial ≡ serial_elements ais kind.serial fields.serial) → FitKind ais kind fields → KeepsRules ais
+  pub made_in_order : (result : Result KeyAndSerial E) → IfOk result (λ pairs. pairs.key ≡ key_pair ais kind fields)
+      → IfOk result (λ pairs. pairs_in pairs.serial ≡ serial_elements ais kind.serial fields.serial) → FitKind ais kind fields
+      → KeepsRules ais
       → IfOk result (λ pairs. All (IsInOrder ais) (pairs.key ∷ pairs_in pairs.serial))
   made_in_order (Ok pairs) keyed qualified fit rules = rw (keyed, qualified) (pairs_laid_in_order ais kind fields fit rules)
   made_in_order (Err error) keyed qualified fit rules = tt
@@ -94,7 +102,8 @@ lists_serial ais row form (Ai code) serial rule =
     (and_right (is_none (tail_of form)) (list_any (bytes_eq code) row.qualifiers) (and_left (is_none (tail_of form) && list_any (bytes_eq code) row.qualifiers) (is_characters ais code) rule))
     (All-nil (λ (pair : Pair). list_any (bytes_eq pair.code) row.qualifiers ≡ true))
 
-module _ (ais : List AiRow) (kind : Kind) (fields : KeyFields) (key : Pair) (serial : Option Pair) (keyed : key ≡ key_pair ais kind fields) (laid : pairs_in serial ≡ serial_pairs kind.serial fields.serial)
+module _ (ais : List AiRow) (kind : Kind) (fields : KeyFields) (key : Pair) (serial : Option Pair) (keyed : key ≡ key_pair ais kind fields)
+    (laid : pairs_in serial ≡ serial_pairs kind.serial fields.serial)
     (fit : FitKind ais kind fields) (rules : KeepsRules ais) where
   pub is_qualified : IsQualifiedKey ais key serial
   is_qualified = record {

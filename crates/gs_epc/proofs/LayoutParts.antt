@@ -7,7 +7,7 @@ use Rattle.std.proofs.lemmas.List.Folds.{list_all-append}
 use Rattle.std.proofs.lemmas.List.Sums.{sum_by-cons}
 use Rattle.std.proofs.Math.ListN.{drop_of_length-le}
 use Rattle.gs_chars.specs.Characters.{is_digit}
-use Rattle.gs_chars.proofs.TruthsAndLists.{and_true}
+use Rattle.gs_chars.proofs.TruthsAndLists.{same_bytes}
 use Rattle.gs_chars.specs.CheckDigits.{check_digit_of, weighted_sum}
 use Rattle.gs_ai.specs.declared.part.Part.{Part}
 use Rattle.gs_ai.specs.declared.part.Part.TheVariants.{Zero, Num, NumCheck, NumOpt, Set, SetOpt}
@@ -15,14 +15,15 @@ use Rattle.gs_ai.specs.Parts.{least_length, greatest_length, is_of_part}
 use Rattle.gs_ai.specs.Values.{greatest_of, keeps_check, keeps_date, least_of, parts_error, pieces, wrong_character}
 use Rattle.gs_ai.proofs.PartLemmas.{wrong_nowhere}
 use Rattle.gs_ai.proofs.RowLemmas.{and_left, and_right}
-use Rattle.gs_ai.proofs.Searches.{position-cons, same_bytes}
 use Rattle.gs_epc.specs.KeptFields.{AreCharacters, AreNumbers, HasDigits}
 use Rattle.gs_epc.specs.Layout.{with_check}
+use Rattle.gs_chars.proofs.Searches.{position-cons}
+use Rattle.std.proofs.lemmas.Bool.{and_from}
 
 -- ---- tests of each element
 
 pub both_pass : {X : Type 0} (p : X → Bool) (xs ys : List X) → list_all p xs ≡ true → list_all p ys ≡ true → list_all p (xs ++ ys) ≡ true
-both_pass p xs ys a b = list_all-append p xs ys ∙ and_true _ _ a b
+both_pass p xs ys a b = list_all-append p xs ys ∙ and_from _ _ a b
 
 none_fails : {X : Type 0} (p : X → Bool) (xs : List X) → list_all p xs ≡ true → position (λ x. not (p x)) xs ≡ None
 none_fails p [] all = refl
@@ -59,7 +60,9 @@ pub nothing : KeepsParts [] []
 nothing = record { least = omega arith; greatest = omega arith; characters = refl; checks = refl; dates = refl }
 
 -- a piece of its greatest length before the value of further parts
-front : (part : Part) (parts : List Part) (piece value rest : List ℕ) → take (greatest_length part) value ≡ piece → drop (greatest_length part) value ≡ rest → length value ≡ length piece + length rest → IsPiece part piece → KeepsParts parts rest → KeepsParts (part ∷ parts) value
+front : (part : Part) (parts : List Part) (piece value rest : List ℕ) → take (greatest_length part) value ≡ piece
+    → drop (greatest_length part) value ≡ rest → length value ≡ length piece + length rest → IsPiece part piece → KeepsParts parts rest
+    → KeepsParts (part ∷ parts) value
 front part parts piece value rest t d long is kept =
     let wrong : position (λ c. not (is_of_part part c)) piece ≡ None = none_fails (is_of_part part) piece is.characters in
     let least : least_of (part ∷ parts) ≡ least_length part + least_of parts = sum_by-cons least_length part parts in
@@ -68,17 +71,20 @@ front part parts piece value rest t d long is kept =
       least = omega (arith, least, long, is.least, kept.least);
       greatest = omega (arith, greatest, long, is.greatest, kept.greatest);
       characters = wrong_nowhere part parts value piece rest (sym t) (sym d) wrong kept.characters;
-      checks = rw (t, d) (and_true _ _ is.check kept.checks);
-      dates = rw (t, d) (and_true _ _ is.date kept.dates);
+      checks = rw (t, d) (and_from _ _ is.check kept.checks);
+      dates = rw (t, d) (and_from _ _ is.date kept.dates);
     }
 
-pub in_front : (part : Part) (parts : List Part) (piece rest : List ℕ) → length piece ≡ greatest_length part → IsPiece part piece → KeepsParts parts rest → KeepsParts (part ∷ parts) (piece ++ rest)
+pub in_front : (part : Part) (parts : List Part) (piece rest : List ℕ) → length piece ≡ greatest_length part → IsPiece part piece
+    → KeepsParts parts rest → KeepsParts (part ∷ parts) (piece ++ rest)
 in_front part parts piece rest long is kept =
-    front part parts piece (piece ++ rest) rest (take_at piece rest (greatest_length part) long) (drop_at piece rest (greatest_length part) long) (length-append piece rest) is kept
+    front part parts piece (piece ++ rest) rest (take_at piece rest (greatest_length part) long)
+    (drop_at piece rest (greatest_length part) long) (length-append piece rest) is kept
 
 -- the piece of the last part
 pub at_end : (part : Part) (piece : List ℕ) → IsPiece part piece → KeepsParts (part ∷ []) piece
-at_end part piece is = front part [] piece piece [] (take_all (greatest_length part) piece is.greatest) (drop_of_length-le piece is.greatest) (omega arith) is nothing
+at_end part piece is = front part [] piece piece [] (take_all (greatest_length part) piece is.greatest)
+    (drop_of_length-le piece is.greatest) (omega arith) is nothing
 
 -- ---- pieces of the parts of keys and serials
 
@@ -96,7 +102,7 @@ pub checked_piece : (k : ℕ) (digits : List ℕ) → 2 ≤ k → length digits 
 checked_piece k digits two long all =
     let check = check_digit_of digits in
     let whole : length (digits ++ check ∷ []) ≡ k = length-append digits (check ∷ []) ∙ omega (arith, long, two) in
-    let are : list_all is_digit (digits ++ check ∷ []) ≡ true = both_pass is_digit digits (check ∷ []) all (and_true _ _ (check_is_digit digits) refl) in
+    let are : list_all is_digit (digits ++ check ∷ []) ≡ true = both_pass is_digit digits (check ∷ []) all (and_from _ _ (check_is_digit digits) refl) in
     let others : take (k - 1) (digits ++ check ∷ []) ≡ digits = take_at digits (check ∷ []) (k - 1) long in
     let last : drop (k - 1) (digits ++ check ∷ []) ≡ check ∷ [] = drop_at digits (check ∷ []) (k - 1) long in
     record {

@@ -4,7 +4,7 @@ use Rattle.std.specs.List.{list_any}
 use Rattle.std.specs.Option.{option_map_or}
 use Rattle.std.proofs.lemmas.Bool.Decides.{nat_tests}
 use Rattle.gs_ai.specs.Tables.{is_empty}
-use Rattle.gs_chars.proofs.TruthsAndLists.{and_parts, true_or_false}
+use Rattle.gs_chars.proofs.TruthsAndLists.{true_or_false}
 use Rattle.gs_tables_document.specs.declared.document.Field.{Field}
 use Rattle.gs_tables_document.specs.declared.document.Field.TheVariants.{Filter, Gcp, Rest, Piece, Total, Serial}
 use Rattle.gs_tables_document.specs.declared.document.LevelName.{LevelName}
@@ -23,11 +23,13 @@ use Rattle.gs_epc.specs.Candidates.{HasFilter, HasFilterOn, filter_on, is_asked,
 use Rattle.gs_epc.specs.Epcs.{epc_of, filter_of, value_at, value_of}
 use Rattle.gs_epc.specs.Writes.{same_fields}
 use Rattle.gs_epc.proofs.FieldPlaces.{named}
+use Rattle.std.proofs.lemmas.Bool.{and_parts}
 
 -- ---- the values of fields
 
 -- the value of a field is its own if an item has the field
-pub value_where : (field : Field) (fields : List (Option Field)) (v : Option Field → List ℕ) → value_at field fields (map v fields) ≡ (if list_any (is_field field) fields then Some (v (Some field)) else None)
+pub value_where : (field : Field) (fields : List (Option Field)) (v : Option Field → List ℕ)
+    → value_at field fields (map v fields) ≡ (if list_any (is_field field) fields then Some (v (Some field)) else None)
 value_where field [] v = refl
 value_where field (name ∷ fields) v = elim (true_or_false (is_field field name)) [
   | inl e ↦ let same : name ≡ Some field = named field name e in rw (e, same) refl
@@ -35,7 +37,8 @@ value_where field (name ∷ fields) v = elim (true_or_false (is_field field name
 ]
 
 -- a field has one item, so an item stands for it
-pub one_stands : (field : Field) (test : Item → Bool) (items : List FieldItem) → is_one test (items_of_field field items) ≡ true → list_any (is_field field) (fields_of items) ≡ true
+pub one_stands : (field : Field) (test : Item → Bool) (items : List FieldItem) → is_one test (items_of_field field items) ≡ true
+    → list_any (is_field field) (fields_of items) ≡ true
 one_stands field test [] h = absurd (let e : false ≡ true = h in cc)
 one_stands field test (i ∷ items) h = elim (true_or_false (is_field field i.0)) [
   | inl e ↦ rw e refl
@@ -57,7 +60,8 @@ nothing_left [] h = refl
 nothing_left (c ∷ text) h = absurd (let e : true ≡ false = h in cc)
 
 -- a text that is not left out is the value of its field
-kept_text : (field : Field) (fields : List (Option Field)) (v : Option Field → List ℕ) → is_left_out field fields (v (Some field)) ≡ false → value_of field fields (map v fields) ≡ v (Some field)
+kept_text : (field : Field) (fields : List (Option Field)) (v : Option Field → List ℕ) → is_left_out field fields (v (Some field)) ≡ false
+    → value_of field fields (map v fields) ≡ v (Some field)
 kept_text field fields v whole = elim (true_or_false (list_any (is_field field) fields)) [
   | inl e ↦ rw (value_where field fields v, e) refl
   | inr e ↦ rw (value_where field fields v, e) (nothing_left (v (Some field)) (rw e at whole))
@@ -90,7 +94,8 @@ number_back : (filter : Option ℕ) → HasFilter filter → Some (decimal_value
 number_back None has = absurd has
 number_back (Some n) has = ap (λ (k : ℕ). Some k) (value_decimal n (omega arith))
 
-filter_back : (level : LevelName) (epc : Epc) (parts : List FieldItem) (encoding : List ℕ) → keeps_level level encoding parts ≡ true → HasFilterOn level epc.filter → filter_of (fields_of parts) (map (value_for level epc) (fields_of parts)) ≡ filter_on level epc.filter
+filter_back : (level : LevelName) (epc : Epc) (parts : List FieldItem) (encoding : List ℕ) → keeps_level level encoding parts ≡ true
+    → HasFilterOn level epc.filter → filter_of (fields_of parts) (map (value_for level epc) (fields_of parts)) ≡ filter_on level epc.filter
 unfolding keeps_level
 filter_back Pure epc parts encoding h has =
     let none = none_stands Filter parts (and_parts (is_empty encoding) (is_empty (items_of_field Filter parts)) h).1 in
@@ -105,7 +110,8 @@ filter_back Binary epc parts encoding h has =
 
 -- ---- the prefix
 
-prefix_back : (set : TableRows) (level : LevelName) (items : List Item) (info : OptInfo) (v : Option Field → List ℕ) → KeptOption set level items info → value_of Gcp info.fields (map v info.fields) ≡ v (Some Gcp)
+prefix_back : (set : TableRows) (level : LevelName) (items : List Item) (info : OptInfo) (v : Option Field → List ℕ)
+    → KeptOption set level items info → value_of Gcp info.fields (map v info.fields) ≡ v (Some Gcp)
 unfolding keeps_gcp
 prefix_back set level items info v kept =
     let digits = (and_parts (is_gcp kept.of_kind.form kept.kind.lead info.gcp) (is_one (is_digits info.gcp) (items_of_field Gcp kept.parts)) kept.gcp).1 in
@@ -127,14 +133,19 @@ abbrev epc_with : ℕ → List ℕ → Option ℕ → ℕ → List ℕ → List 
 epc_with kind encoding filter gcp prefix rest piece total serial =
     record { kind = kind; encoding = encoding; filter = filter; gcp = gcp; prefix = prefix; rest = rest; piece = piece; total = total; serial = serial }
 
-equal_fields : (kind kind' : ℕ) (encoding : List ℕ) (filter filter' : Option ℕ) (gcp gcp' : ℕ) (prefix prefix' rest rest' piece piece' total total' serial serial' : List ℕ) → kind ≡ kind' → filter ≡ filter' → gcp ≡ gcp' → prefix ≡ prefix' → rest ≡ rest' → piece ≡ piece' → total ≡ total' → serial ≡ serial'
+equal_fields : (kind kind' : ℕ) (encoding : List ℕ) (filter filter' : Option ℕ) (gcp gcp' : ℕ) (prefix prefix' rest rest' piece piece' total total' serial serial' : List ℕ)
+    → kind ≡ kind' → filter ≡ filter' → gcp ≡ gcp' → prefix ≡ prefix' → rest ≡ rest' → piece ≡ piece' → total ≡ total' → serial ≡ serial'
     → epc_with kind encoding filter gcp prefix rest piece total serial ≡ epc_with kind' encoding filter' gcp' prefix' rest' piece' total' serial'
 equal_fields kind kind' encoding filter filter' gcp gcp' prefix prefix' rest rest' piece piece' total total' serial serial' a b c d e f g h = rw (a, b, c, d, e, f, g, h) refl
 
-pub said_back : (set : TableRows) (level : LevelName) (items : List Item) (info : OptInfo) (epc : Epc) → KeptOption set level items info → is_candidate level epc info ≡ true → HasFilterOn level epc.filter → left_out info.fields epc ≡ None → epc_of info (values_for level epc info) ≡ same_fields level info epc
+pub said_back : (set : TableRows) (level : LevelName) (items : List Item) (info : OptInfo) (epc : Epc) → KeptOption set level items info
+    → is_candidate level epc info ≡ true → HasFilterOn level epc.filter → left_out info.fields epc ≡ None
+    → epc_of info (values_for level epc info) ≡ same_fields level info epc
 said_back set level items info epc kept passes has whole =
     let numbers = same_numbers info.kind epc.kind info.gcp epc.gcp (is_asked level epc.encoding info.encoding) passes in
     let none = none_left info.fields epc whole in
     let filter : filter_of info.fields (values_for level epc info) ≡ filter_on level epc.filter = rw kept.fields_are (filter_back level epc kept.parts info.encoding kept.of_level has) in
-    equal_fields _ _ _ _ _ _ _ _ _ _ _ _ _ _ _ _ _ numbers.0 filter numbers.1 (prefix_back set level items info (value_for level epc) kept) (kept_text Rest info.fields (value_for level epc) none.rest)
-    (kept_text Piece info.fields (value_for level epc) none.piece) (kept_text Total info.fields (value_for level epc) none.total) (kept_text Serial info.fields (value_for level epc) none.serial)
+    equal_fields _ _ _ _ _ _ _ _ _ _ _ _ _ _ _ _ _ numbers.0 filter numbers.1 (prefix_back set level items info (value_for level epc) kept)
+    (kept_text Rest info.fields (value_for level epc) none.rest)
+    (kept_text Piece info.fields (value_for level epc) none.piece) (kept_text Total info.fields (value_for level epc) none.total)
+    (kept_text Serial info.fields (value_for level epc) none.serial)

@@ -21,12 +21,14 @@ use Rattle.gs_epc.proofs.ReadBack.{said_back}
 use Rattle.gs_epc.proofs.Tries.{as_many, candidate_kept, whole}
 use Rattle.gs_epc.proofs.WrittenSizes.{written_count}
 
-module _ (set : TableRows) (level : LevelName) (epc : Epc) (i : ℕ) (candidate : Candidate set level epc i) (holds : HoldsAll set level epc candidate) (loaded : IsLoaded set) where
+module _ (set : TableRows) (level : LevelName) (epc : Epc) (i : ℕ) (candidate : Candidate set level epc i)
+    (holds : HoldsAll set level epc candidate) (loaded : IsLoaded set) where
   abbrev values : List (List ℕ)
   values = values_for level epc candidate.info
 
   count : length values ≡ length candidate.items
-  count = length-map candidate.info.fields (value_for level epc) ∙ as_many set level candidate.items candidate.info (candidate_kept set level epc i candidate loaded.shaped)
+  count = length-map candidate.info.fields (value_for level epc) ∙ as_many set level candidate.items candidate.info
+      (candidate_kept set level epc i candidate loaded.shaped)
 
   -- symbols that a candidate writes say the same fields
   says_back : HasFilterOn level epc.filter → Says set level (written candidate.items values) (same_fields level candidate.info epc)
@@ -47,7 +49,8 @@ record BitsBack (set : TableRows) (epc : Epc) (i : ℕ) (candidate : Candidate s
   hex : IsHex (hex_of_bits (written candidate.items (values_for Binary epc candidate.info)))
   bits : bits_of_hex (hex_of_bits (written candidate.items (values_for Binary epc candidate.info))) ≡ written candidate.items (values_for Binary epc candidate.info)
 
-bits_back : (set : TableRows) (epc : Epc) (i : ℕ) (candidate : Candidate set Binary epc i) → HoldsAll set Binary epc candidate → IsLoaded set → BitsBack set epc i candidate
+bits_back : (set : TableRows) (epc : Epc) (i : ℕ) (candidate : Candidate set Binary epc i) → HoldsAll set Binary epc candidate
+    → IsLoaded set → BitsBack set epc i candidate
 bits_back set epc i candidate holds loaded =
     let kept = candidate_kept set Binary epc i candidate loaded.shaped in
     let symbols = written candidate.items (values_for Binary epc candidate.info) in
@@ -63,7 +66,8 @@ bits_back set epc i candidate holds loaded =
       bits = hex_read symbols are four;
     }
 
-pub read_back : (set : TableRows) (level : LevelName) (epc : Epc) (text : List ℕ) → IsLoaded set → HasFilterOn level epc.filter → (writes : Writes set level epc text) → ReadsText set level text (Ok (same_fields level writes.candidate.info epc))
+pub read_back : (set : TableRows) (level : LevelName) (epc : Epc) (text : List ℕ) → IsLoaded set → HasFilterOn level epc.filter
+    → (writes : Writes set level epc text) → ReadsText set level text (Ok (same_fields level writes.candidate.info epc))
 read_back set Tag epc text loaded has writes = rw writes.text_is (says_back set Tag epc writes.option writes.candidate writes.holds loaded has)
 read_back set Pure epc text loaded has writes = rw writes.text_is (says_back set Pure epc writes.option writes.candidate writes.holds loaded has)
 read_back set Binary epc text loaded has writes =

@@ -39,7 +39,9 @@ pub as_many : (set : TableRows) (level : LevelName) → IsShaped set → length 
 as_many set level shaped = length-map (level_rows level set).level.options (λ (option : OptionForm). option.items) ∙ as_many_said set level shaped
 
 -- the option of a derivation has facts
-pub option_low : (set : TableRows) (level : LevelName) (symbols : List ℕ) (option : ℕ) (values : List (List ℕ)) (infos : List OptInfo) → IsShaped set → OneDerivation (options_of level set) symbols option values → infos ≡ (level_rows level set).info → option < length infos
+pub option_low : (set : TableRows) (level : LevelName) (symbols : List ℕ) (option : ℕ) (values : List (List ℕ)) (infos : List OptInfo)
+    → IsShaped set → OneDerivation (options_of level set) symbols option values → infos ≡ (level_rows level set).info
+    → option < length infos
 option_low set level symbols option values infos shaped one rows =
     let d = one.derivation in
     let place = one.of_option in
@@ -48,7 +50,9 @@ option_low set level symbols option values infos shaped one rows =
     let count = ap length rows in
     omega arith
 
-pub said_of : (set : TableRows) (level : LevelName) (symbols : List ℕ) (option : ℕ) (values : List (List ℕ)) (infos : List OptInfo) (info : OptInfo) → IsShaped set → OneDerivation (options_of level set) symbols option values → infos ≡ (level_rows level set).info → info ≡ get_or infos option info → IsSaid set level option values info
+pub said_of : (set : TableRows) (level : LevelName) (symbols : List ℕ) (option : ℕ) (values : List (List ℕ)) (infos : List OptInfo) (info : OptInfo)
+    → IsShaped set → OneDerivation (options_of level set) symbols option values → infos ≡ (level_rows level set).info
+    → info ≡ get_or infos option info → IsSaid set level option values info
 said_of set level symbols option values infos info shaped one rows read =
     let d = one.derivation in
     let low = option_low set level symbols option values infos shaped one rows in
@@ -62,29 +66,35 @@ said_of set level symbols option values infos info shaped one rows read =
 
 -- ---- its filter
 
-pub filter_of_said : (set : TableRows) (level : LevelName) (option : ℕ) (values : List (List ℕ)) (info : OptInfo) → IsShaped set → IsSaid set level option values info → IfSome (value_at Filter info.fields values) IsFilter
+pub filter_of_said : (set : TableRows) (level : LevelName) (option : ℕ) (values : List (List ℕ)) (info : OptInfo) → IsShaped set
+    → IsSaid set level option values info → IfSome (value_at Filter info.fields values) IsFilter
 filter_of_said set level option values info shaped h =
     filter_kept set level h.items info values h.words (options_kept set level shaped option h.items info h.of_level h.said) h.held
 
 -- ---- its fields
 
-pub of_set : (set : TableRows) (level : LevelName) (option : ℕ) (values : List (List ℕ)) (info : OptInfo) (epc : Epc) → IsSaid set level option values info → epc ≡ epc_of info values → IsOfSet set epc
+pub of_set : (set : TableRows) (level : LevelName) (option : ℕ) (values : List (List ℕ)) (info : OptInfo) (epc : Epc)
+    → IsSaid set level option values info → epc ≡ epc_of info values → IsOfSet set epc
 of_set set level option values info epc h fields =
     record { level = level; option = option; items = h.items; info = info; values = values; words = h.words; of_level = h.of_level; said = h.said; held = h.held; fields = fields }
 
-pub says : (set : TableRows) (level : LevelName) (symbols : List ℕ) (option : ℕ) (values : List (List ℕ)) (info : OptInfo) (epc : Epc) → IsSaid set level option values info → OneDerivation (options_of level set) symbols option values → epc ≡ epc_of info values → Says set level symbols epc
+pub says : (set : TableRows) (level : LevelName) (symbols : List ℕ) (option : ℕ) (values : List (List ℕ)) (info : OptInfo) (epc : Epc)
+    → IsSaid set level option values info → OneDerivation (options_of level set) symbols option values → epc ≡ epc_of info values
+    → Says set level symbols epc
 says set level symbols option values info epc h one fields = record { option = option; values = values; info = info; read = one; said = h.said; fields = fields }
 
 -- ---- the answer to a text of digits
 
-pub is_hex : (text bits : List ℕ) (made : Result (List ℕ) HexFault) → made ≡ Ok bits → ((made ≡ Err OddDigits) ↔ (length text % 2 ≡ 1)) → ((made ≡ Err Full) ↔ ((length text % 2 ≡ 0) × (2 * 64 < length text))) → (IsOk made → AllPass is_hex_digit text) → IsHex text
+pub is_hex : (text bits : List ℕ) (made : Result (List ℕ) HexFault) → made ≡ Ok bits → ((made ≡ Err OddDigits) ↔ (length text % 2 ≡ 1))
+    → ((made ≡ Err Full) ↔ ((length text % 2 ≡ 0) × (2 * 64 < length text))) → (IsOk made → AllPass is_hex_digit text) → IsHex text
 is_hex text bits made is odd full digits =
     let not_odd : length text % 2 ≡ 1 → ⊥ = λ h. let e = odd.1 h in cc in
     let even : length text % 2 ≡ 0 = omega arith in
     let not_full : 2 * 64 < length text → ⊥ = λ h. let e = full.1 (even, h) in cc in
     record { even = even; short = omega arith; digits = digits (rw is refl) }
 
-pub hex_answer : (set : TableRows) (text bits : List ℕ) (answer : Result Epc EpcFault) → IsHex text → bits ≡ bits_of_hex text → ReadsAs set Binary bits answer → ReadsHex set text answer
+pub hex_answer : (set : TableRows) (text bits : List ℕ) (answer : Result Epc EpcFault) → IsHex text → bits ≡ bits_of_hex text
+    → ReadsAs set Binary bits answer → ReadsHex set text answer
 hex_answer set text bits (Ok epc) hex e h = (hex, rw e at h)
 hex_answer set text bits (Err NoReading) hex e h = (hex, rw e at h)
 hex_answer set text bits (Err Memory) hex e h = tt

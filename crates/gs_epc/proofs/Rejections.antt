@@ -41,7 +41,8 @@ module _ (set : TableRows) (level : LevelName) (epc : Epc) where
   -- ---- one candidate
 
   -- a candidate that does not hold a field does not hold every field
-  rejected : (i : ℕ) (candidate : Candidate set level epc i) (field : Field) (why : Why) → Rejects set level epc candidate field why → HoldsAll set level epc candidate → ⊥
+  rejected : (i : ℕ) (candidate : Candidate set level epc i) (field : Field) (why : Why) → Rejects set level epc candidate field why
+      → HoldsAll set level epc candidate → ⊥
   rejected i candidate field why (inl at) holds =
       let first = at.first in
       let none = holds.held at.k first.item first.value (slice_get_within candidate.items at.k first.item first.item_at) first.item_at first.value_at in
@@ -66,7 +67,8 @@ module _ (set : TableRows) (level : LevelName) (epc : Epc) where
     | inr differs ↦ none i candidate (omega arith) holds
   ]
 
-  no_candidate_more : (n : ℕ) → ((i : ℕ) → i < n → Candidate set level epc i → ⊥) → (Candidate set level epc n → ⊥) → (i : ℕ) → i < n + 1 → Candidate set level epc i → ⊥
+  no_candidate_more : (n : ℕ) → ((i : ℕ) → i < n → Candidate set level epc i → ⊥) → (Candidate set level epc n → ⊥) → (i : ℕ) → i < n + 1
+      → Candidate set level epc i → ⊥
   no_candidate_more n none fails i low candidate = elim (cases_eq i n) [
     | inl same ↦ fails (rw same at candidate)
     | inr differs ↦ none i (omega arith) candidate
@@ -98,7 +100,8 @@ module _ (set : TableRows) (level : LevelName) (epc : Epc) where
   skipped n Memory h fails = h
 
   -- option n is a candidate that does not hold this field
-  pub rejected_next : (n : ℕ) (rejection : EpcWriteFault) (candidate : Candidate set level epc n) (field : Field) (why : Why) → RejectedBefore n rejection → Rejects set level epc candidate field why → LastBefore (n + 1) field why
+  pub rejected_next : (n : ℕ) (rejection : EpcWriteFault) (candidate : Candidate set level epc n) (field : Field) (why : Why)
+      → RejectedBefore n rejection → Rejects set level epc candidate field why → LastBefore (n + 1) field why
   rejected_next n rejection candidate field why before rejects = record {
     option = n;
     low = omega arith;
@@ -127,7 +130,8 @@ module _ (set : TableRows) (level : LevelName) (epc : Epc) where
       absurd (omega arith)
 
   -- the rejection of all options
-  pub rejected_all : (infos : List OptInfo) (n : ℕ) (rejection : EpcWriteFault) → infos ≡ (level_rows level set).info → length infos ≤ n → RejectedBefore n rejection → WritesAs set level epc (Err rejection)
+  pub rejected_all : (infos : List OptInfo) (n : ℕ) (rejection : EpcWriteFault) → infos ≡ (level_rows level set).info → length infos ≤ n
+      → RejectedBefore n rejection → WritesAs set level epc (Err rejection)
   rejected_all infos n NoOption rows past none = λ i candidate. nowhere i candidate
     where
       nowhere : (i : ℕ) → Candidate set level epc i → ⊥
@@ -157,11 +161,13 @@ module _ (set : TableRows) (level : LevelName) (epc : Epc) where
   rejected_all infos n Memory rows past h = tt
 
   -- a candidate that holds every field is the first
-  pub writes : (n : ℕ) (rejection : EpcWriteFault) (candidate : Candidate set level epc n) → RejectedBefore n rejection → HoldsAll set level epc candidate → Writes set level epc (text_by set level epc candidate)
+  pub writes : (n : ℕ) (rejection : EpcWriteFault) (candidate : Candidate set level epc n) → RejectedBefore n rejection
+      → HoldsAll set level epc candidate → Writes set level epc (text_by set level epc candidate)
   writes n rejection candidate before holds = record { option = n; candidate = candidate; holds = holds; first = none_holds n rejection before; text_is = refl }
 
   -- the rejection of all options leaves the bytes unchanged
-  pub appends_none : (before now : List ℕ) (rejection : EpcWriteFault) → now ≡ before → WritesAs set level epc (Err rejection) → AppendsAs set level epc before now (Err rejection)
+  pub appends_none : (before now : List ℕ) (rejection : EpcWriteFault) → now ≡ before → WritesAs set level epc (Err rejection)
+      → AppendsAs set level epc before now (Err rejection)
   appends_none before now NoOption same none = (same, none)
   appends_none before now (CannotHold field why) same none = (same, none)
   appends_none before now Memory same none = tt
@@ -172,7 +178,8 @@ module _ (set : TableRows) (level : LevelName) (epc : Epc) where
       let same : now ≡ h.0 = rw none at h.1 in
       rw (is, same) h.2
 
-  pub rejected_to_none : (before now : List ℕ) (rejection : EpcWriteFault) → AppendsAs set level epc before now (Err rejection) → WritesAs set level epc (Err rejection)
+  pub rejected_to_none : (before now : List ℕ) (rejection : EpcWriteFault) → AppendsAs set level epc before now (Err rejection)
+      → WritesAs set level epc (Err rejection)
   rejected_to_none before now NoOption h = h.1
   rejected_to_none before now (CannotHold field why) h = h.1
   rejected_to_none before now Memory h = tt
@@ -180,7 +187,8 @@ module _ (set : TableRows) (level : LevelName) (epc : Epc) where
   -- ---- the facts of an option
 
   -- an option that passes is a candidate
-  pub candidate_at : (infos : List OptInfo) (n : ℕ) (info : OptInfo) → IsShaped set → infos ≡ (level_rows level set).info → n < length infos → info ≡ get_or infos n info → true ≡ is_candidate level epc info → Candidate set level epc n
+  pub candidate_at : (infos : List OptInfo) (n : ℕ) (info : OptInfo) → IsShaped set → infos ≡ (level_rows level set).info → n < length infos
+      → info ≡ get_or infos n info → true ≡ is_candidate level epc info → Candidate set level epc n
   candidate_at infos n info shaped rows low read passes =
       let count = ap length rows in
       let many = as_many set level shaped in
@@ -188,7 +196,8 @@ module _ (set : TableRows) (level : LevelName) (epc : Epc) where
       record { items = item.0; info = info; of_level = item.1; said = rw rows at (read_at infos n info low read); passes = sym passes }
 
   -- an option that does not pass is not a candidate
-  pub no_candidate : (infos : List OptInfo) (n : ℕ) (info : OptInfo) → infos ≡ (level_rows level set).info → n < length infos → info ≡ get_or infos n info → false ≡ is_candidate level epc info → Candidate set level epc n → ⊥
+  pub no_candidate : (infos : List OptInfo) (n : ℕ) (info : OptInfo) → infos ≡ (level_rows level set).info → n < length infos
+      → info ≡ get_or infos n info → false ≡ is_candidate level epc info → Candidate set level epc n → ⊥
   no_candidate infos n info rows low read fails candidate =
       let said : slice_get infos n ≡ Some candidate.info = rw rows candidate.said in
       let both : Some info ≡ Some candidate.info = sym (read_at infos n info low read) ∙ said in

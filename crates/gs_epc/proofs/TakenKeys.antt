@@ -8,8 +8,7 @@ use Rattle.gs_ai.specs.declared.part.Part.TheVariants.{Zero, Num, NumCheck, NumO
 use Rattle.gs_ai.specs.declared.row.AiRow.{AiRow}
 use Rattle.gs_ai.specs.Tables.{is_empty}
 use Rattle.gs_ai.specs.Values.{has_code}
-use Rattle.gs_ai.proofs.Searches.{equal_bytes, same_bytes}
-use Rattle.gs_chars.proofs.TruthsAndLists.{and_parts, true_or_false}
+use Rattle.gs_chars.proofs.TruthsAndLists.{true_or_false, equal_bytes, same_bytes}
 use Rattle.gs_chars.specs.CheckDigits.{check_digit_of}
 use Rattle.gs_tables_document.specs.declared.document.Kind.{Kind}
 use Rattle.gs_tables_document.specs.declared.document.SerialAt.{SerialAt}
@@ -27,6 +26,7 @@ use Rattle.gs_epc.specs.KeptFields.{FitForm, FitKind, FitsFurther, FitsRoom}
 use Rattle.gs_epc.specs.Layout.{behind_check, key_digits, key_value, lay, parts_at, serial_elements, tail_of_key, with_check, KeyFields}
 use Rattle.gs_epc.specs.KeyParts.{piece_in, piece_length, prefix_in, rest_in, serial_in, tail_in, take_apart, total_in, total_length, unless_empty}
 use Rattle.gs_epc.proofs.LayoutValues.{have_digits}
+use Rattle.std.proofs.lemmas.Bool.{and_parts}
 
 -- ---- prefix and rest from the digits of a key
 
@@ -35,7 +35,8 @@ pub record AreBack (prefix rest prefix' rest' : List ℕ) : Type 0 where
   pub prefix_back : prefix' ≡ prefix
   pub rest_back : rest' ≡ rest
 
-from_digits : (lead n : ℕ) (prefix rest digits : List ℕ) → digits ≡ key_digits lead prefix rest → lead ≤ length rest → length prefix ≡ n → AreBack prefix rest (take n (drop lead digits)) (take lead digits ++ drop n (drop lead digits))
+from_digits : (lead n : ℕ) (prefix rest digits : List ℕ) → digits ≡ key_digits lead prefix rest → lead ≤ length rest → length prefix ≡ n
+    → AreBack prefix rest (take n (drop lead digits)) (take lead digits ++ drop n (drop lead digits))
 from_digits lead n prefix rest digits are within count =
     let first = take lead rest in
     let others = drop lead rest in
@@ -76,7 +77,8 @@ record FitDigits (k lead : ℕ) (prefix rest : List ℕ) : Type 0 where
   some : 1 ≤ k
   within : lead ≤ length rest
 
-fit_digits : (k : ℕ) (tail : Behind) (form : KeyForm) (lead : ℕ) (prefix rest : List ℕ) → Digits (k - 1) tail ≡ form → 1 ≤ length prefix → FitForm form lead prefix rest → FitDigits k lead prefix rest
+fit_digits : (k : ℕ) (tail : Behind) (form : KeyForm) (lead : ℕ) (prefix rest : List ℕ) → Digits (k - 1) tail ≡ form → 1 ≤ length prefix
+    → FitForm form lead prefix rest → FitDigits k lead prefix rest
 fit_digits k tail form lead prefix rest same some fits =
     let are = have_digits (k - 1) tail lead prefix rest some (subst (λ f. FitForm f lead prefix rest) (sym same) fits) in
     let one = are.some_digit in
@@ -107,7 +109,8 @@ record ArePiecesBack (further piece total others : List ℕ) : Type 0 where
   piece_back : take (piece_length further) others ≡ piece
   total_back : take (total_length further) (drop (piece_length further) others) ≡ total
 
-pieces_back : (further piece total tail others : List ℕ) → FitsFurther further piece total → others ≡ piece ++ (total ++ tail) → ArePiecesBack further piece total others
+pieces_back : (further piece total tail others : List ℕ) → FitsFurther further piece total → others ≡ piece ++ (total ++ tail)
+    → ArePiecesBack further piece total others
 pieces_back [] piece total tail others fits is = record { piece_back = sym fits.0; total_back = sym fits.1 }
 pieces_back (a ∷ []) piece total tail others fits is = absurd fits
 pieces_back (a ∷ b ∷ []) piece total tail others fits is =
@@ -119,31 +122,41 @@ pieces_back (a ∷ b ∷ []) piece total tail others fits is =
 pieces_back (a ∷ b ∷ c ∷ further) piece total tail others fits is = absurd fits
 
 -- the rest after the check digit is the tail, if there is one
-only_tail : (form : KeyForm) (kind : Kind) (fields : KeyFields) → kind.further ≡ further_of form → FitsFurther kind.further fields.piece fields.total → is_some (tail_of form) ≡ true → behind_check kind fields ≡ tail_of_key kind.serial fields.serial
+only_tail : (form : KeyForm) (kind : Kind) (fields : KeyFields) → kind.further ≡ further_of form
+    → FitsFurther kind.further fields.piece fields.total → is_some (tail_of form) ≡ true
+    → behind_check kind fields ≡ tail_of_key kind.serial fields.serial
 only_tail form kind fields of fits some =
     let none = subst (λ (lengths : List ℕ). FitsFurther lengths fields.piece fields.total) (of ∙ alone form some) fits in
     rw (none.0, none.1) refl
 
-taken_of : (parts : List Part) (form : KeyForm) (kind : Kind) (n : ℕ) (fields : KeyFields) → AreBack fields.prefix fields.rest (prefix_in parts kind.lead n (key_value parts kind fields)) (rest_in parts kind.lead n (key_value parts kind fields))
-    → tail_in parts (key_value parts kind fields) ≡ behind_check kind fields → kind.further ≡ further_of form → FitsFurther kind.further fields.piece fields.total → IsTakenBack parts form kind n fields
+taken_of : (parts : List Part) (form : KeyForm) (kind : Kind) (n : ℕ) (fields : KeyFields)
+    → AreBack fields.prefix fields.rest (prefix_in parts kind.lead n (key_value parts kind fields)) (rest_in parts kind.lead n (key_value parts kind fields))
+    → tail_in parts (key_value parts kind fields) ≡ behind_check kind fields → kind.further ≡ further_of form
+    → FitsFurther kind.further fields.piece fields.total → IsTakenBack parts form kind n fields
 taken_of parts form kind n fields back behind of further =
     let pieces = pieces_back kind.further fields.piece fields.total (tail_of_key kind.serial fields.serial) (tail_in parts (key_value parts kind fields)) further behind in
     record { back = back; piece_back = pieces.piece_back; total_back = pieces.total_back; tail = λ some. behind ∙ only_tail form kind fields of further some }
 
-key_back : (parts : List Part) (form : KeyForm) (kind : Kind) (n : ℕ) (fields : KeyFields) → key_form parts ≡ Some form → 1 ≤ length fields.prefix → length fields.prefix ≡ n → FitForm form kind.lead fields.prefix fields.rest
+key_back : (parts : List Part) (form : KeyForm) (kind : Kind) (n : ℕ) (fields : KeyFields) → key_form parts ≡ Some form
+    → 1 ≤ length fields.prefix → length fields.prefix ≡ n → FitForm form kind.lead fields.prefix fields.rest
     → kind.further ≡ further_of form → FitsFurther kind.further fields.piece fields.total → IsTakenBack parts form kind n fields
 key_back (Zero ∷ NumCheck k ∷ []) form kind n fields formed some count fits of further =
     let fit = fit_digits k Nothing form kind.lead fields.prefix fields.rest (let same : Digits (k - 1) Nothing ≡ form = cc in same) some fits in
     taken_of (Zero ∷ NumCheck k ∷ []) form kind n fields (digits_back k kind.lead n fields.prefix fields.rest (behind_check kind fields) fit count) (tail_back k kind.lead n fields.prefix fields.rest (behind_check kind fields) fit count) of further
 key_back (Zero ∷ NumCheck k ∷ SetOpt most ∷ []) form kind n fields formed some count fits of further =
     let fit = fit_digits k (BehindTail (room.Characters most)) form kind.lead fields.prefix fields.rest (let same : Digits (k - 1) (BehindTail (room.Characters most)) ≡ form = cc in same) some fits in
-    taken_of (Zero ∷ NumCheck k ∷ SetOpt most ∷ []) form kind n fields (digits_back k kind.lead n fields.prefix fields.rest (behind_check kind fields) fit count) (tail_back k kind.lead n fields.prefix fields.rest (behind_check kind fields) fit count) of further
+    taken_of (Zero ∷ NumCheck k ∷ SetOpt most ∷ []) form kind n fields
+    (digits_back k kind.lead n fields.prefix fields.rest (behind_check kind fields) fit count)
+    (tail_back k kind.lead n fields.prefix fields.rest (behind_check kind fields) fit count) of further
 key_back (Zero ∷ NumCheck k ∷ NumOpt most ∷ []) form kind n fields formed some count fits of further =
     let fit = fit_digits k (BehindTail (room.Digits most)) form kind.lead fields.prefix fields.rest (let same : Digits (k - 1) (BehindTail (room.Digits most)) ≡ form = cc in same) some fits in
-    taken_of (Zero ∷ NumCheck k ∷ NumOpt most ∷ []) form kind n fields (digits_back k kind.lead n fields.prefix fields.rest (behind_check kind fields) fit count) (tail_back k kind.lead n fields.prefix fields.rest (behind_check kind fields) fit count) of further
+    taken_of (Zero ∷ NumCheck k ∷ NumOpt most ∷ []) form kind n fields
+    (digits_back k kind.lead n fields.prefix fields.rest (behind_check kind fields) fit count)
+    (tail_back k kind.lead n fields.prefix fields.rest (behind_check kind fields) fit count) of further
 key_back (NumCheck k ∷ []) form kind n fields formed some count fits of further =
     let fit = fit_digits k Nothing form kind.lead fields.prefix fields.rest (let same : Digits (k - 1) Nothing ≡ form = cc in same) some fits in
-    taken_of (NumCheck k ∷ []) form kind n fields (digits_back k kind.lead n fields.prefix fields.rest (behind_check kind fields) fit count) (tail_back k kind.lead n fields.prefix fields.rest (behind_check kind fields) fit count) of further
+    taken_of (NumCheck k ∷ []) form kind n fields (digits_back k kind.lead n fields.prefix fields.rest (behind_check kind fields) fit count)
+    (tail_back k kind.lead n fields.prefix fields.rest (behind_check kind fields) fit count) of further
 key_back (NumCheck k ∷ SetOpt most ∷ []) form kind n fields formed some count fits of further =
     let fit = fit_digits k (BehindTail (room.Characters most)) form kind.lead fields.prefix fields.rest (let same : Digits (k - 1) (BehindTail (room.Characters most)) ≡ form = cc in same) some fits in
     taken_of (NumCheck k ∷ SetOpt most ∷ []) form kind n fields (digits_back k kind.lead n fields.prefix fields.rest (behind_check kind fields) fit count) (tail_back k kind.lead n fields.prefix fields.rest (behind_check kind fields) fit count) of further
@@ -152,7 +165,9 @@ key_back (NumCheck k ∷ NumOpt most ∷ []) form kind n fields formed some coun
     taken_of (NumCheck k ∷ NumOpt most ∷ []) form kind n fields (digits_back k kind.lead n fields.prefix fields.rest (behind_check kind fields) fit count) (tail_back k kind.lead n fields.prefix fields.rest (behind_check kind fields) fit count) of further
 key_back (NumCheck k ∷ Num a ∷ Num b ∷ []) form kind n fields formed some count fits of further =
     let fit = fit_digits k (Further a b) form kind.lead fields.prefix fields.rest (let same : Digits (k - 1) (Further a b) ≡ form = cc in same) some fits in
-    taken_of (NumCheck k ∷ Num a ∷ Num b ∷ []) form kind n fields (digits_back k kind.lead n fields.prefix fields.rest (behind_check kind fields) fit count) (tail_back k kind.lead n fields.prefix fields.rest (behind_check kind fields) fit count) of further
+    taken_of (NumCheck k ∷ Num a ∷ Num b ∷ []) form kind n fields
+    (digits_back k kind.lead n fields.prefix fields.rest (behind_check kind fields) fit count)
+    (tail_back k kind.lead n fields.prefix fields.rest (behind_check kind fields) fit count) of further
 key_back (Set most ∷ []) form kind n fields formed some count fits of further =
     let same : form ≡ Characters most = cc in
     let none = subst (λ (lengths : List ℕ). FitsFurther lengths fields.piece fields.total) (of ∙ ap further_of same) further in
@@ -177,7 +192,9 @@ some_room (Some (room.Characters most)) serial some fits = some_text serial fits
 some_room (Some (room.Digits most)) serial some fits = some_text serial fits.least
 
 -- the text for none is the serial, if the serial means none
-none_is : (row : Option AiRow) (serial : List ℕ) → option_map_or (λ (r : AiRow). not (is_empty r.none) && bytes_eq r.none serial) row false ≡ true → unless_empty (option_map_or (λ (r : AiRow). r.none) row []) ≡ Some serial
+none_is : (row : Option AiRow) (serial : List ℕ)
+    → option_map_or (λ (r : AiRow). not (is_empty r.none) && bytes_eq r.none serial) row false ≡ true
+    → unless_empty (option_map_or (λ (r : AiRow). r.none) row []) ≡ Some serial
 none_is None serial h = absurd (let e : false ≡ true = h in cc)
 none_is (Some row) serial h =
     let parts = and_parts (not (is_empty row.none)) (bytes_eq row.none serial) h in
@@ -187,8 +204,10 @@ none_is (Some row) serial h =
     filled [] e = absurd (let f : false ≡ true = e in cc)
     filled (c ∷ text) e = refl
 
-serial_back : (ais : List AiRow) (row : AiRow) (parts : List Part) (form : KeyForm) (at : SerialAt) (key : Pair) (serial : List ℕ) → is_serial_of ais row form at ≡ true → FitsRoom (serial_room ais form at) serial
-    → (is_some (tail_of form) ≡ true → tail_in parts key.value ≡ tail_of_key at serial) → serial_in ais parts at (record { key = key; qualifiers = serial_elements ais at serial; attributes = [] }) ≡ Some serial
+serial_back : (ais : List AiRow) (row : AiRow) (parts : List Part) (form : KeyForm) (at : SerialAt) (key : Pair) (serial : List ℕ)
+    → is_serial_of ais row form at ≡ true → FitsRoom (serial_room ais form at) serial
+    → (is_some (tail_of form) ≡ true → tail_in parts key.value ≡ tail_of_key at serial)
+    → serial_in ais parts at (record { key = key; qualifiers = serial_elements ais at serial; attributes = [] }) ≡ Some serial
 serial_back ais row parts form Nowhere key serial rule room tail = let none : serial ≡ [] = room in rw none refl
 serial_back ais row parts form Tail key serial rule room tail = rw (tail rule) (some_room (tail_of form) serial rule room)
 serial_back ais row parts form (Ai code) key serial rule room tail = elim (true_or_false (stands_for_none ais (record { code = code; value = serial }))) [
@@ -198,7 +217,8 @@ serial_back ais row parts form (Ai code) key serial rule room tail = elim (true_
 
 -- ---- the fields
 
-pub taken_back : (ais : List AiRow) (kind : Kind) (n : ℕ) (fields : KeyFields) → FitKind ais kind fields → length fields.prefix ≡ n → take_apart ais kind (lay ais kind fields) n ≡ Some fields
+pub taken_back : (ais : List AiRow) (kind : Kind) (n : ℕ) (fields : KeyFields) → FitKind ais kind fields → length fields.prefix ≡ n
+    → take_apart ais kind (lay ais kind fields) n ≡ Some fields
 taken_back ais kind n fields fit count =
     let of_kind = fit.of_kind in
     let row = of_kind.row in

@@ -1,6 +1,5 @@
 -- Taking apart undoes laying out, for an EPC of the set.
 use Rattle.std.proofs.Common.{◌≡◌, [], length, Some, None, refl, sym, ◌∙◌}
-use Rattle.gs_chars.proofs.TruthsAndLists.{and_parts}
 use Rattle.gs_tables_document.specs.declared.document.Field.TheVariants.{Gcp}
 use Rattle.gs_tables_document.specs.Documents.{is_bits}
 use Rattle.gs_ident.specs.Elements.{Elements}
@@ -14,6 +13,7 @@ use Rattle.gs_epc.specs.KeyParts.{epc_at}
 use Rattle.gs_epc.proofs.KeptFields.{AreHeld, digits_of}
 use Rattle.gs_epc.proofs.KeptLaws.{fit_kind}
 use Rattle.gs_epc.proofs.TakenKeys.{taken_back}
+use Rattle.std.proofs.lemmas.Bool.{and_parts}
 
 -- the prefix of an EPC of the set has its length
 prefix_count : (set : TableRows) (epc : Epc) → IsShaped set → IsOfSet set epc → length epc.prefix ≡ epc.gcp
@@ -26,7 +26,8 @@ prefix_count set epc shaped of_set =
     let count = (digits_of bits Gcp kept.parts of_set.values of_set.words of_set.info.gcp held one).0 in
     rw (of_set.fields, kept.fields_are) count
 
-pub apart : (set : TableRows) (epc : Epc) (identity : Elements) → IsShaped set → IsOfSet set epc → IsLaidOut set epc identity → epc_at set epc.kind identity epc.gcp ≡ Some (record epc { encoding = []; filter = None })
+pub apart : (set : TableRows) (epc : Epc) (identity : Elements) → IsShaped set → IsOfSet set epc → IsLaidOut set epc identity
+    → epc_at set epc.kind identity epc.gcp ≡ Some (record epc { encoding = []; filter = None })
 apart set epc identity shaped of_set laid =
     let fit = fit_kind set epc shaped of_set in
     let both : Some fit.0 ≡ Some laid.kind = sym fit.1 ∙ laid.named in

@@ -12,7 +12,8 @@ use Rattle.gs_epc.specs.FieldTexts.{filter_number, texts_of, with_text}
 use Rattle.gs_epc.specs.Filters.{IsFilter}
 
 -- the first item counts
-first_item : (info : OptInfo) (field : Option Field) (value : List ℕ) (fields : List (Option Field)) (values : List (List ℕ)) → texts_of info (field ∷ fields) (value ∷ values) ≡ with_text field value (texts_of info fields values)
+first_item : (info : OptInfo) (field : Option Field) (value : List ℕ) (fields : List (Option Field)) (values : List (List ℕ))
+    → texts_of info (field ∷ fields) (value ∷ values) ≡ with_text field value (texts_of info fields values)
 first_item info (Some Filter) value fields values = refl
 first_item info (Some Gcp) value fields values = refl
 first_item info (Some Rest) value fields values = refl
@@ -26,7 +27,8 @@ no_values info [] = refl
 no_values info (field ∷ fields) = refl
 
 -- after the last item that has a value there are none
-pub texts_past : (info : OptInfo) (fields : List (Option Field)) (values : List (List ℕ)) (place : ℕ) → place ≡ min (length fields) (length values) → texts_of info [] [] ≡ texts_of info (drop place fields) (drop place values)
+pub texts_past : (info : OptInfo) (fields : List (Option Field)) (values : List (List ℕ)) (place : ℕ)
+    → place ≡ min (length fields) (length values) → texts_of info [] [] ≡ texts_of info (drop place fields) (drop place values)
 texts_past info fields values place e = elim (leb_tells (length fields) (length values)) [
   | inl short ↦
       let past : length fields ≤ place = omega arith in
@@ -42,5 +44,6 @@ number_told None is = refl
 number_told (Some value) is = rw is.text (ap Some (omega arith))
 
 -- all items give the EPC
-pub epc_told : (info : OptInfo) (values : List (List ℕ)) → IfSome (value_at Filter info.fields values) IsFilter → texts_of info info.fields values ≡ epc_of info values
+pub epc_told : (info : OptInfo) (values : List (List ℕ)) → IfSome (value_at Filter info.fields values) IsFilter
+    → texts_of info info.fields values ≡ epc_of info values
 epc_told info values is = rw (number_told (value_at Filter info.fields values) is) refl

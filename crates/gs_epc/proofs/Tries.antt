@@ -5,7 +5,7 @@ use Rattle.std.proofs.lemmas.Bool.Decides.{nat_tests}
 use Rattle.std.proofs.lemmas.List.{length-map, take_at}
 use Rattle.std.proofs.lemmas.Option.{slice_get-map, slice_get_within}
 use Rattle.gs_ai.specs.Tables.{is_empty}
-use Rattle.gs_chars.proofs.TruthsAndLists.{and_parts, read_at}
+use Rattle.gs_chars.proofs.TruthsAndLists.{read_at}
 use Rattle.gs_tables_document.specs.declared.document.Field.{Field}
 use Rattle.gs_tables_document.specs.declared.document.Field.TheVariants.{Filter}
 use Rattle.gs_tables_document.specs.declared.document.LevelName.{LevelName}
@@ -26,10 +26,12 @@ use Rattle.gs_tables.proofs.KeptSets.{options_kept}
 use Rattle.gs_epc.specs.declared.epc.Epc.{Epc}
 use Rattle.gs_epc.specs.Candidates.{Candidate, left_out, value_for, values_for}
 use Rattle.gs_epc.specs.Writes.{field_at, HoldsAll, Rejects, text_by, text_on}
+use Rattle.std.proofs.lemmas.Bool.{and_parts}
 
 -- ---- the consequences of the rules for a candidate
 
-pub candidate_kept : (set : TableRows) (level : LevelName) (epc : Epc) (i : ℕ) (candidate : Candidate set level epc i) → IsShaped set → KeptOption set level candidate.items candidate.info
+pub candidate_kept : (set : TableRows) (level : LevelName) (epc : Epc) (i : ℕ) (candidate : Candidate set level epc i) → IsShaped set
+    → KeptOption set level candidate.items candidate.info
 candidate_kept set level epc i candidate shaped = options_kept set level shaped i candidate.items candidate.info candidate.of_level candidate.said
 
 -- as many fields as items
@@ -57,7 +59,9 @@ level_bits set Tag shaped = rw shaped.made refl
 level_bits set Pure shaped = rw shaped.made refl
 
 -- an option has the symbols of its level
-pub of_level : (set : TableRows) (level : LevelName) (form : LevelForm) (options : List OptionForm) (option : OptionForm) (i : ℕ) → IsShaped set → form ≡ (level_rows level set).level → AreOfKind form.bit_level form.options → options ≡ form.options → i < length options → option ≡ get_or options i option → option.bit_level ≡ is_bits level
+pub of_level : (set : TableRows) (level : LevelName) (form : LevelForm) (options : List OptionForm) (option : OptionForm) (i : ℕ)
+    → IsShaped set → form ≡ (level_rows level set).level → AreOfKind form.bit_level form.options → options ≡ form.options
+    → i < length options → option ≡ get_or options i option → option.bit_level ≡ is_bits level
 of_level set level form options option i shaped same kinds rows low read =
     let all : AreOfKind form.bit_level options = rw rows kinds in
     let kind : (get_or options i option).bit_level ≡ form.bit_level = all i option low in
@@ -72,12 +76,14 @@ cut_back before now cut text start size appended is = is ∙ rw appended (take_a
 -- ---- the facts of a candidate
 
 -- the option, its fields and their values are the candidate's
-pub record IsRead (set : TableRows) (level : LevelName) (epc : Epc) (i : ℕ) (candidate : Candidate set level epc i) (option : OptionForm) (fields : List (Option Field)) (values : List (List ℕ)) : Type 0 where
+pub record IsRead (set : TableRows) (level : LevelName) (epc : Epc) (i : ℕ) (candidate : Candidate set level epc i) (option : OptionForm)
+    (fields : List (Option Field)) (values : List (List ℕ)) : Type 0 where
   pub items_are : option.items ≡ candidate.items
   pub fields_are : fields ≡ candidate.info.fields
   pub values_are : values ≡ values_for level epc candidate.info
 
-option_read : (set : TableRows) (level : LevelName) (epc : Epc) (i : ℕ) (candidate : Candidate set level epc i) (form : LevelForm) (options : List OptionForm) (option : OptionForm) → form ≡ (level_rows level set).level → options ≡ form.options → option ≡ get_or options i option → option.items ≡ candidate.items
+option_read : (set : TableRows) (level : LevelName) (epc : Epc) (i : ℕ) (candidate : Candidate set level epc i) (form : LevelForm) (options : List OptionForm) (option : OptionForm)
+    → form ≡ (level_rows level set).level → options ≡ form.options → option ≡ get_or options i option → option.items ≡ candidate.items
 option_read set level epc i candidate form options option same rows read =
     let lists : slice_get (map (λ (o : OptionForm). o.items) options) i ≡ Some candidate.items = rw (rows, same) candidate.of_level in
     let within = slice_get_within (map (λ (o : OptionForm). o.items) options) i candidate.items lists in
@@ -88,17 +94,20 @@ option_read set level epc i candidate form options option same rows read =
     cc
 
 -- the level has as many options as facts
-pub option_low : (set : TableRows) (level : LevelName) (epc : Epc) (i : ℕ) (candidate : Candidate set level epc i) (form : LevelForm) (options : List OptionForm) → form ≡ (level_rows level set).level → options ≡ form.options → i < length options
+pub option_low : (set : TableRows) (level : LevelName) (epc : Epc) (i : ℕ) (candidate : Candidate set level epc i) (form : LevelForm) (options : List OptionForm)
+    → form ≡ (level_rows level set).level → options ≡ form.options → i < length options
 option_low set level epc i candidate form options same rows =
     let lists : slice_get (map (λ (o : OptionForm). o.items) options) i ≡ Some candidate.items = rw (rows, same) candidate.of_level in
     let within = slice_get_within (map (λ (o : OptionForm). o.items) options) i candidate.items lists in
     let count = length-map options (λ (o : OptionForm). o.items) in
     omega arith
 
-pub info_low : (set : TableRows) (level : LevelName) (epc : Epc) (i : ℕ) (candidate : Candidate set level epc i) (infos : List OptInfo) → infos ≡ (level_rows level set).info → i < length infos
+pub info_low : (set : TableRows) (level : LevelName) (epc : Epc) (i : ℕ) (candidate : Candidate set level epc i) (infos : List OptInfo)
+    → infos ≡ (level_rows level set).info → i < length infos
 info_low set level epc i candidate infos rows = slice_get_within infos i candidate.info (rw rows candidate.said)
 
-info_read : (set : TableRows) (level : LevelName) (epc : Epc) (i : ℕ) (candidate : Candidate set level epc i) (infos : List OptInfo) (info : OptInfo) → infos ≡ (level_rows level set).info → info ≡ get_or infos i info → info ≡ candidate.info
+info_read : (set : TableRows) (level : LevelName) (epc : Epc) (i : ℕ) (candidate : Candidate set level epc i) (infos : List OptInfo) (info : OptInfo)
+    → infos ≡ (level_rows level set).info → info ≡ get_or infos i info → info ≡ candidate.info
 info_read set level epc i candidate infos info rows read =
     let said : slice_get infos i ≡ Some candidate.info = rw rows candidate.said in
     let within = slice_get_within infos i candidate.info said in
@@ -107,7 +116,9 @@ info_read set level epc i candidate infos info rows read =
     cc
 
 pub is_read : (set : TableRows) (level : LevelName) (epc : Epc) (i : ℕ) (candidate : Candidate set level epc i) (form : LevelForm) (options : List OptionForm) (option : OptionForm) (infos : List OptInfo) (info : OptInfo) (fields : List (Option Field)) (values given : List (List ℕ))
-    → form ≡ (level_rows level set).level → options ≡ form.options → option ≡ get_or options i option → infos ≡ (level_rows level set).info → info ≡ get_or infos i info → fields ≡ (get_or infos i info).fields → values ≡ map (value_for level epc) fields → given ≡ values → IsRead set level epc i candidate option fields given
+    → form ≡ (level_rows level set).level → options ≡ form.options → option ≡ get_or options i option → infos ≡ (level_rows level set).info
+    → info ≡ get_or infos i info → fields ≡ (get_or infos i info).fields → values ≡ map (value_for level epc) fields → given ≡ values
+    → IsRead set level epc i candidate option fields given
 is_read set level epc i candidate form options option infos info fields values given same rows read said at of made passed =
     let info_is = info_read set level epc i candidate infos info said at in
     let fields_are : fields ≡ candidate.info.fields = of ∙ ap (λ (x : OptInfo). x.fields) (sym at ∙ info_is) in
@@ -117,7 +128,8 @@ is_read set level epc i candidate form options option infos info fields values g
       values_are = passed ∙ made ∙ ap (map (value_for level epc)) fields_are;
     }
 
-module _ (set : TableRows) (level : LevelName) (epc : Epc) (i : ℕ) (candidate : Candidate set level epc i) (option : OptionForm) (fields : List (Option Field)) (values : List (List ℕ)) (is : IsRead set level epc i candidate option fields values) where
+module _ (set : TableRows) (level : LevelName) (epc : Epc) (i : ℕ) (candidate : Candidate set level epc i) (option : OptionForm)
+    (fields : List (Option Field)) (values : List (List ℕ)) (is : IsRead set level epc i candidate option fields values) where
   -- one value for each item
   pub one_each : IsShaped set → length values ≡ length option.items
   one_each shaped =
@@ -142,6 +154,7 @@ module _ (set : TableRows) (level : LevelName) (epc : Epc) (i : ℕ) (candidate 
   holds_all before now held none wrote =
       (record { held = held_here held; whole = sym (rw is.fields_are at none) }, rw (is.items_are, is.values_are) at wrote)
 
-  pub rejects_at : (field : Field) (k : ℕ) (why : Why) → IsFirstRejection option.items values k why → field ≡ field_at fields k → Rejects set level epc candidate field why
+  pub rejects_at : (field : Field) (k : ℕ) (why : Why) → IsFirstRejection option.items values k why → field ≡ field_at fields k
+      → Rejects set level epc candidate field why
   rejects_at field k why first named =
       inl (record { k = k; first = rw (is.items_are, is.values_are) at first; stands_for = rw is.fields_are at named })

@@ -2,7 +2,6 @@
 use Rattle.std.proofs.Common.{◌≡◌, ℕ, ◌+◌, ◌-◌, ◌*◌, ◌%◌, ◌≤◌, Bool, true, false, not, List, [], ◌∷◌, ◌++◌, length, position, replicate, None, refl, ap, ◌∙◌, arith, length-append}
 use Rattle.std.specs.List.{flat_map}
 use Rattle.std.proofs.lemmas.List.{length-replicate}
-use Rattle.gs_ai.proofs.Searches.{cons_none}
 use Rattle.gs_bits.specs.Bits.{bits_of}
 use Rattle.gs_bits.specs.BitLaws.{length-bits_of}
 use Rattle.gs_grammar.specs.declared.item.Item.{Item}
@@ -12,11 +11,13 @@ use Rattle.gs_grammar.specs.Words.{decimal_value, written_word}
 use Rattle.gs_grammar.specs.WrittenWords.{AreHeld, why_not, written}
 use Rattle.gs_grammar.proofs.HoldLemmas.{packed_length}
 use Rattle.gs_grammar.proofs.WritingLemmas.{ascii_held, shift}
+use Rattle.gs_chars.proofs.Searches.{cons_none}
 
 zeros_count : (n : ℕ) → length (replicate {A = ℕ} n 0) ≡ n
 zeros_count n = length-replicate {A = ℕ} n 0
 
-packed_count : (bits : ℕ) (value : List ℕ) → 7 * length value ≤ bits → length (flat_map (bits_of 7) value ++ replicate {A = ℕ} (bits - 7 * length value) 0) ≡ bits
+packed_count : (bits : ℕ) (value : List ℕ) → 7 * length value ≤ bits → length
+    (flat_map (bits_of 7) value ++ replicate {A = ℕ} (bits - 7 * length value) 0) ≡ bits
 packed_count bits value room =
     let whole : length (flat_map (bits_of 7) value ++ replicate {A = ℕ} (bits - 7 * length value) 0) ≡ length (flat_map (bits_of 7) value) + length (replicate {A = ℕ} (bits - 7 * length value) 0) = length-append (flat_map (bits_of 7) value) (replicate {A = ℕ} (bits - 7 * length value) 0) in
     let first = packed_length value in
@@ -42,7 +43,8 @@ in_bounds item h = kept (is_in_bounds true item) h
     kept true e = refl
     kept false e = absurd (let f : true ≡ false = e in cc)
 
-pub written_count : (items : List Item) (values : List (List ℕ)) → position (is_bad true) items ≡ None → length values ≡ length items → AreHeld items values → length (written items values) ≡ size_of_all items
+pub written_count : (items : List Item) (values : List (List ℕ)) → position (is_bad true) items ≡ None → length values ≡ length items
+    → AreHeld items values → length (written items values) ≡ size_of_all items
 written_count [] values good one_each held = refl
 written_count (item ∷ items) [] good one_each held = absurd (omega arith)
 written_count (item ∷ items) (value ∷ values) good one_each held =
@@ -53,7 +55,9 @@ written_count (item ∷ items) (value ∷ values) good one_each held =
     omega arith
 
 -- whole bytes are written if the items are whole bytes
-pub whole_bytes : (bits : Bool) (items : List Item) (values : List (List ℕ)) (first out : List ℕ) → bits ≡ true → position (is_bad bits) items ≡ None → length values ≡ length items → AreHeld items values → size_of_all items % 8 ≡ 0 → first ≡ [] → out ≡ first ++ written items values → length out % 8 ≡ 0
+pub whole_bytes : (bits : Bool) (items : List Item) (values : List (List ℕ)) (first out : List ℕ) → bits ≡ true
+    → position (is_bad bits) items ≡ None → length values ≡ length items → AreHeld items values → size_of_all items % 8 ≡ 0 → first ≡ []
+    → out ≡ first ++ written items values → length out % 8 ≡ 0
 whole_bytes bits items values first out is good one_each held whole none made =
     let same : out ≡ written items values = rw none at made in
     let count : length out ≡ size_of_all items = ap length same ∙ written_count items values (rw is at good) one_each held in

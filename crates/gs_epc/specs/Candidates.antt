@@ -17,19 +17,19 @@ use Rattle.gs_epc.specs.Epcs.{options_of}
 
 -- ---- candidates
 
--- trusted, own: holds if the name of an encoding is the requested one: any if none is requested, and on the level of pure
+-- trusted, own: holds if the name of an encoding is the requested one: any if `asked` is empty, or on the level of pure
 -- identities
 abbrev pub is_asked : LevelName → List ℕ → List ℕ → Bool
 is_asked Pure asked name = true
 is_asked Tag asked name = is_empty asked || bytes_eq asked name
 is_asked Binary asked name = is_empty asked || bytes_eq asked name
 
--- trusted, own: holds if an option has the EPC's kind and company prefix length, and the requested encoding
+-- trusted, own: holds if the option `info` has the kind and the company prefix length of `epc`, and the requested encoding
 abbrev pub is_candidate : LevelName → Epc → OptInfo → Bool
 is_candidate level epc info =
     (info.kind == epc.kind) && (info.gcp == epc.gcp) && is_asked level epc.encoding info.encoding
 
--- trusted, TDT 2.0, section 3: option i of the level is a candidate
+-- trusted, TDT 2.0, section 3: holds if option `i` of `level` is a candidate
 pub record Candidate (set : TableRows) (level : LevelName) (epc : Epc) (i : ℕ) : Type 0 where
   pub items : List Item
   pub info : OptInfo
@@ -45,12 +45,12 @@ filter_on Pure filter = None
 filter_on Tag filter = filter
 filter_on Binary filter = filter
 
--- trusted, own: a tag has a filter value, of 0 to 7
+-- trusted, own: holds if there is a filter value, of 0 to 7
 abbrev pub HasFilter : Option ℕ → Type 0
 HasFilter None = ⊥
 HasFilter (Some filter) = filter ≤ 7
 
--- trusted, own: holds if there is a filter value, on the levels of tags
+-- trusted, own: holds if the level is that of pure identities, or there is a filter value, of 0 to 7
 abbrev pub HasFilterOn : LevelName → Option ℕ → Type 0
 HasFilterOn Pure filter = Unit {0}
 HasFilterOn Tag filter = HasFilter filter
@@ -74,7 +74,7 @@ value_for level epc (Some Serial) = epc.serial
 abbrev pub values_for : LevelName → Epc → OptInfo → List (List ℕ)
 values_for level epc info = map (value_for level epc) info.fields
 
--- trusted, own: a text is left out: it is not empty, and no item stands for its field
+-- trusted, own: holds if `text` is left out: it is not empty, and no item stands for `field`
 abbrev pub is_left_out : Field → List (Option Field) → List ℕ → Bool
 is_left_out field fields text = not (list_any (is_field field) fields) && not (is_empty text)
 

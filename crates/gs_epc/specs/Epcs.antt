@@ -46,7 +46,7 @@ epc_of info values = record {
 abbrev pub options_of : LevelName → TableRows → List (List Item)
 options_of level set = item_lists (level_rows level set).level.options
 
--- trusted, TDT 2.0, section 3: The EPC is of the set: an option of a level says it by values that its items hold.
+-- trusted, TDT 2.0, section 3: holds if an option of a level of `set` says `epc` by values that its items hold
 pub record IsOfSet (set : TableRows) (epc : Epc) : Type 0 where
   pub level : LevelName
   pub option : ℕ

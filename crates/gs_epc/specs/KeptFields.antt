@@ -1,4 +1,4 @@
--- The consequence of the rules of tables for an EPC of the set: its fields have the lengths and characters of the key of its
+-- The consequence of the rules of tables for an EPC of the set. Its fields have the lengths and characters of the key of its
 -- kind.
 use Rattle.std.specs.Prelude.{◌≡◌, ◌≤◌, ◌-◌, ℕ, List, [], ◌∷◌, length, Option, Some, None, IsTrue}
 use Rattle.gs_chars.specs.Characters.{are_digits, are_in_set82}
@@ -12,35 +12,35 @@ use Rattle.gs_epc.specs.Layout.{KeyFields}
 use Rattle.gs_tables.specs.Forms.{serial_room}
 use Rattle.gs_tables.specs.KeptRules.{KeptKind}
 
--- at least one and at most that many characters of the set of 82
+-- holds if `text` is from 1 to `most` characters of the set of 82
 pub record AreCharacters (most : ℕ) (text : List ℕ) : Type 0 where
   pub least : 1 ≤ length text
   pub room : length text ≤ most
   pub characters : IsTrue (are_in_set82 text)
 
--- at least one and at most that many digits
+-- holds if this is at least one and at most that many digits
 pub record AreNumbers (most : ℕ) (text : List ℕ) : Type 0 where
   pub least : 1 ≤ length text
   pub room : length text ≤ most
   pub digits : IsTrue (are_digits text)
 
--- exactly that many digits
+-- holds if this is exactly that many digits
 abbrev pub HasDigits : ℕ → List ℕ → Type 0
 HasDigits n text = (length text ≡ n) × IsTrue (are_digits text)
 
--- prefix and rest fit the key: digits, with the lead digits that belong to the rest; or characters
+-- holds if prefix and rest fit the key: digits, with the lead digits that belong to the rest; or characters
 abbrev pub FitForm : KeyForm → ℕ → List ℕ → List ℕ → Type 0
 FitForm (Digits digits _) lead prefix rest =
     (length prefix ≤ digits - lead) × (length rest ≡ digits - length prefix) × IsTrue (are_digits prefix) × IsTrue (are_digits rest)
 FitForm (Characters most) lead prefix rest = IsTrue (are_digits prefix) × AreCharacters (most - length prefix) rest
 
--- the serial has room, and is empty if the kind has none
+-- holds if the serial has room, and is empty if the kind has none
 abbrev pub FitsRoom : Option Room → List ℕ → Type 0
 FitsRoom None serial = serial ≡ []
 FitsRoom (Some (room.Characters most)) serial = AreCharacters most serial
 FitsRoom (Some (room.Digits most)) serial = AreNumbers most serial
 
--- the piece and the total have that many digits, and are empty if the kind has none
+-- holds if the piece and the total have that many digits, and are empty if the kind has none
 abbrev pub FitsFurther : List ℕ → List ℕ → List ℕ → Type 0
 FitsFurther [] piece total = (piece ≡ []) × (total ≡ [])
 FitsFurther (a ∷ b ∷ []) piece total = HasDigits a piece × HasDigits b total

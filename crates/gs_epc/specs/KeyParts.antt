@@ -48,18 +48,18 @@ abbrev pub rest_in : List Part → ℕ → ℕ → List ℕ → List ℕ
 rest_in (Set _ ∷ []) lead n value = drop n value
 rest_in parts lead n value = take lead (digits_in parts value) ++ drop n (drop lead (digits_in parts value))
 
--- trusted, own: the value of a key of the kind of this index from the company prefix on: the rest after a leading zero and the
--- lead digits
+-- trusted, own: the value of a key, by the kind of this index, from the company prefix on: after a leading zero and the lead
+-- digits
 abbrev pub value_from_prefix : TableRows → ℕ → List ℕ → List ℕ
 value_from_prefix set kind value =
     option_map_or (λ (row : Kind). drop row.lead (behind_zero (parts_at set.ais row.key) value)) (slice_get set.kinds kind) []
 
--- trusted, own: how many digits the piece has, by the two lengths of a kind, and 0 if it has none
+-- trusted, own: the number of digits of the piece, by the two lengths of a kind, and 0 if it has none
 abbrev pub piece_length : List ℕ → ℕ
 piece_length (a ∷ _) = a
 piece_length [] = 0
 
--- trusted, own: how many digits the total has, by the two lengths of a kind, and 0 if it has none
+-- trusted, own: the number of digits of the total, by the two lengths of a kind, and 0 if it has none
 abbrev pub total_length : List ℕ → ℕ
 total_length (_ ∷ b ∷ _) = b
 total_length _ = 0
@@ -110,7 +110,7 @@ take_apart ais kind identity n =
     option_map (fields_at (parts_at ais kind.key) kind n identity.key.value)
     (serial_in ais (parts_at ais kind.key) kind.serial identity)
 
--- trusted, own: an EPC of these fields, without the encoding and the filter of a tag
+-- trusted, own: the EPC of `fields`, without the encoding and the filter of a tag
 abbrev pub epc_of_key : ℕ → ℕ → KeyFields → Epc
 epc_of_key kind n fields =
     record {
@@ -131,7 +131,7 @@ epc_at set kind identity n =
     option_and_then (λ (row : Kind). option_map (epc_of_key kind n) (take_apart set.ais row identity n))
     (slice_get set.kinds kind)
 
--- trusted, TDS 2.0, section 7: holds if an identity has only the key of a kind and its serial
+-- trusted, TDS 2.0, section 7: holds if `identity` has only the key of `kind` and its serial
 pub record IsOfKind (kind : Kind) (identity : Elements) : Type 0 where
   pub key : identity.key.code ≡ kind.key
   pub qualifiers : (i : ℕ) (pair : Pair) → slice_get identity.qualifiers i ≡ Some pair → kind.serial ≡ Ai pair.code

@@ -17,8 +17,8 @@ use Rattle.gs_tables_document.specs.declared.document.SerialAt.TheVariants.{Nowh
 use Rattle.gs_tables.specs.Tables.{TableRows}
 use Rattle.gs_epc.specs.declared.epc.Epc.{Epc}
 
--- trusted, own: the fields of a key by its kind: the company prefix, the rest, the piece and the total, which are empty if the
--- kind has none, and the serial
+-- trusted, own: The fields of a key by its kind: the company prefix, the rest, the piece and the total, and the serial. Piece
+-- and total are empty if the kind has none.
 pub record KeyFields : Type 0 where
   pub prefix : List ℕ
   pub rest : List ℕ
@@ -45,16 +45,16 @@ abbrev pub zero_in_front : List Part → List ℕ
 zero_in_front (Zero ∷ _) = codes "0"
 zero_in_front _ = []
 
--- trusted, own: The digits of the key without its check digit: the indicator digit of a GTIN or the extension digit of an SSCC,
--- the company prefix, and the other digits of the reference.
+-- trusted, own: The digits of the key without its check digit. They are the indicator digit of a GTIN or the extension digit of
+-- an SSCC, the company prefix, and the other digits of the reference.
 abbrev pub key_digits : ℕ → List ℕ → List ℕ → List ℕ
 key_digits lead prefix rest = take lead rest ++ prefix ++ drop lead rest
 
--- trusted, own: digits and their check digit
+-- trusted, own: the digits and their check digit
 abbrev pub with_check : List ℕ → List ℕ
 with_check digits = digits ++ check_digit_of digits ∷ []
 
--- trusted, own: the digits of a key are 1 to 18, and the lead digits are in the rest
+-- trusted, own: holds if the digits of a key are 1 to 18, and the `lead` digits are in `rest`
 pub record AreKeyDigits (lead : ℕ) (prefix rest : List ℕ) : Type 0 where
   pub lead_within : lead ≤ length rest
   pub least : 1 ≤ length (key_digits lead prefix rest)
@@ -100,7 +100,7 @@ lay ais kind fields = record {
   attributes = [];
 }
 
--- trusted, TDS 2.0, section 7: the identity is the layout of the fields of an EPC, by the kind that it names
+-- trusted, TDS 2.0, section 7: holds if `identity` is the layout of the fields of `epc`, by the kind that it names
 pub record IsLaidOut (set : TableRows) (epc : Epc) (identity : Elements) : Type 0 where
   pub kind : Kind
   pub named : slice_get set.kinds epc.kind ≡ Some kind

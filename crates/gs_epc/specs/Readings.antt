@@ -14,7 +14,7 @@ use Rattle.gs_epc.specs.declared.error.EpcFault.{EpcFault}
 use Rattle.gs_epc.specs.declared.error.EpcFault.TheVariants.{Hex, NoReading, Memory}
 use Rattle.gs_epc.specs.Epcs.{epc_of, options_of}
 
--- trusted, TDT 2.0, section 3: the symbols have one derivation in a level, whose option and values say this
+-- trusted, TDT 2.0, section 3: holds if `symbols` have one derivation in `level`, whose option and values say `epc`
 pub record Says (set : TableRows) (level : LevelName) (symbols : List ℕ) (epc : Epc) : Type 0 where
   pub option : ℕ
   pub values : List (List ℕ)
@@ -23,7 +23,7 @@ pub record Says (set : TableRows) (level : LevelName) (symbols : List ℕ) (epc 
   pub said : slice_get (level_rows level set).info option ≡ Some info
   pub fields : epc ≡ epc_of info values
 
--- trusted, TDS 2.0, sections 6, 12 and 14: Holds if the result is the EPC of the one derivation of these symbols of a level, or
+-- trusted, TDS 2.0, sections 6, 12 and 14: Holds if the result is the EPC of the one derivation of `symbols` in `level`, or
 -- that there is none. `Memory` may be returned instead.
 abbrev pub ReadsAs : TableRows → LevelName → List ℕ → Result Epc EpcFault → Type 0
 ReadsAs set level symbols (Ok epc) = Says set level symbols epc
@@ -31,13 +31,13 @@ ReadsAs set level symbols (Err NoReading) = Derivation (options_of level set) sy
 ReadsAs set level symbols (Err Memory) = Unit {0}
 ReadsAs set level symbols (Err (Hex error)) = ⊥
 
--- trusted, own: why a text is not a hexadecimal text of at most 128 digits: the first reason that applies
+-- trusted, own: holds if the fault is the first reason why `text` is not a hexadecimal text of at most 128 digits
 abbrev pub IsHexFault : List ℕ → HexFault → Type 0
 IsHexFault text OddDigits = length text % 2 ≡ 1
 IsHexFault text Full = (length text % 2 ≡ 0) × (128 < length text)
 IsHexFault text (BadDigit place) = (length text % 2 ≡ 0) × (length text ≤ 128) × FirstBadDigit text place
 
--- trusted, own: a text of an even number of hexadecimal digits, at most 128
+-- trusted, own: holds if `text` is an even number of hexadecimal digits, at most 128
 pub record IsHex (text : List ℕ) : Type 0 where
   pub even : length text % 2 ≡ 0
   pub short : length text ≤ 128

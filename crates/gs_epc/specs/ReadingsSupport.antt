@@ -9,6 +9,6 @@ use Rattle.gs_epc.specs.declared.error.EpcFault.{EpcFault}
 use Rattle.gs_epc.specs.Epcs.{options_of}
 use Rattle.gs_epc.specs.Readings.{ReadsAs}
 
--- the answer to a reading in a level: whatever symbols have this reading, it is the answer to them
+-- holds if, whatever symbols have this reading in the level, the result is the answer to them
 abbrev pub AnswersReading : TableRows → LevelName → Reading → Result Epc EpcFault → Type 0
 AnswersReading set level reading result = (symbols : List ℕ) → Reads (options_of level set) symbols reading → ReadsAs set level symbols result

@@ -12,15 +12,14 @@ use Rattle.gs_epc.specs.declared.writer.Rejection.TheVariants.{CannotHold, Memor
 use Rattle.gs_epc.specs.Candidates.{Candidate}
 use Rattle.gs_epc.specs.Writes.{HoldsAll, Rejects, text_by, text_on}
 
--- the text of values by the items of an option of a level was appended, or an item does not hold its value and the bytes are
--- unchanged
+-- holds if the text of `values` by `items` was appended, or an item does not hold its value and the bytes are unchanged
 abbrev pub AppendsOption : LevelName → List Item → List (List ℕ) → List ℕ → List ℕ → Result (Unit {0}) WriteFault → Type 0
 AppendsOption level items values before now (Ok done) = AreHeld items values × (now ≡ before ++ text_on level (written items values))
 AppendsOption level items values before now (Err (NotHeld k why)) = IsFirstRejection items values k why × (now ≡ before)
 AppendsOption level items values before now (Err NoRoom) = Unit {0}
 
 module _ (set : TableRows) (level : LevelName) (epc : Epc) where
-  -- the result of one candidate: its text was appended if it holds every field, otherwise the field that it does not hold
+  -- holds if the candidate holds every field and its text was appended, or the result names a field that it does not hold
   abbrev pub IsTried : {i : ℕ} → Candidate set level epc i → List ℕ → List ℕ → Result (Unit {0}) Rejection → Type 0
   IsTried candidate before now (Ok done) = HoldsAll set level epc candidate × (now ≡ before ++ text_by set level epc candidate)
   IsTried candidate before now (Err (CannotHold field why)) = Rejects set level epc candidate field why × (now ≡ before)

@@ -12,7 +12,7 @@ pub struct Epc {
     pub encoding: Text,
     /// The filter value, none for a pure identity.
     pub filter: Option<u8>,
-    /// How many digits the GS1 Company Prefix has, 1 to 12.
+    /// The number of digits of the GS1 Company Prefix, 1 to 12.
     pub gcp: u8,
     /// The GS1 Company Prefix.
     pub prefix: Text,
@@ -20,7 +20,7 @@ pub struct Epc {
     pub rest: Text,
     /// The number of the piece, empty for a kind without pieces.
     pub piece: Text,
-    /// How many pieces there are, empty for a kind without pieces.
+    /// The number of pieces, empty for a kind without pieces.
     pub total: Text,
     /// The serial, empty for a kind without one.
     pub serial: Text,
@@ -36,7 +36,7 @@ pub struct EpcRef<'a> {
     pub encoding: &'a [u8],
     /// The filter value, none for a pure identity.
     pub filter: Option<u8>,
-    /// How many digits the GS1 Company Prefix has, 1 to 12.
+    /// The number of digits of the GS1 Company Prefix, 1 to 12.
     pub gcp: u8,
     /// The GS1 Company Prefix.
     pub prefix: &'a [u8],
@@ -44,7 +44,7 @@ pub struct EpcRef<'a> {
     pub rest: CowText<'a>,
     /// The number of the piece, empty for a kind without pieces.
     pub piece: &'a [u8],
-    /// How many pieces there are, empty for a kind without pieces.
+    /// The number of pieces, empty for a kind without pieces.
     pub total: &'a [u8],
     /// The serial, empty for a kind without one.
     pub serial: &'a [u8],

@@ -63,8 +63,9 @@ fn push_digits(value: &mut Text, lead: u8, prefix: &[u8], rest: &[u8]) -> Result
     Ok(())
 }
 
-/// Appends the digits of a key and their check digit (TDS 2.0, section 7): the lead digits of the rest, the company prefix, and
-/// the other digits of the rest. Fails only with `Memory`. The digits are 1 to 18, and the lead digits are in the rest.
+/// Appends the digits of a key and their check digit (TDS 2.0, section 7). They are the lead digits of the rest, the company
+/// prefix, and the other digits of the rest. Fails only with `Memory`. The digits are 1 to 18, and the lead digits are in the
+/// rest.
 pub fn push_checked(value: &mut Text, lead: u8, prefix: &[u8], rest: &[u8]) -> Result<(), Memory>
     requires { AreKeyDigits lead prefix.now rest.now }
     ensures { IfOk result (λ _. value.new ≡ value.old ++ with_check (key_digits lead prefix.now rest.now)) }
@@ -270,9 +271,9 @@ pub(crate) fn append_laid_out(
     append_serial(set, kind, epc, out)
 }
 
-/// Returns the identity that an EPC of the set names (TDS 2.0, section 7): the key of its kind, laid out with its check digit,
-/// and its serial. Fails only with `Memory`. The EPC is one that a reading by the set gave; it lends the serial, and the set the
-/// codes.
+/// Returns the identity that an EPC of the set names (TDS 2.0, section 7). It is the key of its kind, laid out with its check
+/// digit, and its serial. Fails only with `Memory`. The EPC is one that a reading by the set gave; it lends the serial, and the
+/// set the codes.
 pub fn identity_of<'a>(
     alloc: Global,
     set: &'a TableSet,

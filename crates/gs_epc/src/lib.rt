@@ -1,16 +1,17 @@
 //! EPCs: the EPC that tag bits and EPC URIs give by the tables, the identity that it names, and the texts of an identity.
 //!
 //! - `read_hex`, `read_tag` and `read_pure` give the fields of an EPC; `write_hex`, `write_tag` and `write_pure` its text.
-//! - `reading_of` reads a text of any level; an `EpcReading` lends its fields, gives the identity that it names or only its pairs,
-//!   and appends its link.
+//! - `reading_of` reads a text of any level. An `EpcReading` lends its fields, gives the identity that it names or only its
+//!   pairs, and appends its link.
 //! - `identity_of` lays the fields out as a key and its serial number; `fields_of` takes an identity apart. `push_checked` writes
 //!   the digits of a key, for gs_class too.
 //! - `lent_fields_of` and `append_lent` are `fields_of` and `write_level` over lent texts, without copies of them.
 //!
 //! # Example
 //!
-//! The trade item of a tag URI: its kind, encoding, filter value, the number of digits of its company prefix, and the prefix,
-//! item reference and serial number. The gate runs this case, for which crates/vectors_translation/src/epcs.rt makes the call.
+//! The trade item of a tag URI. It has its kind, encoding and filter value, the number of digits of its company prefix, its
+//! prefix, item reference and serial number. The gate runs this case, for which crates/vectors_translation/src/epcs.rt makes
+//! the call.
 //!
 //! ```text
 //! gs_epc::read_tag urn:epc:tag:sgtin-96:3.0614141.812345.6789
@@ -19,8 +20,8 @@
 //!
 //! # Differences from the standard
 //!
-//! - Of GS1 EPC Tag Data Standard 2.0 it has the schemes that the loaded tables have; of the built-in ones no `+` scheme, no raw
-//!   URI and no pattern.
+//! - Of GS1 EPC Tag Data Standard 2.0 it has the schemes that the loaded tables have. The built-in ones have no `+` scheme, no
+//!   raw URI and no pattern.
 //! - Hexadecimal digits and the letters of escapes are read in either case, and written in upper case.
 //! - If several encodings hold an EPC and none is requested, the first in the order of the tables is written.
 #![tactic(auto)]

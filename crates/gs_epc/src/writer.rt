@@ -137,9 +137,9 @@ fn try_candidate(
     }
 }
 
-/// Appends the text of an EPC by the options of a level: for bits the hexadecimal digits that `write_hex` writes, otherwise the
-/// URI that `write_tag` or `write_pure` writes, with the same errors. After a rejection nothing is appended, unless memory ran
-/// out. The EPC has a filter value of at most 7, except for the level of pure identities.
+/// Appends the text of an EPC by the options of a level, with the errors of `write_hex`, `write_tag` or `write_pure`. For bits
+/// it appends the hexadecimal digits of `write_hex`, otherwise the URI of one of the others. After a rejection nothing is
+/// appended, unless memory ran out. The EPC has a filter value of at most 7, except for the level of pure identities.
 pub fn append_lent(
     alloc: Global,
     set: &TableSet,

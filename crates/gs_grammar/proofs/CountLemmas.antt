@@ -35,13 +35,15 @@ nil_ways (c ∷ w) = record { found = Never; finds = nil_never (c ∷ w) (omega 
 no_word : (item : Item) (items : List Item) (w : List ℕ) (cut : ℕ) → (IsWord item (take cut w) → ⊥) → AtCut item items w cut → ⊥
 no_word item items w cut never split = never (split.value, split.word)
 
-more_ways : (item : Item) (items : List Item) (w : List ℕ) (cut : ℕ) → IsWord item (take cut w) ⊎ (IsWord item (take cut w) → ⊥) → cut ≤ length w → Ways items (drop cut w) → WaysBefore item items w cut → WaysBefore item items w (cut + 1)
+more_ways : (item : Item) (items : List Item) (w : List ℕ) (cut : ℕ) → IsWord item (take cut w) ⊎ (IsWord item (take cut w) → ⊥)
+    → cut ≤ length w → Ways items (drop cut w) → WaysBefore item items w cut → WaysBefore item items w (cut + 1)
 more_ways item items w cut (inl word) within rest before =
     record { found = joined_found before.found rest.found; finds = found_joined item items w cut before.found rest.found before.finds within word rest.finds }
 more_ways item items w cut (inr never) within rest before =
     record { found = before.found; finds = found_skip item items w cut before.found before.finds (no_word item items w cut never) }
 
-ways_before : (item : Item) (items : List Item) (w : List ℕ) → IsDecided item → ((v : List ℕ) → Ways items v) → (cut : ℕ) → cut ≤ length w + 1 → WaysBefore item items w cut
+ways_before : (item : Item) (items : List Item) (w : List ℕ) → IsDecided item → ((v : List ℕ) → Ways items v) → (cut : ℕ)
+    → cut ≤ length w + 1 → WaysBefore item items w cut
 ways_before item items w decided rest zero h = record { found = Never; finds = λ k l split. absurd (omega arith) }
 ways_before item items w decided rest (suc cut) h =
     let more = more_ways item items w cut (decided.decide (take cut w)) (omega arith) (rest (drop cut w)) (ways_before item items w decided rest cut (omega arith)) in

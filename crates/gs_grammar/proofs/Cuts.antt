@@ -15,7 +15,8 @@ use Rattle.gs_grammar.specs.Searches.{AtCut}
 use Rattle.gs_grammar.proofs.Ways.{Found, Never, Once, Twice, Finds, OneCut, TwoCuts, FindsBefore, joined_found}
 
 -- one word more at the start
-pub derives_cons : (item : Item) (items : List Item) (value first rest : List ℕ) (values words : List (List ℕ)) → Word item value first → Derives items rest values words → Derives (item ∷ items) (first ++ rest) (value ∷ values) (first ∷ words)
+pub derives_cons : (item : Item) (items : List Item) (value first rest : List ℕ) (values words : List (List ℕ)) → Word item value first
+    → Derives items rest values words → Derives (item ∷ items) (first ++ rest) (value ∷ values) (first ∷ words)
 derives_cons item items value first rest values words h d =
     record { each = one_item item value first items values words h d.each; joined = ap (λ r. first ++ r) d.joined }
 
@@ -32,12 +33,14 @@ pub record FirstWord (item : Item) (items : List Item) (w : List ℕ) (values wo
   pub values_are : values ≡ value ∷ values'
   pub words_are : words ≡ first ∷ words'
 
-each_uncons : (item : Item) (items : List Item) (w : List ℕ) (values words : List (List ℕ)) → EachWord (item ∷ items) values words → concat words ≡ w → FirstWord item items w values words
+each_uncons : (item : Item) (items : List Item) (w : List ℕ) (values words : List (List ℕ)) → EachWord (item ∷ items) values words
+    → concat words ≡ w → FirstWord item items w values words
 each_uncons item items w values words (one_item item' value first items' values' words' h t) e =
     record { value = value; first = first; rest = concat words'; values' = values'; words' = words'; word = h; derives = record { each = t; joined = refl }; whole = sym e; values_are = refl; words_are = refl }
 
 -- the words of an option one by one
-pub derives_uncons : (item : Item) (items : List Item) (w : List ℕ) (values words : List (List ℕ)) → Derives (item ∷ items) w values words → FirstWord item items w values words
+pub derives_uncons : (item : Item) (items : List Item) (w : List ℕ) (values words : List (List ℕ)) → Derives (item ∷ items) w values words
+    → FirstWord item items w values words
 derives_uncons item items w values words d = each_uncons item items w values words d.each d.joined
 
 each_nil : (values words : List (List ℕ)) → EachWord [] values words → (values ≡ []) × (words ≡ [])
@@ -64,7 +67,8 @@ pub record SplitOf (item : Item) (items : List Item) (w : List ℕ) (words : Lis
   pub split : AtCut item items w place
   pub words_are : words ≡ take place w ∷ split.words
 
-split_from : (item : Item) (items : List Item) (w value first rest : List ℕ) (values' words' words : List (List ℕ)) → w ≡ first ++ rest → Word item value first → Derives items rest values' words' → words ≡ first ∷ words' → SplitOf item items w words
+split_from : (item : Item) (items : List Item) (w value first rest : List ℕ) (values' words' words : List (List ℕ)) → w ≡ first ++ rest
+    → Word item value first → Derives items rest values' words' → words ≡ first ∷ words' → SplitOf item items w words
 split_from item items w value first rest values' words' words e h d f =
     let front : take (length first) w ≡ first = rw e (take_at first rest (length first) refl) in
     let back : drop (length first) w ≡ rest = rw e (drop_at first rest (length first) refl) in
@@ -80,7 +84,8 @@ to_cut item items w values words d =
     let f = derives_uncons item items w values words d in
     split_from item items w f.value f.first f.rest f.values' f.words' words f.whole f.word f.derives f.words_are
 
-pub from_cut : (item : Item) (items : List Item) (w : List ℕ) (k : ℕ) (split : AtCut item items w k) → Derives (item ∷ items) w (split.value ∷ split.values) (take k w ∷ split.words)
+pub from_cut : (item : Item) (items : List Item) (w : List ℕ) (k : ℕ) (split : AtCut item items w k)
+    → Derives (item ∷ items) w (split.value ∷ split.values) (take k w ∷ split.words)
 from_cut item items w k split =
     let d = derives_cons item items split.value (take k w) (drop k w) split.values split.words split.word split.rest in
     rw take-append-drop at d
@@ -105,7 +110,8 @@ two_ways item items w h =
     }
 
 -- all splits are shorter than the cut, so those found before it are all of them
-pub found_before : (item : Item) (items : List Item) (w : List ℕ) (cut : ℕ) (found : Found) → FindsBefore item items w cut found → ((k : ℕ) → AtCut item items w k → k < cut) → Finds (item ∷ items) w found
+pub found_before : (item : Item) (items : List Item) (w : List ℕ) (cut : ℕ) (found : Found) → FindsBefore item items w cut found
+    → ((k : ℕ) → AtCut item items w k → k < cut) → Finds (item ∷ items) w found
 found_before item items w cut Never h bound = λ d.
     let c = to_cut item items w d.values d.words d.derives in
     h c.place (bound c.place c.split) c.split
@@ -145,7 +151,8 @@ below_or_at : (k cut : ℕ) → k < cut + 1 → (k < cut) ⊎ (k ≡ cut)
 below_or_at k cut h = elim (cases_eq k cut) as (λ _. (k < cut) ⊎ (k ≡ cut)) [ inl e ↦ inr e | inr n ↦ inl (omega arith) ]
 
 -- no split is at the cut
-pub found_skip : (item : Item) (items : List Item) (w : List ℕ) (cut : ℕ) (found : Found) → FindsBefore item items w cut found → (AtCut item items w cut → ⊥) → FindsBefore item items w (cut + 1) found
+pub found_skip : (item : Item) (items : List Item) (w : List ℕ) (cut : ℕ) (found : Found) → FindsBefore item items w cut found
+    → (AtCut item items w cut → ⊥) → FindsBefore item items w (cut + 1) found
 found_skip item items w cut Never h none = λ k l split. elim (below_or_at k cut l) as (λ _. ⊥) [ inl b ↦ h k b split | inr e ↦ none (rw e at split) ]
 found_skip item items w cut Once h none =
     record {
@@ -157,10 +164,12 @@ found_skip item items w cut Once h none =
 found_skip item items w cut Twice h none = h
 
 -- the splits at the cut, if its symbols are a word: as many as the ways of the items after it
-pub at_cut : (item : Item) (items : List Item) (w : List ℕ) (cut : ℕ) → cut ≤ length w → IsWord item (take cut w) → IsDerived items (drop cut w) → AtCut item items w cut
+pub at_cut : (item : Item) (items : List Item) (w : List ℕ) (cut : ℕ) → cut ≤ length w → IsWord item (take cut w)
+    → IsDerived items (drop cut w) → AtCut item items w cut
 at_cut item items w cut l h d = record { within = l; value = h.0; word = h.1; values = d.values; words = d.words; rest = d.derives }
 
-two_at_cut : (item : Item) (items : List Item) (w : List ℕ) (cut : ℕ) → cut ≤ length w → IsWord item (take cut w) → TwoWays items (drop cut w) → TwoCuts item items w
+two_at_cut : (item : Item) (items : List Item) (w : List ℕ) (cut : ℕ) → cut ≤ length w → IsWord item (take cut w)
+    → TwoWays items (drop cut w) → TwoCuts item items w
 two_at_cut item items w cut l h t =
     record {
       place = cut;
@@ -170,7 +179,8 @@ two_at_cut item items w cut l h t =
       differ = λ e f. t.differ f;
     }
 
-one_at_cut : (item : Item) (items : List Item) (w : List ℕ) (cut : ℕ) → cut ≤ length w → IsWord item (take cut w) → OneWay items (drop cut w) → ((k : ℕ) → k < cut → AtCut item items w k → ⊥) → OneCut item items w (cut + 1)
+one_at_cut : (item : Item) (items : List Item) (w : List ℕ) (cut : ℕ) → cut ≤ length w → IsWord item (take cut w)
+    → OneWay items (drop cut w) → ((k : ℕ) → k < cut → AtCut item items w k → ⊥) → OneCut item items w (cut + 1)
 one_at_cut item items w cut l h o none =
     record {
       place = cut;
@@ -185,7 +195,9 @@ one_at_cut item items w cut l h o none =
 none_at_cut : (item : Item) (items : List Item) (w : List ℕ) (cut : ℕ) → (IsDerived items (drop cut w) → ⊥) → AtCut item items w cut → ⊥
 none_at_cut item items w cut none split = none (record { values = split.values; words = split.words; derives = split.rest })
 
-pub found_joined : (item : Item) (items : List Item) (w : List ℕ) (cut : ℕ) (found more : Found) → FindsBefore item items w cut found → cut ≤ length w → IsWord item (take cut w) → Finds items (drop cut w) more → FindsBefore item items w (cut + 1) (joined_found found more)
+pub found_joined : (item : Item) (items : List Item) (w : List ℕ) (cut : ℕ) (found more : Found) → FindsBefore item items w cut found
+    → cut ≤ length w → IsWord item (take cut w) → Finds items (drop cut w) more
+    → FindsBefore item items w (cut + 1) (joined_found found more)
 found_joined item items w cut Never Never h l word m = found_skip item items w cut Never h (none_at_cut item items w cut m)
 found_joined item items w cut Never Once h l word m = one_at_cut item items w cut l word m h
 found_joined item items w cut Never Twice h l word m = two_at_cut item items w cut l word m
@@ -225,29 +237,35 @@ last_derived item w d =
     let first : w ≡ f.first = f.whole ∙ ap (λ r. f.first ++ r) n.0 ∙ append-nil f.first in
     (f.value, subst (λ (x : List ℕ). Word item f.value x) (sym first) f.word)
 
-pub last_found : (items : List Item) (item : Item) (others : List Item) (w : List ℕ) (b : Bool) → items ≡ item ∷ others → length others ≡ 0 → (IsTrue b ↔ IsWord item w) → IsTrue b ↔ IsDerived items w
+pub last_found : (items : List Item) (item : Item) (others : List Item) (w : List ℕ) (b : Bool) → items ≡ item ∷ others → length others ≡ 0
+    → (IsTrue b ↔ IsWord item w) → IsTrue b ↔ IsDerived items w
 last_found items item others w b s h e = rw (s, nil_from_length others h) (λ t. last_word item w (e.0 t), λ d. e.1 (last_derived item w d))
 
 -- a split at the cut is a derivation
-pub cut_derived : (items : List Item) (item : Item) (others : List Item) (w : List ℕ) (cut : ℕ) → items ≡ item ∷ others → cut ≤ length w → IsWord item (take cut w) → IsDerived others (drop cut w) → IsDerived items w
+pub cut_derived : (items : List Item) (item : Item) (others : List Item) (w : List ℕ) (cut : ℕ) → items ≡ item ∷ others → cut ≤ length w
+    → IsWord item (take cut w) → IsDerived others (drop cut w) → IsDerived items w
 unfolding at_cut
 cut_derived items item others w cut s l h d =
     rw s (record { values = h.0 ∷ d.values; words = take cut w ∷ d.words; derives = from_cut item others w cut (at_cut item others w cut l h d) })
 
-pub no_split : (item : Item) (others : List Item) (w : List ℕ) (cut : ℕ) (b : Bool) → b ≡ false → (IsTrue b ↔ IsWord item (take cut w)) → AtCut item others w cut → ⊥
+pub no_split : (item : Item) (others : List Item) (w : List ℕ) (cut : ℕ) (b : Bool) → b ≡ false → (IsTrue b ↔ IsWord item (take cut w))
+    → AtCut item others w cut → ⊥
 no_split item others w cut b f e split = let t = e.1 (split.value, split.word) in let u : false ≡ true = sym f ∙ t in cc
 
-pub not_derived : (item : Item) (others : List Item) (w : List ℕ) (cut : ℕ) (b : Bool) → b ≡ false → (IsTrue b ↔ IsDerived others (drop cut w)) → AtCut item others w cut → ⊥
+pub not_derived : (item : Item) (others : List Item) (w : List ℕ) (cut : ℕ) (b : Bool) → b ≡ false
+    → (IsTrue b ↔ IsDerived others (drop cut w)) → AtCut item others w cut → ⊥
 not_derived item others w cut b f e = none_at_cut item others w cut (λ d. let t = e.1 d in let u : false ≡ true = sym f ∙ t in cc)
 
-pub fixed_cut : (item : Item) (others : List Item) (w : List ℕ) (cut : ℕ) → IsItem item → IsDerived (item ∷ others) w → cut ≡ shortest_of item → cut ≡ size_of item → AtCut item others w cut
+pub fixed_cut : (item : Item) (others : List Item) (w : List ℕ) (cut : ℕ) → IsItem item → IsDerived (item ∷ others) w
+    → cut ≡ shortest_of item → cut ≡ size_of item → AtCut item others w cut
 fixed_cut item others w cut i d l m =
     let s = to_cut item others w d.values d.words d.derives in
     let b = cut_bounds item others w s.place i s.split in
     let same : s.place ≡ cut = let x = b.least in let y = b.most in omega arith in
     subst (λ (k : ℕ). AtCut item others w k) same s.split
 
-pub some_cut : (item : Item) (others : List Item) (w : List ℕ) (longest cut : ℕ) → IsItem item → IsDerived (item ∷ others) w → ((k : ℕ) → k < cut → AtCut item others w k → ⊥) → longest ≡ min (size_of item) (length w) → longest + 1 ≤ cut → ⊥
+pub some_cut : (item : Item) (others : List Item) (w : List ℕ) (longest cut : ℕ) → IsItem item → IsDerived (item ∷ others) w
+    → ((k : ℕ) → k < cut → AtCut item others w k → ⊥) → longest ≡ min (size_of item) (length w) → longest + 1 ≤ cut → ⊥
 some_cut item others w longest cut i d none m b =
     let s = to_cut item others w d.values d.words d.derives in
     let c = cut_bounds item others w s.place i s.split in
@@ -256,14 +274,18 @@ some_cut item others w longest cut i d none m b =
     none s.place (omega arith) s.split
 
 -- no cut works, so nothing is derived
-pub never_derived : (items : List Item) (item : Item) (others : List Item) (w : List ℕ) (longest cut : ℕ) → IsItem item → items ≡ item ∷ others → ((k : ℕ) → k < cut → AtCut item others w k → ⊥) → longest ≡ min (size_of item) (length w) → longest + 1 ≤ cut → IsTrue false ↔ IsDerived items w
+pub never_derived : (items : List Item) (item : Item) (others : List Item) (w : List ℕ) (longest cut : ℕ) → IsItem item
+    → items ≡ item ∷ others → ((k : ℕ) → k < cut → AtCut item others w k → ⊥) → longest ≡ min (size_of item) (length w) → longest + 1 ≤ cut
+    → IsTrue false ↔ IsDerived items w
 never_derived items item others w longest cut i s none m b =
     (λ t. let f : false ≡ true = t in cc, λ d. absurd (some_cut item others w longest cut i (rw s at d) none m b))
 
-pub none_below : (item : Item) (others : List Item) (w : List ℕ) (cut : ℕ) → ((k : ℕ) → k < cut → AtCut item others w k → ⊥) → (AtCut item others w cut → ⊥) → (k : ℕ) → k < cut + 1 → AtCut item others w k → ⊥
+pub none_below : (item : Item) (others : List Item) (w : List ℕ) (cut : ℕ) → ((k : ℕ) → k < cut → AtCut item others w k → ⊥)
+    → (AtCut item others w cut → ⊥) → (k : ℕ) → k < cut + 1 → AtCut item others w k → ⊥
 none_below item others w cut h none = found_skip item others w cut Never h none
 
-pub none_first : (item : Item) (others : List Item) (w : List ℕ) (cut : ℕ) → IsItem item → cut ≡ shortest_of item → (k : ℕ) → k < cut → AtCut item others w k → ⊥
+pub none_first : (item : Item) (others : List Item) (w : List ℕ) (cut : ℕ) → IsItem item → cut ≡ shortest_of item → (k : ℕ) → k < cut
+    → AtCut item others w k → ⊥
 none_first item others w cut i e = found_start item others w cut (λ k split. let c = cut_bounds item others w k i split in let l = c.least in omega arith)
 
 pub first_item : (items : List Item) (item : Item) (others : List Item) → items ≡ item ∷ others → All IsItem items → IsItem item
@@ -277,7 +299,9 @@ pub record Tallies (items : List Item) (w : List ℕ) (left : List Item) (rest :
   pub back : (values words : List (List ℕ)) → Derives left rest values words → HasNumbers items w (numbers ++ numbers_of_words left words)
   pub derived : IsDerived left rest
 
-pub tallies_step : (items : List Item) (w : List ℕ) (left : List Item) (rest : List ℕ) (numbers : List ℕ) (item : Item) (others : List Item) (cut number : ℕ) → Tallies items w left rest numbers → left ≡ item ∷ others → AtCut item others rest cut → number ≡ number_of_word item (take cut rest) → Tallies items w others (drop cut rest) (numbers ++ number ∷ [])
+pub tallies_step : (items : List Item) (w : List ℕ) (left : List Item) (rest : List ℕ) (numbers : List ℕ) (item : Item) (others : List Item) (cut number : ℕ)
+    → Tallies items w left rest numbers → left ≡ item ∷ others → AtCut item others rest cut → number ≡ number_of_word item (take cut rest)
+    → Tallies items w others (drop cut rest) (numbers ++ number ∷ [])
 tallies_step items w left rest numbers item others cut number t s split n =
     record {
       back = λ vs ws e.
@@ -289,7 +313,8 @@ tallies_step items w left rest numbers item others cut number t s split n =
       derived = record { values = split.values; words = split.words; derives = split.rest };
     }
 
-pub tallies_end : (items : List Item) (w : List ℕ) (left : List Item) (rest : List ℕ) (numbers : List ℕ) → Tallies items w left rest numbers → length left ≡ 0 → HasNumbers items w numbers
+pub tallies_end : (items : List Item) (w : List ℕ) (left : List Item) (rest : List ℕ) (numbers : List ℕ) → Tallies items w left rest numbers
+    → length left ≡ 0 → HasNumbers items w numbers
 tallies_end items w left rest numbers t h =
     let nil : left ≡ [] = nil_from_length left h in
     let r = t.back t.derived.values t.derived.words t.derived.derives in

@@ -2,14 +2,14 @@
 -- over all lists of symbols that are as short as the options are.
 use Rattle.std.proofs.Common.{◌≡◌, ℕ, ◌<◌, ◌≤◌, ◌+◌, ◌^◌, ◌⊎◌, ◌||◌, Bool, true, false, All, IsTrue, List, [], ◌∷◌, length, replicate, Option, Some, None, zero, suc, decimal, refl, sym, ◌∙◌, subst, inl, inr, arith}
 use Rattle.std.specs.List.{concat, flat_map, list_all, slice_get}
-use Rattle.std.proofs.lemmas.Bool.{cases_lt, cases_eq}
+use Rattle.std.proofs.lemmas.Bool.{cases_lt, cases_eq, and_parts}
 use Rattle.std.proofs.lemmas.Bool.Decides.{nat_tests}
 use Rattle.std.proofs.lemmas.List.{length-append, nil_from_length}
 use Rattle.std.proofs.lemmas.List.Elements.{All-head, All-tail, All-cons, All-nil, All-append, All-replicate}
 use Rattle.std.proofs.lemmas.Option.{slice_get_within}
 use Rattle.gs_chars.specs.Characters.{are_digits, is_digit, is_in_set82}
 use Rattle.gs_chars.specs.Escapes.{Spells, hex_value}
-use Rattle.gs_chars.proofs.TruthsAndLists.{and_first, and_parts, and_second, same_at}
+use Rattle.gs_chars.proofs.TruthsAndLists.{and_first, and_second, same_at}
 use Rattle.gs_bits.specs.Bits.{AreBits, bits_of}
 use Rattle.gs_bits.specs.BitLaws.{AreBits-bits_of}
 use Rattle.gs_grammar.specs.declared.item.Item.{Item}
@@ -72,7 +72,8 @@ small_spelled value w (one_more c rest spelling v h t) = All-append (λ s. s < 1
 
 small_packed : (value : List ℕ) → AreSmall (flat_map (bits_of 7) value)
 small_packed [] = All-nil (λ s. s < 128)
-small_packed (c ∷ value) = All-append (λ s. s < 128) (bits_of 7 c) (flat_map (bits_of 7) value) (small_bits (bits_of 7 c) (AreBits-bits_of 7 c)) (small_packed value)
+small_packed (c ∷ value) = All-append (λ s. s < 128) (bits_of 7 c) (flat_map (bits_of 7) value)
+    (small_bits (bits_of 7 c) (AreBits-bits_of 7 c)) (small_packed value)
 
 small_zeros : (n : ℕ) → AreSmall (replicate n 0)
 small_zeros n = All-replicate (λ s. s < 128) n 0 (omega arith)
@@ -151,7 +152,8 @@ SomeList P = (w : List ℕ) × P w
 abbrev NoneWithin : ℕ → (List ℕ → Type 0) → Type 0
 NoneWithin n P = (w : List ℕ) → length w ≤ n → AreSmall w → P w → ⊥
 
-first_below : (P : List ℕ → Type 0) (n b : ℕ) → ((s : ℕ) → SomeList (λ w. P (s ∷ w)) ⊎ NoneWithin n (λ w. P (s ∷ w))) → SomeList P ⊎ ((s : ℕ) → s < b → NoneWithin n (λ w. P (s ∷ w)))
+first_below : (P : List ℕ → Type 0) (n b : ℕ) → ((s : ℕ) → SomeList (λ w. P (s ∷ w)) ⊎ NoneWithin n (λ w. P (s ∷ w)))
+    → SomeList P ⊎ ((s : ℕ) → s < b → NoneWithin n (λ w. P (s ∷ w)))
 first_below P n zero rest = inr (λ s h. absurd (omega arith))
 first_below P n (suc b) rest = elim (rest b) as (λ _. SomeList P ⊎ ((s : ℕ) → s < suc b → NoneWithin n (λ w. P (s ∷ w)))) [
   | inl found ↦ inl (b ∷ found.0, found.1)
@@ -184,13 +186,16 @@ search (suc n) P decide = elim (decide []) as (λ _. SomeList P ⊎ NoneWithin (
 -- ---- a list that two options share
 
 -- the two options share the list
-abbrev derivation_by : (level : List (List Item)) (w : List ℕ) (k : ℕ) (items : List Item) → slice_get level k ≡ Some items → (values words : List (List ℕ)) → Derives items w values words → Derivation level w
+abbrev derivation_by : (level : List (List Item)) (w : List ℕ) (k : ℕ) (items : List Item) → slice_get level k ≡ Some items
+    → (values words : List (List ℕ)) → Derives items w values words → Derivation level w
 derivation_by level w k items at values words d = record { option = k; items = items; values = values; words = words; of_level = at; derives = d }
 
-derived_by : (level : List (List Item)) (w : List ℕ) (k : ℕ) (items : List Item) → slice_get level k ≡ Some items → (d : Derivation level w) → d.option ≡ k → Derives items w d.values d.words
+derived_by : (level : List (List Item)) (w : List ℕ) (k : ℕ) (items : List Item) → slice_get level k ≡ Some items → (d : Derivation level w)
+    → d.option ≡ k → Derives items w d.values d.words
 derived_by level w k items at d e = let its = same_at level d.option k d.items items d.of_level at e in rw its at d.derives
 
-share_self : (level : List (List Item)) (w : List ℕ) (k : ℕ) (items : List Item) → slice_get level k ≡ Some items → (found : Found) → Finds items w found → Known (ShareList level k k w)
+share_self : (level : List (List Item)) (w : List ℕ) (k : ℕ) (items : List Item) → slice_get level k ≡ Some items → (found : Found)
+    → Finds items w found → Known (ShareList level k k w)
 share_self level w k items at Never none = inr (λ s. none (record { values = s.one.values; words = s.one.words; derives = derived_by level w k items at s.one s.by_one }))
 share_self level w k items at Once way = inr (λ s.
     let a = way.only s.one.values s.one.words (derived_by level w k items at s.one s.by_one) in
@@ -212,7 +217,8 @@ derived_or_not items w Twice ways = inl (record { values = ways.values; words = 
 known_derived : (items : List Item) (w : List ℕ) → Known (IsDerived items w)
 known_derived items w = let ways = count_ways each_decided items w in derived_or_not items w ways.found ways.finds
 
-share_two : (level : List (List Item)) (w : List ℕ) (i j : ℕ) (items items' : List Item) → (i ≡ j → ⊥) → slice_get level i ≡ Some items → slice_get level j ≡ Some items' → Known (IsDerived items w) → Known (IsDerived items' w) → Known (ShareList level i j w)
+share_two : (level : List (List Item)) (w : List ℕ) (i j : ℕ) (items items' : List Item) → (i ≡ j → ⊥) → slice_get level i ≡ Some items
+    → slice_get level j ≡ Some items' → Known (IsDerived items w) → Known (IsDerived items' w) → Known (ShareList level i j w)
 share_two level w i j items items' apart at at' (inl a) (inl b) = inl (record {
   one = derivation_by level w i items at a.values a.words a.derives;
   other = derivation_by level w j items' at' b.values b.words b.derives;
@@ -220,16 +226,21 @@ share_two level w i j items items' apart at at' (inl a) (inl b) = inl (record {
   by_other = refl;
   differ = λ s. apart s.option;
 })
-share_two level w i j items items' apart at at' (inr none) b = inr (λ s. none (record { values = s.one.values; words = s.one.words; derives = derived_by level w i items at s.one s.by_one }))
-share_two level w i j items items' apart at at' (inl a) (inr none) = inr (λ s. none (record { values = s.other.values; words = s.other.words; derives = derived_by level w j items' at' s.other s.by_other }))
+share_two level w i j items items' apart at at' (inr none) b = inr
+    (λ s. none (record { values = s.one.values; words = s.one.words; derives = derived_by level w i items at s.one s.by_one }))
+share_two level w i j items items' apart at at' (inl a) (inr none) = inr
+    (λ s. none (record { values = s.other.values; words = s.other.words; derives = derived_by level w j items' at' s.other s.by_other }))
 
-share_at : (level : List (List Item)) (w : List ℕ) (i j : ℕ) (items items' : List Item) → slice_get level i ≡ Some items → slice_get level j ≡ Some items' → Known (ShareList level i j w)
+share_at : (level : List (List Item)) (w : List ℕ) (i j : ℕ) (items items' : List Item) → slice_get level i ≡ Some items
+    → slice_get level j ≡ Some items' → Known (ShareList level i j w)
 share_at level w i j items items' at at' = elim (cases_eq i j) as (λ _. Known (ShareList level i j w)) [
-  | inl e ↦ let ways = count_ways each_decided items w in subst (λ (k : ℕ). Known (ShareList level i k w)) e (share_self level w i items at ways.found ways.finds)
+  | inl e ↦ let ways = count_ways each_decided items w in subst (λ (k : ℕ). Known (ShareList level i k w)) e
+      (share_self level w i items at ways.found ways.finds)
   | inr apart ↦ share_two level w i j items items' apart at at' (known_derived items w) (known_derived items' w)
 ]
 
-share_of : (level : List (List Item)) (w : List ℕ) (i j : ℕ) (o p : Option (List Item)) → slice_get level i ≡ o → slice_get level j ≡ p → Known (ShareList level i j w)
+share_of : (level : List (List Item)) (w : List ℕ) (i j : ℕ) (o p : Option (List Item)) → slice_get level i ≡ o → slice_get level j ≡ p
+    → Known (ShareList level i j w)
 share_of level w i j (Some items) (Some items') at at' = share_at level w i j items items' at at'
 share_of level w i j None p at at' = inr (λ s.
     let here : slice_get level i ≡ Some s.one.items = rw s.by_one at s.one.of_level in

@@ -53,20 +53,23 @@ no_high x h l more p e = unspelled (x ∷ h ∷ l ∷ more) p (λ c s q a b k. l
 no_low : (x h l : ℕ) (more : List ℕ) → is_plain x ≡ false → hex_value l ≡ None → HasNoFront (x ∷ h ∷ l ∷ more)
 no_low x h l more p e = unspelled (x ∷ h ∷ l ∷ more) p (λ c s q a b k. let f : hex_value l ≡ Some (c % 16) = b in let g : None ≡ Some (c % 16) = sym e ∙ f in cc)
 
-no_escaped : (x h l a b : ℕ) (more : List ℕ) → is_plain x ≡ false → hex_value h ≡ Some a → hex_value l ≡ Some b → (is_escaped (16 * a + b) ≡ true → ⊥) → HasNoFront (x ∷ h ∷ l ∷ more)
+no_escaped : (x h l a b : ℕ) (more : List ℕ) → is_plain x ≡ false → hex_value h ≡ Some a → hex_value l ≡ Some b
+    → (is_escaped (16 * a + b) ≡ true → ⊥) → HasNoFront (x ∷ h ∷ l ∷ more)
 no_escaped x h l a b more p e f n = unspelled (x ∷ h ∷ l ∷ more) p (λ c s q high low k.
     let u : hex_value h ≡ Some (c / 16) = high in
     let v : hex_value l ≡ Some (c % 16) = low in
     let same = character_of c a b (sym e ∙ u) (sym f ∙ v) in
     n (ap is_escaped same ∙ k))
 
-escape_front : (x h l : ℕ) (more : List ℕ) (high low : Option ℕ) → is_plain x ≡ false → x ≡ 37 → hex_value h ≡ high → hex_value l ≡ low → Front (x ∷ h ∷ l ∷ more) ⊎ HasNoFront (x ∷ h ∷ l ∷ more)
+escape_front : (x h l : ℕ) (more : List ℕ) (high low : Option ℕ) → is_plain x ≡ false → x ≡ 37 → hex_value h ≡ high → hex_value l ≡ low
+    → Front (x ∷ h ∷ l ∷ more) ⊎ HasNoFront (x ∷ h ∷ l ∷ more)
 escape_front x h l more None low p q e f = inr (no_high x h l more p e)
 escape_front x h l more (Some a) None p q e f = inr (no_low x h l more p f)
-escape_front x h l more (Some a) (Some b) p q e f = elim (true_or_not (is_escaped (16 * a + b))) as (λ _. Front (x ∷ h ∷ l ∷ more) ⊎ HasNoFront (x ∷ h ∷ l ∷ more)) [
-  | inl k ↦ inl (subst (λ (y : ℕ). Front (y ∷ h ∷ l ∷ more)) (sym q) (front_of_escape h l a b more e f k))
-  | inr n ↦ inr (no_escaped x h l a b more p e f n)
-]
+escape_front x h l more (Some a) (Some b) p q e f = elim (true_or_not (is_escaped (16 * a + b))) as
+    (λ _. Front (x ∷ h ∷ l ∷ more) ⊎ HasNoFront (x ∷ h ∷ l ∷ more)) [
+      | inl k ↦ inl (subst (λ (y : ℕ). Front (y ∷ h ∷ l ∷ more)) (sym q) (front_of_escape h l a b more e f k))
+      | inr n ↦ inr (no_escaped x h l a b more p e f n)
+    ]
 
 long_front : (x h l : ℕ) (more : List ℕ) → is_plain x ≡ false → Front (x ∷ h ∷ l ∷ more) ⊎ HasNoFront (x ∷ h ∷ l ∷ more)
 long_front x h l more p = elim (cases_eq x 37) as (λ _. Front (x ∷ h ∷ l ∷ more) ⊎ HasNoFront (x ∷ h ∷ l ∷ more)) [

@@ -34,7 +34,8 @@ pad_decided : (n : ℕ) (w : List ℕ) → IsKnownWord (Pad n) w
 pad_decided n w = known (nat_eq (length w) n && are_digits w) (IsWord (Pad n) w) (pad_test (Pad n) n w (nat_eq (length w) n && are_digits w) refl refl)
 
 digits_decided : (lo hi : ℕ) (w : List ℕ) → IsKnownWord (Digits lo hi) w
-digits_decided lo hi w = known (is_between lo hi (length w) && are_digits w) (IsWord (Digits lo hi) w) (digits_test lo hi w (is_between lo hi (length w) && are_digits w) refl)
+digits_decided lo hi w = known (is_between lo hi (length w) && are_digits w) (IsWord (Digits lo hi) w)
+    (digits_test lo hi w (is_between lo hi (length w) && are_digits w) refl)
 
 -- the list is the decimal text of a number up to the greatest, or of none
 abbrev IsSomeNumeral : ℕ → List ℕ → Type 0
@@ -97,7 +98,8 @@ number_decided bits w = elim (cases_eq (length w) bits) as (λ _. IsSomeNumber b
 
 numpad_decided : (bits n : ℕ) (w : List ℕ) → IsKnownWord (NumPad bits n) w
 numpad_decided bits n w = elim (number_decided bits w) as (λ _. IsKnownWord (NumPad bits n) w) [
-  | inl k ↦ known (ltb k.0 (10 ^ n)) (IsWord (NumPad bits n) w) (numpad_test (NumPad bits n) bits n k.0 w (ltb k.0 (10 ^ n)) refl k.1 (Decides-ltb k.0 (10 ^ n)))
+  | inl k ↦ known (ltb k.0 (10 ^ n)) (IsWord (NumPad bits n) w)
+      (numpad_test (NumPad bits n) bits n k.0 w (ltb k.0 (10 ^ n)) refl k.1 (Decides-ltb k.0 (10 ^ n)))
   | inr none ↦ inr (λ h. none _ h.1.2)
 ]
 
@@ -177,7 +179,8 @@ none_left : (c : ℕ) (rest : List ℕ) → length rest ≤ 0 → HasCode rest c
 none_left c rest h k = let l = code_length rest c k in omega arith
 
 -- a code is that of a character, or it packs none
-packed_step : (w rest : List ℕ) (n c : ℕ) (b : Bool) → PackCounts w rest n → HasCode rest c → is_in_set82 c ≡ b → (PackCounts w (drop 7 rest) (n + 1) → IsKnownPacked w) → IsKnownPacked w
+packed_step : (w rest : List ℕ) (n c : ℕ) (b : Bool) → PackCounts w rest n → HasCode rest c → is_in_set82 c ≡ b
+    → (PackCounts w (drop 7 rest) (n + 1) → IsKnownPacked w) → IsKnownPacked w
 packed_step w rest n c true k h e next = next (pack_counts_step w rest n c k h e)
 packed_step w rest n c false k h e next = inr (pack_counts_bad w rest n c k h e)
 
@@ -193,7 +196,8 @@ packed_from (suc fuel) w rest n h k = elim (code_decided rest) as (λ _. IsKnown
 
 ascii_width_decided : (lo hi : ℕ) (w : List ℕ) → IsKnownWord (Ascii7 lo hi (length w)) w
 ascii_width_decided lo hi w = elim (packed_from (length w) w w 0 (omega arith) (pack_counts_start w)) as (λ _. IsKnownWord (Ascii7 lo hi (length w)) w) [
-  | inl p ↦ known (is_between lo hi p.n) (IsWord (Ascii7 lo hi (length w)) w) (ascii_test (Ascii7 lo hi (length w)) lo hi (length w) p.n w (is_between lo hi p.n) refl refl p.many refl)
+  | inl p ↦ known (is_between lo hi p.n) (IsWord (Ascii7 lo hi (length w)) w)
+      (ascii_test (Ascii7 lo hi (length w)) lo hi (length w) p.n w (is_between lo hi p.n) refl refl p.many refl)
   | inr none ↦ inr (λ h. none h.0 h.1.1)
 ]
 

@@ -83,7 +83,8 @@ numpad_number bits n value w h = writes_number bits (decimal_value value) w h.2
 pub numstr_number : (bits hi : ℕ) (value w : List ℕ) → Word (NumStr bits hi) value w → number_of_word (NumStr bits hi) w ≡ decimal_value (49 ∷ value)
 numstr_number bits hi value w h = writes_number bits (decimal_value (49 ∷ value)) w h.2
 
-pub num_number : (bits greatest : ℕ) (value w : List ℕ) → greatest < 2 ^ 64 → Word (Num bits greatest) value w → number_of_word (Num bits greatest) w ≡ decimal_value value
+pub num_number : (bits greatest : ℕ) (value w : List ℕ) → greatest < 2 ^ 64 → Word (Num bits greatest) value w
+    → number_of_word (Num bits greatest) w ≡ decimal_value value
 num_number bits greatest value w g h =
     let s = h.1.0.small in
     let v : decimal_value value ≡ h.0 = ap decimal_value h.1.0.text ∙ value_decimal h.0 (omega arith) in

@@ -79,11 +79,13 @@ value_grows : (n : ℕ) (ds : List ℕ) → n ≤ value_after n ds
 value_grows n [] = omega arith
 value_grows n (d ∷ ds) = let r = value_grows (10 * n + (d - 48)) ds in omega arith
 
-pub value_step : (symbols : List ℕ) (i number : ℕ) → i < length symbols → value_after number (drop i symbols) ≡ value_after (10 * number + (get_or symbols i 0 - 48)) (drop (i + 1) symbols)
+pub value_step : (symbols : List ℕ) (i number : ℕ) → i < length symbols
+    → value_after number (drop i symbols) ≡ value_after (10 * number + (get_or symbols i 0 - 48)) (drop (i + 1) symbols)
 value_step symbols i number l = ap (value_after number) (drop_more symbols i 0 l)
 
 -- one digit more
-pub value_more : (symbols : List ℕ) (i number more whole : ℕ) → i < length symbols → value_after number (drop i symbols) ≡ whole → more ≡ 10 * number + (get_or symbols i 0 - 48) → value_after more (drop (i + 1) symbols) ≡ whole
+pub value_more : (symbols : List ℕ) (i number more whole : ℕ) → i < length symbols → value_after number (drop i symbols) ≡ whole
+    → more ≡ 10 * number + (get_or symbols i 0 - 48) → value_after more (drop (i + 1) symbols) ≡ whole
 value_more symbols i number more whole l v e = rw e (sym (value_step symbols i number l) ∙ v)
 
 -- all digits
@@ -91,7 +93,8 @@ pub value_whole : (symbols : List ℕ) (i number whole : ℕ) → length symbols
 value_whole symbols i number whole l v = let none : drop i symbols ≡ [] = drop_all i symbols l in rw none at v
 
 -- one symbol more that is a digit
-pub digits_more : (symbols : List ℕ) (i : ℕ) → i < length symbols → is_digit (get_or symbols i 0) ≡ true → are_digits (drop i symbols) ≡ are_digits symbols → are_digits (drop (i + 1) symbols) ≡ are_digits symbols
+pub digits_more : (symbols : List ℕ) (i : ℕ) → i < length symbols → is_digit (get_or symbols i 0) ≡ true
+    → are_digits (drop i symbols) ≡ are_digits symbols → are_digits (drop (i + 1) symbols) ≡ are_digits symbols
 digits_more symbols i l d h =
     let front : (is_digit (get_or symbols i 0) && are_digits (drop (i + 1) symbols)) ≡ are_digits symbols = rw (drop_more symbols i 0 l) at h in
     rw d at front
@@ -100,21 +103,24 @@ digits_more symbols i l d h =
 pub digits_whole : (symbols : List ℕ) (i : ℕ) → length symbols ≤ i → are_digits (drop i symbols) ≡ are_digits symbols → are_digits symbols ≡ true
 digits_whole symbols i l h = let none : drop i symbols ≡ [] = drop_all i symbols l in sym (rw none at h)
 
-pub leading_zero : (symbols : List ℕ) (b : Bool) → b ≡ (leb 2 (length symbols) && eqb (get_or symbols 0 0) 48) → b ≡ true → (number : ℕ) → number < 2 ^ 64 → symbols ≡ decimal number → ⊥
+pub leading_zero : (symbols : List ℕ) (b : Bool) → b ≡ (leb 2 (length symbols) && eqb (get_or symbols 0 0) 48) → b ≡ true → (number : ℕ)
+    → number < 2 ^ 64 → symbols ≡ decimal number → ⊥
 leading_zero symbols b e t =
     let both : (leb 2 (length symbols) && eqb (get_or symbols 0 0) 48) ≡ true = sym e ∙ t in
     let z : get_or symbols 0 0 ≡ 48 = grind (arith, nat_tests) in
     let l : 1 < length symbols = grind (arith, nat_tests) in
     no_leading_zero symbols z l
 
-numeral_whole : (symbols : List ℕ) (number : ℕ) → 0 < length symbols → (get_or symbols 0 0 ≡ 48 → length symbols ≡ 1) → are_digits symbols ≡ true → number ≡ decimal_value symbols → number < 2 ^ 64 → symbols ≡ decimal number
+numeral_whole : (symbols : List ℕ) (number : ℕ) → 0 < length symbols → (get_or symbols 0 0 ≡ 48 → length symbols ≡ 1)
+    → are_digits symbols ≡ true → number ≡ decimal_value symbols → number < 2 ^ 64 → symbols ≡ decimal number
 numeral_whole symbols number n z d v small =
     let e = decimal-digits_value own symbols d n z (rw (← v) small) in
     sym e ∙ ap decimal (sym v)
 
 -- digits of one count that write one number are the same
 
-same_after : (m n : ℕ) (xs ys : List ℕ) → length xs ≡ length ys → are_digits xs ≡ true → are_digits ys ≡ true → value_after m xs ≡ value_after n ys → (m ≡ n) × (xs ≡ ys)
+same_after : (m n : ℕ) (xs ys : List ℕ) → length xs ≡ length ys → are_digits xs ≡ true → are_digits ys ≡ true
+    → value_after m xs ≡ value_after n ys → (m ≡ n) × (xs ≡ ys)
 same_after m n [] [] l a b e = (e, refl)
 same_after m n [] (y ∷ ys) l a b e = absurd (omega arith)
 same_after m n (x ∷ xs) [] l a b e = absurd (omega arith)
@@ -149,7 +155,8 @@ pub record Pads (n number place : ℕ) (digits : List ℕ) : Type 0 where
 pub pads_start : (n number : ℕ) → number < 10 ^ n → Pads n number n []
 pads_start n number h = record { count = omega arith; all_digits = refl; value = sym (div-eq_of_lt h) }
 
-pub pads_step : (n number place digit : ℕ) (digits : List ℕ) → Pads n number (suc place) digits → digit ≡ number / 10 ^ place % 10 → Pads n number place (digits ++ (48 + digit) ∷ [])
+pub pads_step : (n number place digit : ℕ) (digits : List ℕ) → Pads n number (suc place) digits → digit ≡ number / 10 ^ place % 10
+    → Pads n number place (digits ++ (48 + digit) ∷ [])
 pads_step n number place digit digits p e =
     let few : digit < 10 = omega arith in
     record {
@@ -175,7 +182,8 @@ pads_end n number digits p =
 
 padded_from : (n number place : ℕ) (digits : List ℕ) → Pads n number place digits → (all : List ℕ) × Pads n number 0 all
 padded_from n number zero digits p = (digits, p)
-padded_from n number (suc place) digits p = padded_from n number place (digits ++ (48 + number / 10 ^ place % 10) ∷ []) (pads_step n number place (number / 10 ^ place % 10) digits p refl)
+padded_from n number (suc place) digits p = padded_from n number place (digits ++ (48 + number / 10 ^ place % 10) ∷ [])
+    (pads_step n number place (number / 10 ^ place % 10) digits p refl)
 
 -- there are n digits of each number below 10 to the n
 pub some_padded : (n number : ℕ) → number < 10 ^ n → (digits : List ℕ) × IsPadded n number digits
@@ -197,7 +205,8 @@ fills_value left power behind number h =
     let around : left / 10 * 10 * power ≡ left / 10 * (10 * power) = mul_assoc (left / 10) 10 power in
     omega arith
 
-pub fills_step : (n number place left : ℕ) (digits : List ℕ) → place < length digits → Fills n number (place + 1) left digits → Fills n number place (left / 10) (set digits place (48 + left % 10))
+pub fills_step : (n number place left : ℕ) (digits : List ℕ) → place < length digits → Fills n number (place + 1) left digits
+    → Fills n number place (left / 10) (set digits place (48 + left % 10))
 fills_step n number place left digits low f =
     let digit = 48 + left % 10 in
     record {
@@ -248,13 +257,16 @@ pub padded_decimal : (number n : ℕ) (digits : List ℕ) → number < 2 ^ 64 �
 padded_decimal number n digits small e p =
     same_digits digits (decimal number) (p.count ∙ e) p.all_digits (digits_of_decimal number small) (p.value ∙ sym (value_decimal number small))
 
-pub too_great : (symbols : List ℕ) (i number limit whole : ℕ) → i < length symbols → value_after number (drop i symbols) ≡ whole → limit ≤ 10 * number + (get_or symbols i 0 - 48) → whole < limit → ⊥
+pub too_great : (symbols : List ℕ) (i number limit whole : ℕ) → i < length symbols → value_after number (drop i symbols) ≡ whole
+    → limit ≤ 10 * number + (get_or symbols i 0 - 48) → whole < limit → ⊥
 too_great symbols i number limit whole l v h small =
     let s = value_step symbols i number l in
     let g = value_grows (10 * number + (get_or symbols i 0 - 48)) (drop (i + 1) symbols) in
     omega arith
 
-pub numeral_is : (symbols : List ℕ) (number : ℕ) (empty zero_first : Bool) → empty ≡ eqb (length symbols) 0 → empty ≡ false → zero_first ≡ (leb 2 (length symbols) && eqb (get_or symbols 0 0) 48) → zero_first ≡ false → are_digits symbols ≡ true → number ≡ decimal_value symbols → number < 2 ^ 64 → symbols ≡ decimal number
+pub numeral_is : (symbols : List ℕ) (number : ℕ) (empty zero_first : Bool) → empty ≡ eqb (length symbols) 0 → empty ≡ false
+    → zero_first ≡ (leb 2 (length symbols) && eqb (get_or symbols 0 0) 48) → zero_first ≡ false → are_digits symbols ≡ true
+    → number ≡ decimal_value symbols → number < 2 ^ 64 → symbols ≡ decimal number
 numeral_is symbols number empty zero_first e f z g d v small =
     let some : 0 < length symbols = grind (arith, nat_tests) in
     let alone : get_or symbols 0 0 ≡ 48 → length symbols ≡ 1 = λ h.
@@ -262,11 +274,15 @@ numeral_is symbols number empty zero_first e f z g d v small =
     grind (arith, nat_tests) in
     numeral_whole symbols number some alone d v small
 
-pub numeral_gives : (symbols : List ℕ) (result : Option ℕ) (empty zero_first : Bool) → empty ≡ eqb (length symbols) 0 → empty ≡ false → zero_first ≡ (leb 2 (length symbols) && eqb (get_or symbols 0 0) 48) → zero_first ≡ false → SomeIff result (WritesSmall 0 symbols) (number_behind 0 symbols) → IfSome result (λ number. symbols ≡ decimal number)
-numeral_gives symbols (Some number) empty zero_first e f z g h = numeral_is symbols number empty zero_first e f z g h.0.0 (let v = h.1 in omega arith) (let s = h.0.1 in let v = h.1 in omega arith)
+pub numeral_gives : (symbols : List ℕ) (result : Option ℕ) (empty zero_first : Bool) → empty ≡ eqb (length symbols) 0 → empty ≡ false
+    → zero_first ≡ (leb 2 (length symbols) && eqb (get_or symbols 0 0) 48) → zero_first ≡ false
+    → SomeIff result (WritesSmall 0 symbols) (number_behind 0 symbols) → IfSome result (λ number. symbols ≡ decimal number)
+numeral_gives symbols (Some number) empty zero_first e f z g h = numeral_is symbols number empty zero_first e f z g h.0.0
+    (let v = h.1 in omega arith) (let s = h.0.1 in let v = h.1 in omega arith)
 numeral_gives symbols None empty zero_first e f z g h = tt
 
-pub numeral_lacks : (symbols : List ℕ) (result : Option ℕ) → SomeIff result (WritesSmall 0 symbols) (number_behind 0 symbols) → IfNone result ((number : ℕ) → number < 2 ^ 64 → symbols ≡ decimal number → ⊥)
+pub numeral_lacks : (symbols : List ℕ) (result : Option ℕ) → SomeIff result (WritesSmall 0 symbols) (number_behind 0 symbols)
+    → IfNone result ((number : ℕ) → number < 2 ^ 64 → symbols ≡ decimal number → ⊥)
 numeral_lacks symbols (Some number) h = tt
 numeral_lacks symbols None h = λ number small e.
     h (ap are_digits e ∙ digits_of_decimal number small, let v = ap decimal_value e ∙ value_decimal number small in omega arith)

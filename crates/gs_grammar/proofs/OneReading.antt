@@ -16,13 +16,15 @@ each_fixes items values values' words (one_item item value w others rest words' 
     let tail = each_fixes others rest rest' words' t t' in
     cc
 
-same_values : (items items' : List Item) (values values' words words' : List (List ℕ)) → items' ≡ items → words' ≡ words → EachWord items values words → EachWord items' values' words' → values ≡ values'
+same_values : (items items' : List Item) (values values' words words' : List (List ℕ)) → items' ≡ items → words' ≡ words
+    → EachWord items values words → EachWord items' values' words' → values ≡ values'
 same_values items items' values values' words words' i e a b =
     let c : EachWord items values' words = rw (i, e) at b in
     each_fixes items values values' words a c
 
 -- the only derivation has one option and one list of values
-pub one_reading : (level : List (List Item)) (w : List ℕ) (option option' : ℕ) (values values' : List (List ℕ)) → OneDerivation level w option values → OneDerivation level w option' values' → (option ≡ option') × (values ≡ values')
+pub one_reading : (level : List (List Item)) (w : List ℕ) (option option' : ℕ) (values values' : List (List ℕ))
+    → OneDerivation level w option values → OneDerivation level w option' values' → (option ≡ option') × (values ≡ values')
 one_reading level w option option' values values' one other =
     let d = one.derivation in
     let e = other.derivation in

@@ -50,7 +50,8 @@ same_behind xs ys a b e =
     same_digits xs ys count a b (omega arith)
 
 -- the digits after the 1 of a number
-pub padded_behind : (count number : ℕ) (digits : List ℕ) → IsOneBehind count number → IsPadded count (number - 10 ^ count) digits → decimal_value (49 ∷ digits) ≡ number
+pub padded_behind : (count number : ℕ) (digits : List ℕ) → IsOneBehind count number → IsPadded count (number - 10 ^ count) digits
+    → decimal_value (49 ∷ digits) ≡ number
 padded_behind count number digits h p =
     let from = h.from in
     let value = p.value in
@@ -64,7 +65,8 @@ pub some_behind : (count number : ℕ) → IsOneBehind count number → (digits 
 some_behind count number h = some_padded count (number - 10 ^ count) (behind_small count number h)
 
 -- a number of no digits, or of too many, is not a 1 followed by 1 to that many digits
-pub none_behind : (power most number : ℕ) → (0 < number → 10 ^ power ≤ number) → number < 10 * 10 ^ power → ((1 ≤ power) → (power ≤ most) → number < 2 * 10 ^ power → ⊥) → (count : ℕ) → 1 ≤ count → count ≤ most → IsOneBehind count number → ⊥
+pub none_behind : (power most number : ℕ) → (0 < number → 10 ^ power ≤ number) → number < 10 * 10 ^ power
+    → ((1 ≤ power) → (power ≤ most) → number < 2 * 10 ^ power → ⊥) → (count : ℕ) → 1 ≤ count → count ≤ most → IsOneBehind count number → ⊥
 none_behind power most number a b none count c d h =
     let from = h.from in
     let some = one-le-pow count 10 (omega arith) in
@@ -81,7 +83,8 @@ power_small power n few e =
     (omega arith, omega arith)
 
 -- a number of more than one digit is at least the power of ten that begins its count
-pub counted : (power number : ℕ) → 0 < power → power + 1 ≡ length (decimal number) → (0 < number → 10 ^ power ≤ number) → number < 2 * 10 ^ power → IsOneBehind power number
+pub counted : (power number : ℕ) → 0 < power → power + 1 ≡ length (decimal number) → (0 < number → 10 ^ power ≤ number)
+    → number < 2 * 10 ^ power → IsOneBehind power number
 counted power number some count from below = elim (cases_eq number 0) as (λ _. IsOneBehind power number) [
   | inl e ↦ absurd (let one = ap (λ (n : ℕ). length (decimal n)) e ∙ count_of_zero in omega arith)
   | inr n ↦ record { from = from (omega arith); below = below }

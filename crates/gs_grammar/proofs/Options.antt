@@ -28,7 +28,8 @@ get_cases (z ∷ xs) y x (suc k) h = elim (get_cases xs y x k h) as (λ _. (slic
 abbrev lifted : (level more : List (List Item)) (w : List ℕ) → Derivation level w → Derivation (level ++ more) w
 lifted level more w d = record { option = d.option; items = d.items; values = d.values; words = d.words; of_level = place_left level more d.option d.items d.of_level; derives = d.derives }
 
-abbrev last_derivation : (level : List (List Item)) (items : List Item) (w : List ℕ) (values words : List (List ℕ)) → Derives items w values words → Derivation (level ++ items ∷ []) w
+abbrev last_derivation : (level : List (List Item)) (items : List Item) (w : List ℕ) (values words : List (List ℕ))
+    → Derives items w values words → Derivation (level ++ items ∷ []) w
 last_derivation level items w values words d = record { option = length level; items = items; values = values; words = words; of_level = get_last level items; derives = d }
 
 -- the cases of a derivation of all options: one of the options before, or one by the last option
@@ -42,22 +43,26 @@ record ByFront (level : List (List Item)) (w : List ℕ) (option : ℕ) (words :
   words_are : derivation.words ≡ words
   before : option < length level
 
-by_cases : (level : List (List Item)) (items : List Item) (w : List ℕ) (d : Derivation (level ++ items ∷ []) w) → ByFront level w d.option d.words ⊎ ByLast level items w d.option d.values d.words
-by_cases level items w d = elim (get_cases level items d.items d.option d.of_level) as (λ _. ByFront level w d.option d.words ⊎ ByLast level items w d.option d.values d.words) [
-  | inl e ↦ inl (record { derivation = record { option = d.option; items = d.items; values = d.values; words = d.words; of_level = e; derives = d.derives }; option_is = refl; words_are = refl; before = slice_get_within level d.option d.items e })
-  | inr l ↦ inr (record { place = l.place; derives = rw l.item at d.derives })
-]
+by_cases : (level : List (List Item)) (items : List Item) (w : List ℕ) (d : Derivation (level ++ items ∷ []) w)
+    → ByFront level w d.option d.words ⊎ ByLast level items w d.option d.values d.words
+by_cases level items w d = elim (get_cases level items d.items d.option d.of_level) as
+    (λ _. ByFront level w d.option d.words ⊎ ByLast level items w d.option d.values d.words) [
+      | inl e ↦ inl (record { derivation = record { option = d.option; items = d.items; values = d.values; words = d.words; of_level = e; derives = d.derives }; option_is = refl; words_are = refl; before = slice_get_within level d.option d.items e })
+      | inr l ↦ inr (record { place = l.place; derives = rw l.item at d.derives })
+    ]
 
 pub level_start : (w : List ℕ) → FindsInLevel [] w NoOption
 level_start w d = let e : None ≡ Some d.items = d.of_level in cc
 
-still_none : (level : List (List Item)) (items : List Item) (w : List ℕ) → (Derivation level w → ⊥) → (IsDerived items w → ⊥) → Derivation (level ++ items ∷ []) w → ⊥
+still_none : (level : List (List Item)) (items : List Item) (w : List ℕ) → (Derivation level w → ⊥) → (IsDerived items w → ⊥)
+    → Derivation (level ++ items ∷ []) w → ⊥
 still_none level items w h none d = elim (by_cases level items w d) as (λ _. ⊥) [
   | inl f ↦ h f.derivation
   | inr l ↦ none (record { values = d.values; words = d.words; derives = l.derives })
 ]
 
-still_one : (level : List (List Item)) (items : List Item) (w : List ℕ) (option : ℕ) (values : List (List ℕ)) → OneDerivation level w option values → (IsDerived items w → ⊥) → OneDerivation (level ++ items ∷ []) w option values
+still_one : (level : List (List Item)) (items : List Item) (w : List ℕ) (option : ℕ) (values : List (List ℕ))
+    → OneDerivation level w option values → (IsDerived items w → ⊥) → OneDerivation (level ++ items ∷ []) w option values
 still_one level items w option values h none =
     record {
       derivation = lifted level (items ∷ []) w h.derivation;
@@ -69,7 +74,8 @@ still_one level items w option values h none =
       ];
     }
 
-now_one : (level : List (List Item)) (items : List Item) (w : List ℕ) → (Derivation level w → ⊥) → (o : Finds items w Once) → OneDerivation (level ++ items ∷ []) w (length level) o.values
+now_one : (level : List (List Item)) (items : List Item) (w : List ℕ) → (Derivation level w → ⊥) → (o : Finds items w Once)
+    → OneDerivation (level ++ items ∷ []) w (length level) o.values
 now_one level items w h o =
     record {
       derivation = last_derivation level items w o.values o.words o.derives;
@@ -89,7 +95,8 @@ now_two level items w t =
       differ = λ s. t.differ s.words;
     }
 
-one_and_last : (level : List (List Item)) (items : List Item) (w : List ℕ) (d : Derivation level w) (e : IsDerived items w) → TwoDerivations (level ++ items ∷ []) w
+one_and_last : (level : List (List Item)) (items : List Item) (w : List ℕ) (d : Derivation level w) (e : IsDerived items w)
+    → TwoDerivations (level ++ items ∷ []) w
 one_and_last level items w d e =
     record {
       one = lifted level (items ∷ []) w d;
@@ -107,11 +114,13 @@ still_two level more w t =
     }
 
 -- one option more
-pub level_step : (level : List (List Item)) (items : List Item) (w : List ℕ) (found : FoundOption) (more : Found) → FindsInLevel level w found → Finds items w more → FindsInLevel (level ++ items ∷ []) w (joined_option found (length level) more)
+pub level_step : (level : List (List Item)) (items : List Item) (w : List ℕ) (found : FoundOption) (more : Found)
+    → FindsInLevel level w found → Finds items w more → FindsInLevel (level ++ items ∷ []) w (joined_option found (length level) more)
 level_step level items w NoOption Never h m = still_none level items w h m
 level_step level items w NoOption Once h m = (m.values, now_one level items w h m)
 level_step level items w NoOption Twice h m = now_two level items w m
 level_step level items w (OneOption before) Never h m = (h.0, still_one level items w before h.0 h.1 m)
-level_step level items w (OneOption before) Once h m = one_and_last level items w h.1.derivation (record { values = m.values; words = m.words; derives = m.derives })
+level_step level items w (OneOption before) Once h m = one_and_last level items w h.1.derivation
+    (record { values = m.values; words = m.words; derives = m.derives })
 level_step level items w (OneOption before) Twice h m = now_two level items w m
 level_step level items w TwoReadings more h m = still_two level (items ∷ []) w h

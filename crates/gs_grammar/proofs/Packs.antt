@@ -2,12 +2,11 @@
 use Rattle.std.proofs.Common.{◌≡◌, ℕ, ◌<◌, ◌≤◌, ◌+◌, ◌*◌, ◌^◌, ◌&&◌, true, false, List, [], ◌∷◌, ◌++◌, length, take, drop, replicate, refl, sym, ◌∙◌, ap, subst, arith, add-one, get_or, length-append, All, eqb, leb, inl, inr}
 use Rattle.std.specs.List.{list_all, list_any, flat_map}
 use Rattle.std.proofs.Math.Nat.{mod-eq_of_lt, pow-succ'}
-use Rattle.std.proofs.lemmas.Bool.{leb-true}
+use Rattle.std.proofs.lemmas.Bool.{leb-true, and_parts}
 use Rattle.std.proofs.lemmas.Bool.Decides.{eqb_tells}
 use Rattle.std.proofs.lemmas.List.{take_more, take_at, drop_at, take-append-drop, append_assoc, length-drop, length-replicate, append-nil, take_all}
 use Rattle.std.proofs.lemmas.List.Elements.{All-append, All-get_or, All-cons, All-nil, All-head, All-tail, All-take, All-replicate}
 use Rattle.gs_chars.specs.Characters.{is_in_set82, are_in_set82, set82}
-use Rattle.gs_chars.proofs.TruthsAndLists.{and_parts}
 use Rattle.gs_bits.specs.Bits.{AreBits, number_of, bits_of}
 use Rattle.gs_bits.specs.BitLaws.{length-bits_of, AreBits-bits_of, number_of-bits_of, number_of-append, number_of-below, bits_of-number_of}
 use Rattle.gs_grammar.specs.Words.{WritesNumber, IsPacked, PacksMany}

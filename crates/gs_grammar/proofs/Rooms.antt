@@ -18,7 +18,8 @@ no_low_room number high low bits e b h =
     grind (arith, nat_tests)
 
 -- its room is that of the higher part
-pub high_room : (number high low bits : ℕ) → 2 ^ 128 * high + low ≡ number → low < 2 ^ 128 → 128 ≤ bits → bits < 256 → ltb high (1 * 2 ^ (bits - 128) % 2 ^ 128) ≡ ltb number (2 ^ bits)
+pub high_room : (number high low bits : ℕ) → 2 ^ 128 * high + low ≡ number → low < 2 ^ 128 → 128 ≤ bits → bits < 256
+    → ltb high (1 * 2 ^ (bits - 128) % 2 ^ 128) ≡ ltb number (2 ^ bits)
 high_room number high low bits e small b c =
     let split : 2 ^ (128 + (bits - 128)) ≡ 2 ^ 128 * 2 ^ (bits - 128) = pow-add 2 128 (bits - 128) in
     let again : 128 + (bits - 128) ≡ bits = omega arith in

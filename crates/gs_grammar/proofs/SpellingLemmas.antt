@@ -39,7 +39,8 @@ first_spelling u w w' (one_more d value spelling v p t) e h =
 -- the value that a list spells is the only one
 pub spelled_fixes : (u v w w' : List ℕ) → SpellsEach u w → SpellsEach v w' → w ≡ w' → u ≡ v
 spelled_fixes u v w w' no_more no_more e = refl
-spelled_fixes u v w w' no_more (one_more d value spelling x p t) e = absurd (let b = spelling_bounds d spelling p in let l = ap length e in let m = length-append spelling x in omega arith)
+spelled_fixes u v w w' no_more (one_more d value spelling x p t) e = absurd
+    (let b = spelling_bounds d spelling p in let l = ap length e in let m = length-append spelling x in omega arith)
 spelled_fixes u v w w' (one_more d value spelling x p t) s e =
     let g = unspell v w' spelling x d s p (sym e) in
     ap (λ y. d ∷ y) (spelled_fixes value g.value x x t g.spelled refl) ∙ sym g.whole
@@ -61,7 +62,8 @@ spelled_alike v w (one_more c value spelling x (inl p) t) e =
     let one = ap length p.1 in
     let rest = spelled_alike value x t (omega arith) in
     rw (p.1, rest) refl
-spelled_alike v w (one_more c value spelling x (inr q) t) e = absurd (let l = spelled_length value x t in let three = ap length q.1.text in let m = length-append spelling x in omega arith)
+spelled_alike v w (one_more c value spelling x (inr q) t) e = absurd
+    (let l = spelled_length value x t in let three = ap length q.1.text in let m = length-append spelling x in omega arith)
 
 -- one more character at the start
 one_in_front : (c used : ℕ) (v rest : List ℕ) → BeginsWithSpelling rest c used → SpellsEach v (drop used rest) → SpellsEach (c ∷ v) rest
@@ -115,7 +117,8 @@ counts_end w rest n k e =
     let r = k.back [] (rw nil no_more) in
     record { value = r.value; spelled = r.spelled; count = let l = r.count in omega arith }
 
-pub counts_none : (w rest : List ℕ) (n : ℕ) → Counts w rest n → 0 < length rest → ((c len : ℕ) → BeginsWithSpelling rest c len → ⊥) → (u : List ℕ) → SpellsEach u w → ⊥
+pub counts_none : (w rest : List ℕ) (n : ℕ) → Counts w rest n → 0 < length rest → ((c len : ℕ) → BeginsWithSpelling rest c len → ⊥)
+    → (u : List ℕ) → SpellsEach u w → ⊥
 counts_none w rest n k h none u s =
     let r = k.forth u s in
     let b = first_spelling r.value rest rest r.spelled refl h in
@@ -138,11 +141,13 @@ gathers_end w rest out k e =
     let t = k.back [] (rw nil no_more) in
     rw append-nil at t
 
-pub gathers_none : (w rest out : List ℕ) → Gathers w rest out → 0 < length rest → ((c len : ℕ) → BeginsWithSpelling rest c len → ⊥) → (u : List ℕ) → SpellsEach u w → ⊥
+pub gathers_none : (w rest out : List ℕ) → Gathers w rest out → 0 < length rest → ((c len : ℕ) → BeginsWithSpelling rest c len → ⊥)
+    → (u : List ℕ) → SpellsEach u w → ⊥
 gathers_none w rest out k = counts_none w rest (length out) k.counts
 
 -- a value has more characters than those so far if the rest is not empty
-pub gathers_more : (w rest out : List ℕ) (count : ℕ) → Gathers w rest (take count out) → length out ≡ 64 → count ≡ 64 → 0 < length rest → (u : List ℕ) → length u ≤ 64 → SpellsEach u w → ⊥
+pub gathers_more : (w rest out : List ℕ) (count : ℕ) → Gathers w rest (take count out) → length out ≡ 64 → count ≡ 64 → 0 < length rest
+    → (u : List ℕ) → length u ≤ 64 → SpellsEach u w → ⊥
 gathers_more w rest out count k room full some u few s =
     let r = k.counts.forth u s in
     let long = length-take-le count out (omega arith) in

@@ -3,11 +3,11 @@ use Rattle.std.proofs.Common.{◌≡◌, ℕ, ◌↔◌, ◌<◌, ◌≤◌, ◌
 use Rattle.std.specs.Int.{from_bool}
 use Rattle.std.specs.List.{flat_map, list_all, position, slice_get}
 use Rattle.std.proofs.Math.Pow.{pow_mono}
-use Rattle.std.proofs.lemmas.Bool.{cases_eq, ltb-true}
+use Rattle.std.proofs.lemmas.Bool.{cases_eq, ltb-true, and_parts}
 use Rattle.std.proofs.lemmas.List.{drop_more, drop_all, take_more, take-append-le, length-take-le, length-take, append_assoc, append-nil, length-drop, length-replicate}
 use Rattle.std.proofs.lemmas.List.Elements.{All-cons, All-nil, All-head, All-tail}
 use Rattle.gs_chars.specs.Characters.{are_in_set82, is_in_set82}
-use Rattle.gs_chars.proofs.TruthsAndLists.{and_parts, read_at}
+use Rattle.gs_chars.proofs.TruthsAndLists.{read_at}
 use Rattle.gs_bits.specs.Bits.{AreBits, bits_of, number_of}
 use Rattle.gs_bits.specs.BitLaws.{bits_of-number_of}
 use Rattle.gs_grammar.specs.declared.item.Item.{Item}
@@ -27,7 +27,8 @@ use Rattle.gs_grammar.proofs.ItemTests.{IsNumber, bits_width}
 use Rattle.gs_grammar.proofs.Numbers.{value_decimal}
 
 -- one more piece of a text
-pub flat_step : (f : ℕ → List ℕ) (t all value : List ℕ) (i : ℕ) → i < length value → t ++ flat_map f (drop i value) ≡ all → (t ++ f (get_or value i 0)) ++ flat_map f (drop (i + 1) value) ≡ all
+pub flat_step : (f : ℕ → List ℕ) (t all value : List ℕ) (i : ℕ) → i < length value → t ++ flat_map f (drop i value) ≡ all
+    → (t ++ f (get_or value i 0)) ++ flat_map f (drop (i + 1) value) ≡ all
 flat_step f t all value i l e =
     let more : flat_map f (drop i value) ≡ f (get_or value i 0) ++ flat_map f (drop (i + 1) value) = ap (flat_map f) (drop_more value i 0 l) in
     append_assoc t (f (get_or value i 0)) (flat_map f (drop (i + 1) value)) ∙ ap (λ r. t ++ r) (sym more) ∙ e
@@ -43,7 +44,8 @@ one_bit b h =
     let number : number_of (b ∷ []) ≡ b = omega arith in
     sym (ap (bits_of 1) number) ∙ bits
 
-pub symbols_step : (t all symbols : List ℕ) (i : ℕ) → i < length symbols → get_or symbols i 0 < 2 → t ++ drop i symbols ≡ all → (t ++ bits_of 1 (get_or symbols i 0)) ++ drop (i + 1) symbols ≡ all
+pub symbols_step : (t all symbols : List ℕ) (i : ℕ) → i < length symbols → get_or symbols i 0 < 2 → t ++ drop i symbols ≡ all
+    → (t ++ bits_of 1 (get_or symbols i 0)) ++ drop (i + 1) symbols ≡ all
 symbols_step t all symbols i l b e =
     let bit = one_bit (get_or symbols i 0) b in
     rw bit (append_assoc t (get_or symbols i 0 ∷ []) (drop (i + 1) symbols) ∙ ap (λ r. t ++ r) (sym (drop_more symbols i 0 l)) ∙ e)
@@ -51,7 +53,8 @@ symbols_step t all symbols i l b e =
 same_zeros : (m n : ℕ) → m ≡ n → replicate {A = ℕ} m 0 ≡ replicate {A = ℕ} n 0
 same_zeros m n e = ap (λ (k : ℕ). replicate {A = ℕ} k 0) e
 
-pub zeros_step : (t all : List ℕ) (count place : ℕ) → place < count → t ++ replicate (count - place) 0 ≡ all → (t ++ bits_of 1 0) ++ replicate (count - (place + 1)) 0 ≡ all
+pub zeros_step : (t all : List ℕ) (count place : ℕ) → place < count → t ++ replicate (count - place) 0 ≡ all
+    → (t ++ bits_of 1 0) ++ replicate (count - (place + 1)) 0 ≡ all
 zeros_step t all count place l e =
     let bit = one_bit 0 (omega arith) in
     let n : count - place ≡ suc (count - (place + 1)) = omega arith in
@@ -72,7 +75,8 @@ bit_is false zero l h = refl
 bit_is false (suc zero) l h = let f : false ≡ true = h.1 refl in cc
 bit_is false (suc (suc bit)) l h = absurd (omega arith)
 
-pub first_step : (t bits : List ℕ) (place : ℕ) (value : Bool) → t ≡ take place bits → place < length bits → AreBits bits → IsTrue value ↔ (get_or bits place 0 ≡ 1) → t ++ bits_of 1 (from_bool value) ≡ take (place + 1) bits
+pub first_step : (t bits : List ℕ) (place : ℕ) (value : Bool) → t ≡ take place bits → place < length bits → AreBits bits
+    → IsTrue value ↔ (get_or bits place 0 ≡ 1) → t ++ bits_of 1 (from_bool value) ≡ take (place + 1) bits
 first_step t bits place value e l b h =
     let bit = bit_is value (get_or bits place 0) (b place 0 l) h in
     let one = one_bit (get_or bits place 0) (b place 0 l) in
@@ -86,7 +90,9 @@ first_room t bits place total e l r =
 
 -- items that hold their values, one by one
 
-pub held_step : (items : List Item) (values : List (List ℕ)) (k : ℕ) (item : Item) (value : List ℕ) → AreHeldBefore items values k → k < length items → k < length values → item ≡ get_or items k item → value ≡ get_or values k value → why_not item value ≡ None → AreHeldBefore items values (k + 1)
+pub held_step : (items : List Item) (values : List (List ℕ)) (k : ℕ) (item : Item) (value : List ℕ) → AreHeldBefore items values k
+    → k < length items → k < length values → item ≡ get_or items k item → value ≡ get_or values k value → why_not item value ≡ None
+    → AreHeldBefore items values (k + 1)
 held_step items values k item value h l m e f n j other v b p q = elim (cases_eq j k) as (λ _. why_not other v ≡ None) [
   | inl s ↦
       let i : Some other ≡ Some item = sym (rw s at p) ∙ read_at items k item l e in
@@ -97,20 +103,25 @@ held_step items values k item value h l m e f n j other v b p q = elim (cases_eq
   | inr d ↦ h j other v (omega arith) p q
 ]
 
-pub rejected_at : (items : List Item) (values : List (List ℕ)) (k : ℕ) (item : Item) (value : List ℕ) (why : Why) → AreHeldBefore items values k → k < length items → k < length values → item ≡ get_or items k item → value ≡ get_or values k value → why_not item value ≡ Some why → IsFirstRejection items values k why
+pub rejected_at : (items : List Item) (values : List (List ℕ)) (k : ℕ) (item : Item) (value : List ℕ) (why : Why)
+    → AreHeldBefore items values k → k < length items → k < length values → item ≡ get_or items k item → value ≡ get_or values k value
+    → why_not item value ≡ Some why → IsFirstRejection items values k why
 rejected_at items values k item value why h l m e f r = record { item = item; value = value; item_at = read_at items k item l e; value_at = read_at values k value m f; reason = r; before = h }
 
 pub held_all : (items : List Item) (values : List (List ℕ)) (k : ℕ) → AreHeldBefore items values k → length items ≤ k → AreHeld items values
 held_all items values k h l j item value b p q = h j item value (omega arith) p q
 
-pub bounds_at : (bit_level level : Bool) (items : List Item) (k : ℕ) (item : Item) → level ≡ bit_level → position (is_bad level) items ≡ None → k < length items → item ≡ get_or items k item → is_in_bounds bit_level item ≡ true
+pub bounds_at : (bit_level level : Bool) (items : List Item) (k : ℕ) (item : Item) → level ≡ bit_level
+    → position (is_bad level) items ≡ None → k < length items → item ≡ get_or items k item → is_in_bounds bit_level item ≡ true
 bounds_at bit_level level items k item s h l e =
     let b = none_bad level items h k item l in
     let c : is_in_bounds level item ≡ true = rw (← e) at b in
     rw s at c
 
 -- one more word
-pub word_step : (items : List Item) (values : List (List ℕ)) (k : ℕ) (item : Item) (value t all : List ℕ) → k < length items → k < length values → item ≡ get_or items k item → value ≡ get_or values k value → t ++ written (drop k items) (drop k values) ≡ all → (t ++ written_word item value) ++ written (drop (k + 1) items) (drop (k + 1) values) ≡ all
+pub word_step : (items : List Item) (values : List (List ℕ)) (k : ℕ) (item : Item) (value t all : List ℕ) → k < length items
+    → k < length values → item ≡ get_or items k item → value ≡ get_or values k value → t ++ written (drop k items) (drop k values) ≡ all
+    → (t ++ written_word item value) ++ written (drop (k + 1) items) (drop (k + 1) values) ≡ all
 word_step items values k item value t all l m e f h =
     let i : drop k items ≡ item ∷ drop (k + 1) items = drop_more items k item l ∙ ap (λ (x : Item). x ∷ drop (k + 1) items) (sym e) in
     let v : drop k values ≡ value ∷ drop (k + 1) values = drop_more values k value m ∙ ap (λ (x : List ℕ). x ∷ drop (k + 1) values) (sym f) in
@@ -125,18 +136,21 @@ front_step first t w e =
     let within : length first ≤ length t = omega arith in
     take-append-le (length first) t w within ∙ e
 
-pub words_end : (items : List Item) (values : List (List ℕ)) (k : ℕ) (t all : List ℕ) → length items ≤ k → t ++ written (drop k items) (drop k values) ≡ all → t ≡ all
+pub words_end : (items : List Item) (values : List (List ℕ)) (k : ℕ) (t all : List ℕ) → length items ≤ k
+    → t ++ written (drop k items) (drop k values) ≡ all → t ≡ all
 words_end items values k t all l h =
     let none : drop k items ≡ [] = drop_all k items l in
     let empty : written (drop k items) (drop k values) ≡ [] = rw none refl in
     sym (append-nil t) ∙ ap (λ r. t ++ r) (sym empty) ∙ h
 
-pub sizes_step : (items : List Item) (k : ℕ) (item : Item) → k < length items → item ≡ get_or items k item → size_of_all (drop k items) ≡ size_of item + size_of_all (drop (k + 1) items)
+pub sizes_step : (items : List Item) (k : ℕ) (item : Item) → k < length items → item ≡ get_or items k item
+    → size_of_all (drop k items) ≡ size_of item + size_of_all (drop (k + 1) items)
 sizes_step items k item l e =
     let i : drop k items ≡ item ∷ drop (k + 1) items = drop_more items k item l ∙ ap (λ (x : Item). x ∷ drop (k + 1) items) (sym e) in
     ap size_of_all i
 
-pub written_size : (bit_level : Bool) (item : Item) (value : List ℕ) → is_in_bounds bit_level item ≡ true → why_not item value ≡ None → length (written_word item value) ≤ size_of item
+pub written_size : (bit_level : Bool) (item : Item) (value : List ℕ) → is_in_bounds bit_level item ≡ true → why_not item value ≡ None
+    → length (written_word item value) ≤ size_of item
 written_size bit_level item value b h =
     let i = of_level bit_level item b in
     (word_length item value (written_word item value) i (held_word item value (greatest_small item i) h)).1
@@ -145,7 +159,8 @@ written_size bit_level item value b h =
 pub shift : (item : Item) (items : List Item) (value : List ℕ) (values : List (List ℕ)) → AreHeld (item ∷ items) (value ∷ values) → AreHeld items values
 shift item items value values h k other v l p q = h (suc k) other v (omega arith) p q
 
-pub written_derives : (items : List Item) (values : List (List ℕ)) → All IsItem items → length values ≡ length items → AreHeld items values → Derives items (written items values) values (written_words items values)
+pub written_derives : (items : List Item) (values : List (List ℕ)) → All IsItem items → length values ≡ length items → AreHeld items values
+    → Derives items (written items values) values (written_words items values)
 written_derives [] [] i l h = record { each = no_item; joined = refl }
 written_derives [] (value ∷ values) i l h = absurd (omega arith)
 written_derives (item ∷ items) [] i l h = absurd (omega arith)
@@ -174,13 +189,15 @@ lit_bits item literal i b =
     let k : is_in_bounds true (Lit literal) ≡ true = rw i at b in
     bits_all literal (and_parts (is_between 1 64 (length literal)) (list_all (is_symbol true) literal) k).1
 
-numpad_held : (bits n : ℕ) (value : List ℕ) → is_in_bounds true (NumPad bits n) ≡ true → why_not (NumPad bits n) value ≡ None → (bits ≤ 64) × (decimal_value value < 2 ^ bits)
+numpad_held : (bits n : ℕ) (value : List ℕ) → is_in_bounds true (NumPad bits n) ≡ true → why_not (NumPad bits n) value ≡ None
+    → (bits ≤ 64) × (decimal_value value < 2 ^ bits)
 numpad_held bits n value b h =
     let g = of_level true (NumPad bits n) b in
     let w = held_word (NumPad bits n) value (greatest_small (NumPad bits n) g) h in
     ((numpad_bounds bits n g).1, w.2.fits)
 
-num_held : (bits greatest : ℕ) (value : List ℕ) → is_in_bounds true (Num bits greatest) ≡ true → why_not (Num bits greatest) value ≡ None → (bits ≤ 64) × (decimal_value value < 2 ^ bits)
+num_held : (bits greatest : ℕ) (value : List ℕ) → is_in_bounds true (Num bits greatest) ≡ true → why_not (Num bits greatest) value ≡ None
+    → (bits ≤ 64) × (decimal_value value < 2 ^ bits)
 num_held bits greatest value b h =
     let g = of_level true (Num bits greatest) b in
     let w = held_word (Num bits greatest) value (greatest_small (Num bits greatest) g) h in
@@ -191,14 +208,16 @@ num_held bits greatest value b h =
     let value_is : decimal_value value ≡ w.0 = ap decimal_value w.1.0.text ∙ value_decimal w.0 (omega arith) in
     (m.1, omega arith)
 
-numstr_held : (bits hi : ℕ) (value : List ℕ) → is_in_bounds true (NumStr bits hi) ≡ true → why_not (NumStr bits hi) value ≡ None → (bits ≤ 64) × (decimal_value (49 ∷ value) < 2 ^ bits)
+numstr_held : (bits hi : ℕ) (value : List ℕ) → is_in_bounds true (NumStr bits hi) ≡ true → why_not (NumStr bits hi) value ≡ None
+    → (bits ≤ 64) × (decimal_value (49 ∷ value) < 2 ^ bits)
 numstr_held bits hi value b h =
     let g = of_level true (NumStr bits hi) b in
     let w = held_word (NumStr bits hi) value (greatest_small (NumStr bits hi) g) h in
     (bits_width (NumStr bits hi) bits (inr (inr (hi, refl))) g, w.2.fits)
 
 -- a number in bits that an item holds has room in them
-number_held : (item : Item) (bits : ℕ) (value : List ℕ) → IsNumber item bits → is_in_bounds true item ≡ true → why_not item value ≡ None → (bits ≤ 64) × (number_of_value item value < 2 ^ bits)
+number_held : (item : Item) (bits : ℕ) (value : List ℕ) → IsNumber item bits → is_in_bounds true item ≡ true → why_not item value ≡ None
+    → (bits ≤ 64) × (number_of_value item value < 2 ^ bits)
 number_held item bits value (inl i) b h = rw i.1 (numpad_held bits i.0 value (rw i.1 at b) (rw i.1 at h))
 number_held item bits value (inr (inl i)) b h = rw i.1 (num_held bits i.0 value (rw i.1 at b) (rw i.1 at h))
 number_held item bits value (inr (inr i)) b h = rw i.1 (numstr_held bits i.0 value (rw i.1 at b) (rw i.1 at h))
@@ -209,7 +228,9 @@ number_written item bits value (inr (inl i)) = rw i.1 refl
 number_written item bits value (inr (inr i)) = rw i.1 refl
 
 -- of each kind the written word is the number of the value in these bits
-pub bits_held : (item : Item) (bits number : ℕ) (value : List ℕ) → IsNumber item bits → is_in_bounds true item ≡ true → why_not item value ≡ None → IsIfSmall number (number_of_value item value) → (bits ≤ 64) × (number < 2 ^ bits) × (written_word item value ≡ bits_of bits number)
+pub bits_held : (item : Item) (bits number : ℕ) (value : List ℕ) → IsNumber item bits → is_in_bounds true item ≡ true
+    → why_not item value ≡ None → IsIfSmall number (number_of_value item value)
+    → (bits ≤ 64) × (number < 2 ^ bits) × (written_word item value ≡ bits_of bits number)
 bits_held item bits number value i b h s =
     let held = number_held item bits value i b h in
     let fits = held.1 in
@@ -222,7 +243,8 @@ bits_size item bits (inl i) = ap size_of i.1
 bits_size item bits (inr (inl i)) = ap size_of i.1
 bits_size item bits (inr (inr i)) = ap size_of i.1
 
-pub ascii_held : (item : Item) (lo hi bits : ℕ) (value : List ℕ) → item ≡ Ascii7 lo hi bits → is_in_bounds true item ≡ true → why_not item value ≡ None → All (λ c. c < 128) value × (7 * length value ≤ bits)
+pub ascii_held : (item : Item) (lo hi bits : ℕ) (value : List ℕ) → item ≡ Ascii7 lo hi bits → is_in_bounds true item ≡ true
+    → why_not item value ≡ None → All (λ c. c < 128) value × (7 * length value ≤ bits)
 ascii_held item lo hi bits value i b h =
     let k = rw i at b in
     let g = of_level true (Ascii7 lo hi bits) k in
@@ -238,7 +260,9 @@ ascii_held item lo hi bits value i b h =
 pub room_of : (size out used total : ℕ) → out + size ≤ total → used ≤ size → out + used ≤ total
 room_of size out used total r u = omega arith
 
-pub characters_room : (t first value : List ℕ) (i total : ℕ) → i < length value → t ++ flat_map (bits_of 7) (drop i value) ≡ first ++ flat_map (bits_of 7) value → length first + 7 * length value ≤ total → length t + 7 ≤ total
+pub characters_room : (t first value : List ℕ) (i total : ℕ) → i < length value
+    → t ++ flat_map (bits_of 7) (drop i value) ≡ first ++ flat_map (bits_of 7) value → length first + 7 * length value ≤ total
+    → length t + 7 ≤ total
 characters_room t first value i total l e r =
     let a = length-append t (flat_map (bits_of 7) (drop i value)) in
     let b = length-append first (flat_map (bits_of 7) value) in
@@ -248,7 +272,8 @@ characters_room t first value i total l e r =
     let m = ap length e in
     omega arith
 
-pub symbols_room : (t first symbols : List ℕ) (i total : ℕ) → i < length symbols → t ++ drop i symbols ≡ first ++ symbols → length first + length symbols ≤ total → length t + 1 ≤ total
+pub symbols_room : (t first symbols : List ℕ) (i total : ℕ) → i < length symbols → t ++ drop i symbols ≡ first ++ symbols
+    → length first + length symbols ≤ total → length t + 1 ≤ total
 symbols_room t first symbols i total l e r =
     let a = length-append t (drop i symbols) in
     let b = length-append first symbols in
@@ -256,14 +281,17 @@ symbols_room t first symbols i total l e r =
     let m = ap length e in
     omega arith
 
-pub zeros_room : (t first : List ℕ) (count place total : ℕ) → place < count → t ++ replicate (count - place) 0 ≡ first ++ replicate count 0 → length first + count ≤ total → length t + 1 ≤ total
+pub zeros_room : (t first : List ℕ) (count place total : ℕ) → place < count → t ++ replicate (count - place) 0 ≡ first ++ replicate count 0
+    → length first + count ≤ total → length t + 1 ≤ total
 zeros_room t first count place total l e r =
     let a : length (t ++ replicate {A = ℕ} (count - place) 0) ≡ length t + (count - place) = length-append t (replicate {A = ℕ} (count - place) 0) ∙ ap (λ (n : ℕ). length t + n) (length-replicate {A = ℕ} (count - place) 0) in
     let b : length (first ++ replicate {A = ℕ} count 0) ≡ length first + count = length-append first (replicate {A = ℕ} count 0) ∙ ap (λ (n : ℕ). length first + n) (length-replicate {A = ℕ} count 0) in
     let m = ap length e in
     omega arith
 
-pub ascii_room : (item : Item) (lo hi bits width total : ℕ) (value out new : List ℕ) → item ≡ Ascii7 lo hi bits → width ≡ bits → length out + size_of item ≤ total → new ≡ out ++ flat_map (bits_of 7) value → 7 * length value ≤ bits → length new + (width - 7 * length value) ≤ total
+pub ascii_room : (item : Item) (lo hi bits width total : ℕ) (value out new : List ℕ) → item ≡ Ascii7 lo hi bits → width ≡ bits
+    → length out + size_of item ≤ total → new ≡ out ++ flat_map (bits_of 7) value → 7 * length value ≤ bits
+    → length new + (width - 7 * length value) ≤ total
 ascii_room item lo hi bits width total value out new i w r e f =
     let size : size_of item ≡ bits = ap size_of i in
     let m = ap length e in
@@ -271,16 +299,21 @@ ascii_room item lo hi bits width total value out new i w r e f =
     let p = packed_length value in
     omega arith
 
-pub room_now : (items : List Item) (k : ℕ) (item : Item) (out total : ℕ) → k < length items → item ≡ get_or items k item → out + size_of_all (drop k items) ≤ total → out + size_of item ≤ total
+pub room_now : (items : List Item) (k : ℕ) (item : Item) (out total : ℕ) → k < length items → item ≡ get_or items k item
+    → out + size_of_all (drop k items) ≤ total → out + size_of item ≤ total
 room_now items k item out total l e r = let s = sizes_step items k item l e in omega arith
 
-pub room_step : (items : List Item) (k : ℕ) (item : Item) (value out : List ℕ) (total : ℕ) → k < length items → item ≡ get_or items k item → is_in_bounds true item ≡ true → why_not item value ≡ None → length out + size_of_all (drop k items) ≤ total → length (out ++ written_word item value) + size_of_all (drop (k + 1) items) ≤ total
+pub room_step : (items : List Item) (k : ℕ) (item : Item) (value out : List ℕ) (total : ℕ) → k < length items → item ≡ get_or items k item
+    → is_in_bounds true item ≡ true → why_not item value ≡ None → length out + size_of_all (drop k items) ≤ total
+    → length (out ++ written_word item value) + size_of_all (drop (k + 1) items) ≤ total
 room_step items k item value out total l e b h r =
     let s = sizes_step items k item l e in
     let w = written_size true item value b h in
     let a = length-append out (written_word item value) in
     omega arith
 
-pub written_read : (level : List (List Item)) (option : ℕ) (items : List Item) (values : List (List ℕ)) → IsUnambiguous level → slice_get level option ≡ Some items → All IsItem items → length values ≡ length items → AreHeld items values → OneDerivation level (written items values) option values
+pub written_read : (level : List (List Item)) (option : ℕ) (items : List Item) (values : List (List ℕ)) → IsUnambiguous level
+    → slice_get level option ≡ Some items → All IsItem items → length values ≡ length items → AreHeld items values
+    → OneDerivation level (written items values) option values
 written_read level option items values clear at i l h =
     only_derivation level (written items values) clear (record { option = option; items = items; values = values; words = written_words items values; of_level = at; derives = written_derives items values i l h })

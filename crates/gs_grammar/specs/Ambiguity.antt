@@ -7,17 +7,17 @@ use Rattle.gs_grammar.specs.Derivations.{Derivation, AreSame, TwoDerivations}
 use Rattle.gs_grammar.specs.Items.{IsItem}
 use Rattle.gs_grammar.specs.Levels.{LevelForm, item_lists}
 
--- trusted, own: the level is ambiguous: some list of symbols has two different derivations in it
+-- trusted, own: holds if `level` is ambiguous: some list of symbols has two different derivations in it
 pub record IsAmbiguous (level : List (List Item)) : Type 0 where
   pub w : List ℕ
   pub two : TwoDerivations level w
 
--- trusted, own: the level is not ambiguous: no list of symbols has two different derivations in it
+-- trusted, own: holds if `level` is not ambiguous: no list of symbols has two different derivations in it
 abbrev pub IsUnambiguous : List (List Item) → Type 0
 IsUnambiguous level = IsAmbiguous level → ⊥
 
--- trusted, own: Holds if the two options share the list: it has a derivation by each. Two derivations by different options are
--- different; an option shares a list with itself if the list has two different derivations by it.
+-- trusted, own: Holds if options `i` and `j` share `w`: it has a derivation by each. Two derivations by different options are
+-- different. An option shares a list with itself if the list has two different derivations by it.
 pub record ShareList (level : List (List Item)) (i j : ℕ) (w : List ℕ) : Type 0 where
   pub one : Derivation level w
   pub other : Derivation level w
@@ -30,28 +30,31 @@ pub record ShareList (level : List (List Item)) (i j : ℕ) (w : List ℕ) : Typ
 abbrev pub shown_symbols : Bool → List ℕ → List ℕ
 shown_symbols bit_level w = if bit_level then map (λ bit. bit + 48) w else w
 
--- trusted, own: the pair k, l is before the pair i, j: in the order of the first option, and then of the second
+-- trusted, own: holds if the pair `k`, `l` is before the pair `i`, `j`: in the order of the first option, and then of the
+-- second
 abbrev pub StandsBefore : ℕ → ℕ → ℕ → ℕ → Type 0
 StandsBefore k l i j = (k < i) ⊎ ((k ≡ i) × (l < j))
 
--- trusted, own: Options i and j, i at most j, are the first pair of the level that shares a list, and they share this one.
+-- trusted, own: holds if options `i` and `j`, `i` at most `j`, are the first pair of `level` that shares a list, and they share
+-- `w`
 pub record IsFirstShare (level : List (List Item)) (i j : ℕ) (w : List ℕ) : Type 0 where
   pub order : i ≤ j
   pub share : ShareList level i j w
   pub first : (k l : ℕ) (v : List ℕ) → k ≤ l → StandsBefore k l i j → ShareList level k l v → ⊥
 
--- trusted, own: some pair of options is the first that shares a list
+-- trusted, own: holds if some pair of options of `level` is the first that shares a list
 pub record HasFirstShare (level : List (List Item)) : Type 0 where
   pub i : ℕ
   pub j : ℕ
   pub w : List ℕ
   pub share : IsFirstShare level i j w
 
--- trusted, own: each item of each option is within its bounds
+-- trusted, own: holds if each item of each option of `level` is within its bounds
 abbrev pub AreItems : List (List Item) → Type 0
 AreItems level = (k : ℕ) (items : List Item) → slice_get level k ≡ Some items → All IsItem items
 
--- trusted, own: Options i and j are the first pair of the level that shares a list, and the text shows one that they share.
+-- trusted, own: holds if options `i` and `j` are the first pair of `level` that shares a list, and `text` shows one that they
+-- share
 pub record ShowsFirstShare (level : LevelForm) (i j : ℕ) (text : List ℕ) : Type 0 where
   pub w : List ℕ
   pub share : IsFirstShare (item_lists level.options) i j w

@@ -3,19 +3,19 @@ use Rattle.std.specs.Prelude.{◌≡◌, ℕ, List}
 use Rattle.gs_grammar.specs.declared.item.Item.{Item}
 use Rattle.gs_grammar.specs.Derivations.{Derives}
 
--- the items derive the list, with these values
+-- holds if the items derive the list, with these values
 pub record HasValues (items : List Item) (w : List ℕ) (values : List (List ℕ)) : Type 0 where
   pub words : List (List ℕ)
   pub derives : Derives items w values words
 
--- the items derive the list in only one way
+-- holds if the items derive the list in only one way
 pub record OneWay (items : List Item) (w : List ℕ) : Type 0 where
   pub values : List (List ℕ)
   pub words : List (List ℕ)
   pub derives : Derives items w values words
   pub only : (values' words' : List (List ℕ)) → Derives items w values' words' → words' ≡ words
 
--- the items derive the list by two different lists of words
+-- holds if the items derive the list by two different lists of words
 pub record TwoWays (items : List Item) (w : List ℕ) : Type 0 where
   pub values : List (List ℕ)
   pub words : List (List ℕ)

@@ -5,16 +5,16 @@ use Rattle.gs_chars.specs.Characters.{is_visible}
 use Rattle.gs_grammar.specs.declared.item.Item.{Item}
 use Rattle.gs_grammar.specs.declared.item.Item.TheVariants.{Lit, Pad, Digits, Int, Esc, NumPad, Num, NumStr, Ascii7, Fill}
 
--- trusted, own: a symbol of a literal: a bit, 0 or 1, or a visible character
+-- trusted, own: holds if `c` is a symbol of a literal: a bit on a level of bits, otherwise a visible character
 abbrev pub is_symbol : Bool → ℕ → Bool
 is_symbol true c = nat_lt c 2
 is_symbol false c = is_visible c
 
--- trusted, own: a number is within two bounds
+-- trusted, own: holds if `n` is from `low` to `high`
 abbrev pub is_between : ℕ → ℕ → ℕ → Bool
 is_between low high n = nat_le low n && nat_le n high
 
--- trusted, own bounds: an item is one of the level and is within its bounds
+-- trusted, own bounds: holds if the item is of a level of the kind `bit_level` and is within its bounds
 abbrev pub is_in_bounds : Bool → Item → Bool
 is_in_bounds bit_level (Lit literal) = is_between 1 64 (length literal) && list_all (is_symbol bit_level) literal
 is_in_bounds bit_level (Pad n) = not bit_level && is_between 1 18 n
@@ -27,11 +27,11 @@ is_in_bounds bit_level (NumStr bits hi) = bit_level && is_between 1 12 hi && nat
 is_in_bounds bit_level (Ascii7 lo hi bits) = bit_level && nat_le 1 lo && nat_le lo hi && nat_le (7 * hi) bits && nat_le bits 448
 is_in_bounds bit_level (Fill a b) = bit_level && nat_le 1 a && nat_le a b && nat_le b 64
 
--- trusted, own: an item is of the other kind of level, or breaks a bound
+-- trusted, own: holds if `item` is of the other kind of level, or breaks a bound
 abbrev pub is_bad : Bool → Item → Bool
 is_bad bit_level item = not (is_in_bounds bit_level item)
 
--- trusted, own bounds: an item is within its bounds, on a level of its kind
+-- trusted, own bounds: holds if `item` is within its bounds, on a level of its kind
 abbrev pub IsItem : Item → Type 0
 IsItem item = IsTrue (is_in_bounds true item || is_in_bounds false item)
 

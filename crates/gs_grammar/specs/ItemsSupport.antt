@@ -14,7 +14,7 @@ greatest_of (Int most) = most
 greatest_of (Num bits most) = most
 greatest_of _ = 0
 
--- the number of a value, as an item writes it: of digits behind a 1 with it, and 0 if the item is of no number
+-- the number that an item writes of `value`: of digits after a 1 with the 1, and 0 if the item writes no number
 abbrev pub number_of_value : Item → List ℕ → ℕ
 number_of_value (Int most) value = decimal_value value
 number_of_value (NumPad bits n) value = decimal_value value
@@ -22,11 +22,11 @@ number_of_value (Num bits most) value = decimal_value value
 number_of_value (NumStr bits hi) value = decimal_value (49 ∷ value)
 number_of_value _ value = 0
 
--- a number is the whole one, if that is below 2 to the 64
+-- holds if `number` is `whole`, should this be below 2 to the 64
 abbrev pub IsIfSmall : ℕ → ℕ → Type 0
 IsIfSmall number whole = whole < 2 ^ 64 → number ≡ whole
 
--- the result is the reason, if there is one, and otherwise a number
+-- holds if the result is the reason, if there is one, and otherwise a number
 abbrev pub IsJudged : Result ℕ Why → Option Why → Type 0
 IsJudged answer reason = MatchResult answer (λ _. reason ≡ None) (λ why. reason ≡ Some why)
 

@@ -18,7 +18,7 @@ pub record LevelForm : Type 0 where
   pub bit_level : Bool
   pub options : List OptionForm
 
--- trusted, own: each option is of this kind: its symbols are bits, or they are not
+-- trusted, own: holds if each option is of the kind `bit_level`: its symbols are bits, or they are not
 abbrev pub AreOfKind : Bool → List OptionForm → Type 0
 AreOfKind bit_level options = All (λ (option : OptionForm). option.bit_level ≡ bit_level) options
 
@@ -26,14 +26,12 @@ AreOfKind bit_level options = All (λ (option : OptionForm). option.bit_level �
 abbrev pub item_lists : List OptionForm → List (List Item)
 item_lists options = map (λ (option : OptionForm). option.items) options
 
--- trusted, own: holds if the items are within every bound: none is bad, and their sizes add up to at most as many symbols as an
--- option may have
+-- trusted, own: holds if none of the items is bad, and their sizes add up to at most as many symbols as an option may have
 pub record KeepBounds (bit_level : Bool) (items : List Item) : Type 0 where
   pub none_bad : position (is_bad bit_level) items ≡ None
   pub small : size_of_all items ≤ most_symbols
 
--- trusted, own: holds if this is the rejection of the items: the first bad item, or if none is bad, a size of more symbols than
--- an option may have
+-- trusted, own: holds if the error names the first bad item, or if none is bad, a size of more symbols than an option may have
 abbrev pub IsErrorOf : Bool → List Item → OptFault → Type 0
 IsErrorOf bit_level items (BadItem k) = position (is_bad bit_level) items ≡ Some k
 IsErrorOf bit_level items Size = (position (is_bad bit_level) items ≡ None) × (most_symbols < size_of_all items)

@@ -4,7 +4,7 @@ use Rattle.gs_grammar.specs.declared.item.Item.{Item}
 use Rattle.gs_grammar.specs.Words.{Word}
 use Rattle.gs_grammar.specs.Derivations.{Derives}
 
--- the first k symbols are a word of the item, and the items after it derive the rest
+-- holds if the first k symbols are a word of the item, and the items after it derive the rest
 pub record AtCut (item : Item) (items : List Item) (w : List ℕ) (k : ℕ) : Type 0 where
   pub within : k ≤ length w
   pub value : List ℕ

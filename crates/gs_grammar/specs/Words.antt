@@ -11,54 +11,55 @@ abbrev pub decimal_value : List ℕ → ℕ
 decimal_value [] = 0
 decimal_value (digit ∷ digits) = (digit - 48) * 10 ^ length digits + decimal_value digits
 
--- trusted, TDS 2.0, sections 6.3.1, 7.1, 14.2 to 14.4: the value has from lo to hi characters
+-- trusted, TDS 2.0, sections 6.3.1, 7.1, 14.2 to 14.4: holds if `value` has from `lo` to `hi` characters
 pub record HasLength (lo hi : ℕ) (value : List ℕ) : Type 0 where
   pub least : lo ≤ length value
   pub most : length value ≤ hi
 
--- trusted, TDS 2.0, sections 6.3.1, 7.1, 14.2 to 14.4: the value is the decimal text, without leading zeros, of a number up
--- to the greatest
+-- trusted, TDS 2.0, sections 6.3.1, 7.1, 14.2 to 14.4: holds if `value` is the decimal text, without leading zeros, of
+-- `number`, which is at most `greatest`
 pub record IsNumeral (greatest number : ℕ) (value : List ℕ) : Type 0 where
   pub small : number ≤ greatest
   pub text : value ≡ decimal number
 
--- trusted, TDS 2.0, sections 6.3.1, 7.1, 14.2 to 14.4: the word joins one spelling of each character of the value
+-- trusted, TDS 2.0, sections 6.3.1, 7.1, 14.2 to 14.4: holds if the word concatenates one spelling of each character of the
+-- value
 pub data SpellsEach : List ℕ → List ℕ → Type 0 where
   no_more : SpellsEach [] []
   one_more : (c : ℕ) (value spelling w : List ℕ) → Spells c spelling → SpellsEach value w → SpellsEach (c ∷ value) (spelling ++ w)
 
--- trusted, own: the list spells a value of this many characters
+-- trusted, own: holds if `w` spells a value of `n` characters
 pub record SpellsMany (n : ℕ) (w : List ℕ) : Type 0 where
   pub value : List ℕ
   pub spelled : SpellsEach value w
   pub count : length value ≡ n
 
--- trusted, TDS 2.0, sections 6.3.1, 7.1, 14.2 to 14.4: the word is the number in exactly this many bits
+-- trusted, TDS 2.0, sections 6.3.1, 7.1, 14.2 to 14.4: holds if `w` is `number` in exactly `bits` bits
 pub record WritesNumber (bits number : ℕ) (w : List ℕ) : Type 0 where
   pub fits : number < 2 ^ bits
   pub written : w ≡ bits_of bits number
 
--- trusted, TDS 2.0, sections 6.3.1, 7.1, 14.2 to 14.4: the word is 7 bits of each character of the value, and zeros after them
+-- trusted, TDS 2.0, sections 6.3.1, 7.1, 14.2 to 14.4: holds if `value` has only the 82 characters, and `w` is 7 bits of each,
+-- and zeros after them
 pub record IsPacked (value w : List ℕ) : Type 0 where
   pub characters : IsTrue (are_in_set82 value)
   pub padding : ℕ
   pub packed : w ≡ flat_map (bits_of 7) value ++ replicate padding 0
 
--- trusted, own: the list packs a value of this many characters
+-- trusted, own: holds if `w` packs a value of `n` characters
 pub record PacksMany (n : ℕ) (w : List ℕ) : Type 0 where
   pub value : List ℕ
   pub packed : IsPacked value w
   pub count : length value ≡ n
 
--- trusted, TDS 2.0, sections 6, 7 and 14: The list of symbols is a word of the item, and this is its value. Lit: the word
--- is the literal, and the value is empty. Pad n: the value is n digits, and the word is the value. Digits lo hi: the value
--- is lo to hi digits, and the word is the value. Int max: the value is the decimal text of a number up to max, and the word
--- is the value. Esc lo hi: the value has lo to hi characters, and the word joins one spelling of each. NumPad bits n: the
--- value is n digits, and the word is their number in that many bits. Num bits max: the value is the decimal text of a
--- number up to max, and the word is the number in that many bits. NumStr bits hi: the value is 1 to hi digits, and the word
--- is the number of the digit 1 followed by the value, in that many bits. Ascii7 lo hi bits: the value has lo to hi
--- characters, and the word is 7 bits of each, then zeros up to the width. Fill a b: the value is empty, and the word is a
--- zeros or b zeros.
+-- trusted, TDS 2.0, sections 6, 7 and 14: Holds if `w` is a word of the item, and `value` is its value. Lit: the word is the
+-- literal, and the value is empty. Pad n: the value is n digits, and the word is the value. Digits lo hi: the value is lo to hi
+-- digits, and the word is the value. Int max: the value is the decimal text of a number up to max, and the word is the value.
+-- Esc lo hi: the value has lo to hi characters, and the word concatenates one spelling of each. NumPad bits n: the value is n
+-- digits, and the word is their number in that many bits. Num bits max: the value is the decimal text of a number up to max,
+-- and the word is the number in that many bits. NumStr bits hi: the value is 1 to hi digits, and the word is the number of 1
+-- and the value, in that many bits. Ascii7 lo hi bits: the value has lo to hi characters, and the word is 7 bits of each, then
+-- zeros up to the width. Fill a b: the value is empty, and the word is a zeros or b zeros.
 abbrev pub Word : Item → List ℕ → List ℕ → Type 0
 Word (Lit literal) value w = (value ≡ []) × (w ≡ literal)
 Word (Pad n) value w = (length value ≡ n) × IsTrue (are_digits value) × (w ≡ value)
@@ -71,7 +72,7 @@ Word (NumStr bits hi) value w = HasLength 1 hi value × IsTrue (are_digits value
 Word (Ascii7 lo hi bits) value w = HasLength lo hi value × IsPacked value w × (length w ≡ bits)
 Word (Fill a b) value w = (value ≡ []) × ((w ≡ replicate a 0) ⊎ (w ≡ replicate b 0))
 
--- trusted, TDS 2.0, sections 6, 7 and 14: the list of symbols is a word of the item, with some value
+-- trusted, TDS 2.0, sections 6, 7 and 14: holds if `w` is a word of `item`, with some value
 abbrev pub IsWord : Item → List ℕ → Type 0
 IsWord item w = (value : List ℕ) × Word item value w
 

@@ -20,21 +20,21 @@ first_reason char size zero large =
     else if large then Some Large
     else None
 
--- trusted, own: holds if the result is the reason, if there is one, and otherwise Ok
+-- trusted, own: holds if `answer` is the reason, if there is one, and otherwise `Ok`
 abbrev pub GivesReason : Result (Unit {0}) Why → Option Why → Type 0
 GivesReason answer reason = MatchResult answer (λ _. reason ≡ None) (λ why. reason ≡ Some why)
 
--- trusted, own: there is a leading zero before other digits
+-- trusted, own: holds if `value` has a leading zero before other digits
 abbrev pub has_leading_zero : List ℕ → Bool
 has_leading_zero value = nat_lt 1 (length value) && (slice_index value 0 == 48)
 
--- trusted, own: the number that digits write is above the greatest, or has no room in that many bits
+-- trusted, own: holds if the number that `value` writes is above `greatest`, or does not fit in `bits` bits
 abbrev pub is_too_large : ℕ → ℕ → List ℕ → Bool
 is_too_large bits greatest value = nat_lt greatest (decimal_value value) || nat_le (2 ^ bits) (decimal_value value)
 
--- trusted, the order is own: Why an item has no word for the value: the first reason that applies, or none. A number is large if
--- it is above the greatest or does not fit in the bits. Characters whose packed form does not fit are too many, and so are digits
--- that do not fit after a 1. The last case is that of items whose value is empty.
+-- trusted, the order is own: The first reason, if any, why an item has no word for `value`. A number is large if it is above
+-- the greatest or does not fit in the bits. Characters whose packed form does not fit are too many, and so are digits that do
+-- not fit after a 1. The last case is that of items whose value is empty.
 abbrev pub why_not : Item → List ℕ → Option Why
 why_not (Pad n) value = first_reason (not (are_digits value)) (not (length value == n)) false false
 why_not (Digits lo hi) value = first_reason (not (are_digits value)) (not (is_between lo hi (length value))) false false
@@ -46,15 +46,15 @@ why_not (NumStr bits hi) value = first_reason (not (are_digits value)) (not (is_
 why_not (Ascii7 lo hi bits) value = first_reason (not (are_in_set82 value)) (not (is_between lo hi (length value) && nat_le (7 * length value) bits)) false false
 why_not _ value = first_reason false (not (length value == 0)) false false
 
--- trusted, own: the first n items hold their values
+-- trusted, own: holds if each of the first `n` items holds its value
 abbrev pub AreHeldBefore : List Item → List (List ℕ) → ℕ → Type 0
 AreHeldBefore items values n = (k : ℕ) (item : Item) (value : List ℕ) → k < n → slice_get items k ≡ Some item → slice_get values k ≡ Some value → why_not item value ≡ None
 
--- trusted, the order is own: each item holds its value
+-- trusted, the order is own: holds if each of `items` holds its value
 abbrev pub AreHeld : List Item → List (List ℕ) → Type 0
 AreHeld items values = AreHeldBefore items values (length items)
 
--- trusted, the order is own: item k is the first that does not hold its value, and this is the reason
+-- trusted, the order is own: holds if item `k` is the first that does not hold its value, and `why` is the reason
 pub record IsFirstRejection (items : List Item) (values : List (List ℕ)) (k : ℕ) (why : Why) : Type 0 where
   pub item : Item
   pub value : List ℕ
@@ -73,17 +73,17 @@ written_words (item ∷ items) (value ∷ values) = written_word item value ∷ 
 abbrev pub written : List Item → List (List ℕ) → List ℕ
 written items values = concat (written_words items values)
 
--- trusted, own: why values are not written: the first item that does not hold its value, or out of memory
+-- trusted, own: holds if the fault is `Memory`, or names the first item that does not hold its value, and the reason
 abbrev pub IsWriteFault : List Item → List (List ℕ) → WriteFault → Type 0
 IsWriteFault items values (CannotHold k why) = IsFirstRejection items values k why
 IsWriteFault items values Memory = Unit {0}
 
--- trusted, own: the same of a call that does not allocate
+-- trusted, own: holds if the fault is not `Memory`, and names the first item that does not hold its value, and the reason
 abbrev pub IsHoldError : List Item → List (List ℕ) → WriteFault → Type 0
 IsHoldError items values (CannotHold k why) = IsFirstRejection items values k why
 IsHoldError items values Memory = ⊥
 
--- trusted, own: after an item that does not hold its value the text is unchanged
+-- trusted, own: holds if the fault is `Memory`, or `now` is `before`
 abbrev pub LeavesUnlessMemory : List ℕ → List ℕ → WriteFault → Type 0
 LeavesUnlessMemory before now (CannotHold k why) = now ≡ before
 LeavesUnlessMemory before now Memory = Unit {0}

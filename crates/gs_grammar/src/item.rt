@@ -23,8 +23,8 @@ pub enum Item {
     /// On a bit level, a number of at most `max`, which is below 2 to the `bits`, in `bits` bits, 1 to 64. Its value is the
     /// decimal text without leading zeros.
     Num { bits: u8, max: u64 },
-    /// On a bit level, 1 to `hi` digits, at most 12: the number of the digit 1 followed by them, in `bits` bits, at most 64. Twice
-    /// 10 to the `hi` is at most 2 to the `bits`.
+    /// On a bit level, 1 to `hi` digits, at most 12. They are written as the number of the digit 1 followed by them, in `bits`
+    /// bits, at most 64. Twice 10 to the `hi` is at most 2 to the `bits`.
     NumStr { bits: u8, hi: u8 },
     /// On a bit level, `lo` to `hi` characters of the set of 82, 7 bits for each. Zeros follow up to `bits` bits, at most 448.
     Ascii7 { lo: u8, hi: u8, bits: u16 },

@@ -34,7 +34,7 @@ pub fn what_is_written_is_derived()
     ensures { WrittenIsDerived }
 {}
 
-/// States that the text written of values that an option holds is read as these values: in a level that is not ambiguous it has
+/// States that the text written of values that an option holds is read as these values. In a level that is not ambiguous it has
 /// this one derivation.
 pub fn what_is_written_is_read()
     ensures { WrittenIsRead }
@@ -58,7 +58,7 @@ pub fn unambiguous_levels_read_alone()
     ensures { UnambiguousLevelsReadAlone }
 {}
 
-/// States that each level of items in their bounds is decided: it is not ambiguous, or some pair of its options is the first
+/// States that each level of items in their bounds is decided. It is not ambiguous, or some pair of its options is the first
 /// that shares a list.
 pub fn each_level_is_judged()
     ensures { (level : List (List Item)) → AreItems level → IsUnambiguous level ⊎ HasFirstShare level }

@@ -55,8 +55,8 @@ fn size_within_limit(items: &[Item]) -> Option<usize>
 }
 
 impl Opt {
-    /// Returns the option of these items. `BadItem(k)` is returned if and only if item k is the first that is not of the level or
-    /// breaks a bound; `Size` if and only if no item does, and the sizes add up to more than `MOST_SYMBOLS`.
+    /// Returns the option of these items. `BadItem(k)` is returned if and only if item k is the first that is not of the level
+    /// or breaks a bound. `Size` is returned if and only if no item does, and the sizes add up to more than `MOST_SYMBOLS`.
     pub fn new(_alloc: Global, bit_level: bool, items: Vec<Item>) -> Result<Opt, OptFault>
         ensures bit_level { IfOk result (λ option. option.bit_level ≡ bit_level) }
         ensures items { IfOk result (λ option. option.items ≡ items.items) }

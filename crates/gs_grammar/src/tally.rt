@@ -30,10 +30,11 @@ fn tally(items: &[Item], symbols: &[u8], out: &mut [u64])
     }
 }
 
-/// Reads the bits as one option of a bit level. Number k of `out` becomes the number that the whole word of item k writes: its
-/// bits if the item is `NumPad`, `Num` or `NumStr`, and 0 for any other item. Returns `false` if and only if the bits have no
-/// derivation by the option; `out` is then unchanged. Does not allocate. Tries at most 2^k splits for k items `Fill`, the only
-/// ones of bits with words of two lengths. The option is one of bits, and `out` has as many numbers as it has items.
+/// Reads the bits as one option of a bit level. Number k of `out` becomes the number that the whole word of item k writes. It
+/// is that of its bits if the item is `NumPad`, `Num` or `NumStr`, and 0 for any other item. Returns `false` if and only if the
+/// bits have no derivation by the option; `out` is then unchanged. Does not allocate. Tries at most 2^k splits for k items
+/// `Fill`, the only ones of bits with words of two lengths. The option is one of bits, and `out` has as many numbers as it has
+/// items.
 pub fn read_option<const N: usize>(option: &Opt, bits: &BitBuf<N>, out: &mut [u64]) -> bool
     requires bit_level { IsTrue option.now.bit_level }
     requires room { length out.old ≡ length option.now.items }

@@ -54,8 +54,9 @@ fn is_packable(lo: u8, hi: u8, bits: u16, count: usize) -> bool
     is_within(usize::from(lo), usize::from(hi), count) && count <= usize::from(bits / 7)
 }
 
-/// Returns the number that a digit's number and the characters after it write, or the first reason against it: a character, the
-/// size, or that it has no room in this many bits. A number that is not below 2 to the 64 is given as 0.
+/// Returns the number that a digit's number and the characters after it write, or the first reason against it. The reasons are
+/// a character, the size, and a number that does not fit in this many bits. A number that is not below 2 to the 64 is given as
+/// 0.
 fn judge_digits(front: u8, value: &[u8], size: bool, bits: u8) -> Result<u64, Why>
     ensures reason { IsJudged result (digits_reason front value.now size bits) }
     ensures number { IfOk result (λ number. IsIfSmall number (number_behind front value.now)) }
@@ -72,8 +73,8 @@ fn judge_digits(front: u8, value: &[u8], size: bool, bits: u8) -> Result<u64, Wh
     }
 }
 
-/// Returns the number that the characters write, or the first reason why they do not write a number without leading zeros that
-/// is at most the greatest and has room in this many bits.
+/// Returns the number that the characters write, or the first reason against it. The number has no leading zeros, is at most
+/// the greatest, and fits in this many bits.
 fn judge_number(value: &[u8], greatest: u64, bits: u8) -> Result<u64, Why>
     ensures reason { IsJudged result (why_not (Num bits greatest) value.now) }
     ensures number { IfOk result (λ number. number ≡ decimal_value value.now) }

@@ -58,8 +58,8 @@ fn read_integer(symbols: &[u8], max: u64) -> Option<CowText<'_>>
     Some(CowText::lent(symbols))
 }
 
-/// Returns the characters that the symbols spell, if they are a word of the item `Esc`. Symbols as many as the characters are
-/// they themselves.
+/// Returns the characters that the symbols spell, if they are a word of the item `Esc`. If both lengths are equal, the symbols
+/// are the characters.
 fn read_escaped(
     alloc: Global,
     symbols: &[u8],

@@ -16,10 +16,14 @@ use Rattle.gs_grammar_compile.specs.OnesTables.{layer_states}
 use Rattle.gs_grammar_compile.specs.ItemTables.{item_states, item_table, items_table, items_borders, machine_of}
 use Rattle.gs_grammar_compile.proofs.WholeMachines.{item_count, machine_rules, machine_reads, some_states, total_states, table_count}
 
-item_end : (table new : List (List Edge)) (item : Item) → IsItem item → new ≡ table ++ item_table item (length table) → length new ≡ length table + item_states item
-item_end table new item i e = ap length e ∙ length-append table (item_table item (length table)) ∙ ap (λ (n : ℕ). length table + n) (item_count item (length table) i)
+item_end : (table new : List (List Edge)) (item : Item) → IsItem item → new ≡ table ++ item_table item (length table)
+    → length new ≡ length table + item_states item
+item_end table new item i e = ap length e ∙ length-append table (item_table item (length table)) ∙ ap (λ (n : ℕ). length table + n)
+    (item_count item (length table) i)
 
-pub table_step : (table new all : List (List Edge)) (item : Item) (others left : List Item) → left ≡ item ∷ others → All IsItem left → table ++ items_table left (length table) ≡ all → new ≡ table ++ item_table item (length table) → new ++ items_table others (length new) ≡ all
+pub table_step : (table new all : List (List Edge)) (item : Item) (others left : List Item) → left ≡ item ∷ others → All IsItem left
+    → table ++ items_table left (length table) ≡ all → new ≡ table ++ item_table item (length table)
+    → new ++ items_table others (length new) ≡ all
 table_step table new all item others left s a h e =
     let each : All IsItem (item ∷ others) = rw s at a in
     let here : table ++ items_table (item ∷ others) (length table) ≡ all = rw s at h in
@@ -31,7 +35,10 @@ table_step table new all item others left s a h e =
     ∙ ap (λ (rows : List (List Edge)). table ++ rows) (sym parts)
     ∙ here
 
-pub borders_step : (table new : List (List Edge)) (before after all : List ℕ) (place : ℕ) (item : Item) (others left : List Item) → left ≡ item ∷ others → All IsItem left → before ++ items_borders left (length table) ≡ all → new ≡ table ++ item_table item (length table) → place ≡ length new → after ≡ before ++ place ∷ [] → after ++ items_borders others (length new) ≡ all
+pub borders_step : (table new : List (List Edge)) (before after all : List ℕ) (place : ℕ) (item : Item) (others left : List Item)
+    → left ≡ item ∷ others → All IsItem left → before ++ items_borders left (length table) ≡ all
+    → new ≡ table ++ item_table item (length table) → place ≡ length new → after ≡ before ++ place ∷ []
+    → after ++ items_borders others (length new) ≡ all
 borders_step table new before after all place item others left s a h e p f =
     let each : All IsItem (item ∷ others) = rw s at a in
     let here : before ++ items_borders (item ∷ others) (length table) ≡ all = rw s at h in
@@ -41,18 +48,22 @@ borders_step table new before after all place item others left s a h e p f =
     ∙ ap (λ (b : ℕ). before ++ b ∷ items_borders others b) end
     ∙ here
 
-pub whole_table : (table new : List (List Edge)) (items left : List Item) → length left ≡ 0 → table ++ items_table left (length table) ≡ items_table items 0 → new ≡ table ++ [] ∷ [] → new ≡ items_table items 0
+pub whole_table : (table new : List (List Edge)) (items left : List Item) → length left ≡ 0
+    → table ++ items_table left (length table) ≡ items_table items 0 → new ≡ table ++ [] ∷ [] → new ≡ items_table items 0
 whole_table table new items [] s h e = e ∙ h
 whole_table table new items (item ∷ left) s h e = absurd (omega arith)
 
-pub whole_borders : (borders : List ℕ) (items left : List Item) (n : ℕ) → length left ≡ 0 → borders ++ items_borders left n ≡ 0 ∷ items_borders items 0 → borders ≡ 0 ∷ items_borders items 0
+pub whole_borders : (borders : List ℕ) (items left : List Item) (n : ℕ) → length left ≡ 0
+    → borders ++ items_borders left n ≡ 0 ∷ items_borders items 0 → borders ≡ 0 ∷ items_borders items 0
 whole_borders borders items [] n s h = sym (append-nil borders) ∙ h
 whole_borders borders items (item ∷ left) n s h = absurd (omega arith)
 
-pub whole_machine : (table : List (List Edge)) (borders : List ℕ) (items : List Item) → table ≡ items_table items 0 → borders ≡ 0 ∷ items_borders items 0 → record { table = table; borders = borders } ≡ machine_of items
+pub whole_machine : (table : List (List Edge)) (borders : List ℕ) (items : List Item) → table ≡ items_table items 0
+    → borders ≡ 0 ∷ items_borders items 0 → record { table = table; borders = borders } ≡ machine_of items
 whole_machine table borders items e f = rw e (rw f refl)
 
-pub whole_rules : (table : List (List Edge)) (borders : List ℕ) (items : List Item) → All IsItem items → table ≡ items_table items 0 → borders ≡ 0 ∷ items_borders items 0 → IsMachine (record { table = table; borders = borders })
+pub whole_rules : (table : List (List Edge)) (borders : List ℕ) (items : List Item) → All IsItem items → table ≡ items_table items 0
+    → borders ≡ 0 ∷ items_borders items 0 → IsMachine (record { table = table; borders = borders })
 whole_rules table borders items a e f = let r = machine_rules items a in rw e (rw f r)
 
 pub rules_of : (auto : AutoForm) (items : List Item) → All IsItem items → auto ≡ machine_of items → IsMachine auto

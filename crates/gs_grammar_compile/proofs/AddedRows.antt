@@ -12,7 +12,9 @@ one_more whole new row e = let m = ap length e in let l = length-append whole (r
 pub next_row : (whole new rest : List (List Edge)) (row : List Edge) → new ≡ whole ++ row ∷ [] → new ++ rest ≡ whole ++ row ∷ rest
 next_row whole new rest row e = ap (λ (rows : List (List Edge)). rows ++ rest) e ∙ append_assoc whole (row ∷ []) rest
 
-pub run_step : (lo hi count place : ℕ) (whole new all : List (List Edge)) → place < count → whole ++ run_table lo hi (count - place) (length whole) ≡ all → new ≡ whole ++ (edge lo hi (length whole + 1) ∷ []) ∷ [] → new ++ run_table lo hi (count - (place + 1)) (length new) ≡ all
+pub run_step : (lo hi count place : ℕ) (whole new all : List (List Edge)) → place < count
+    → whole ++ run_table lo hi (count - place) (length whole) ≡ all → new ≡ whole ++ (edge lo hi (length whole + 1) ∷ []) ∷ []
+    → new ++ run_table lo hi (count - (place + 1)) (length new) ≡ all
 run_step lo hi count place whole new all l h e =
     let len = one_more whole new (edge lo hi (length whole + 1) ∷ []) e in
     let n : count - place ≡ suc (count - (place + 1)) = omega arith in
@@ -23,20 +25,26 @@ run_step lo hi count place whole new all l h e =
     ∙ h
 
 -- the edges of one range more, before those that are still to come
-pub ranges_step : (ranges : List (ℕ × ℕ)) (to place : ℕ) (range d : ℕ × ℕ) (row new all : List Edge) → place < length ranges → range ≡ get_or ranges place d → row ++ with_ranges (drop place ranges) to ≡ all → new ≡ row ++ edge range.0 range.1 to ∷ [] → new ++ with_ranges (drop (place + 1) ranges) to ≡ all
+pub ranges_step : (ranges : List (ℕ × ℕ)) (to place : ℕ) (range d : ℕ × ℕ) (row new all : List Edge) → place < length ranges
+    → range ≡ get_or ranges place d → row ++ with_ranges (drop place ranges) to ≡ all → new ≡ row ++ edge range.0 range.1 to ∷ []
+    → new ++ with_ranges (drop (place + 1) ranges) to ≡ all
 ranges_step ranges to place range d row new all l e h m =
     let here : drop place ranges ≡ range ∷ drop (place + 1) ranges = rw e (drop_more ranges place d l) in
     let front : row ++ edge range.0 range.1 to ∷ with_ranges (drop (place + 1) ranges) to ≡ all = rw here at h in
     rw m (append_assoc row (edge range.0 range.1 to ∷ []) (with_ranges (drop (place + 1) ranges) to) ∙ front)
 
-pub ranges_end : (ranges : List (ℕ × ℕ)) (to place : ℕ) (row all : List Edge) → length ranges ≤ place → row ++ with_ranges (drop place ranges) to ≡ all → row ≡ all
+pub ranges_end : (ranges : List (ℕ × ℕ)) (to place : ℕ) (row all : List Edge) → length ranges ≤ place
+    → row ++ with_ranges (drop place ranges) to ≡ all → row ≡ all
 ranges_end ranges to place row all l h =
     let none : drop place ranges ≡ [] = drop_all place ranges l in
     let whole : row ++ [] ≡ all = rw none at h in
     sym (append-nil row) ∙ whole
 
 -- the state of one symbol more, before those that are still to come
-pub literal_step : (symbols : List ℕ) (place : ℕ) (whole new all : List (List Edge)) → place < length symbols → whole ++ lit_table (drop place symbols) (length whole) ≡ all → new ≡ whole ++ (edge (get_or symbols place 0) (get_or symbols place 0) (length whole + 1) ∷ []) ∷ [] → new ++ lit_table (drop (place + 1) symbols) (length new) ≡ all
+pub literal_step : (symbols : List ℕ) (place : ℕ) (whole new all : List (List Edge)) → place < length symbols
+    → whole ++ lit_table (drop place symbols) (length whole) ≡ all
+    → new ≡ whole ++ (edge (get_or symbols place 0) (get_or symbols place 0) (length whole + 1) ∷ []) ∷ []
+    → new ++ lit_table (drop (place + 1) symbols) (length new) ≡ all
 literal_step symbols place whole new all l h e =
     let row : List Edge = edge (get_or symbols place 0) (get_or symbols place 0) (length whole + 1) ∷ [] in
     let len = one_more whole new row e in
@@ -45,7 +53,8 @@ literal_step symbols place whole new all l h e =
     ∙ ap (λ (b : ℕ). whole ++ row ∷ lit_table (drop (place + 1) symbols) b) len
     ∙ front
 
-pub literal_end : (symbols : List ℕ) (place : ℕ) (whole all : List (List Edge)) → length symbols ≤ place → whole ++ lit_table (drop place symbols) (length whole) ≡ all → whole ≡ all
+pub literal_end : (symbols : List ℕ) (place : ℕ) (whole all : List (List Edge)) → length symbols ≤ place
+    → whole ++ lit_table (drop place symbols) (length whole) ≡ all → whole ≡ all
 literal_end symbols place whole all l h =
     let none : whole ++ [] ≡ all = rw (drop_all place symbols l) at h in
     sym (append-nil whole) ∙ none
@@ -60,7 +69,8 @@ fill_same (suc (suc n)) base = ap (λ (rows : List (List Edge)). (edge 0 0 (base
 abbrev fork_row : ℕ → ℕ → List Edge
 fork_row place more = edge 0 0 (place + 1) ∷ edge 0 0 (place + 1 + more) ∷ []
 
-fill_parts : (n more base place : ℕ) → place ≡ base + n → fill_table (suc n) (suc more) base ≡ run_table 0 0 n base ++ fork_row place (suc more) ∷ run_table 0 0 (suc more) (place + 1)
+fill_parts : (n more base place : ℕ) → place ≡ base + n
+    → fill_table (suc n) (suc more) base ≡ run_table 0 0 n base ++ fork_row place (suc more) ∷ run_table 0 0 (suc more) (place + 1)
 fill_parts zero more base place e = let same : place ≡ base = omega arith in rw same refl
 fill_parts (suc n) more base place e = ap (λ (rows : List (List Edge)). (edge 0 0 (base + 1) ∷ []) ∷ rows) (fill_parts n more (base + 1) place (omega arith))
 
@@ -68,12 +78,15 @@ pub run_count : (lo hi n base : ℕ) → length (run_table lo hi n base) ≡ n
 run_count lo hi zero base = refl
 run_count lo hi (suc n) base = ap suc (run_count lo hi n (base + 1))
 
-pub fill_equal : (least most : ℕ) (table new : List (List Edge)) → least ≡ most → new ≡ table ++ run_table 0 0 least (length table) → new ≡ table ++ fill_table least (most - least) (length table)
+pub fill_equal : (least most : ℕ) (table new : List (List Edge)) → least ≡ most → new ≡ table ++ run_table 0 0 least (length table)
+    → new ≡ table ++ fill_table least (most - least) (length table)
 fill_equal least most table new same e =
     let none : most - least ≡ 0 = omega arith in
     e ∙ ap (λ (rows : List (List Edge)). table ++ rows) (sym (fill_same least (length table)) ∙ ap (λ (k : ℕ). fill_table least k (length table)) (sym none))
 
-fill_whole : (n more : ℕ) (table front forked new : List (List Edge)) → front ≡ table ++ run_table 0 0 n (length table) → forked ≡ front ++ fork_row (length front) (suc more) ∷ [] → new ≡ forked ++ run_table 0 0 (suc more) (length forked) → new ≡ table ++ fill_table (suc n) (suc more) (length table)
+fill_whole : (n more : ℕ) (table front forked new : List (List Edge)) → front ≡ table ++ run_table 0 0 n (length table)
+    → forked ≡ front ++ fork_row (length front) (suc more) ∷ [] → new ≡ forked ++ run_table 0 0 (suc more) (length forked)
+    → new ≡ table ++ fill_table (suc n) (suc more) (length table)
 fill_whole n more table front forked new e f g =
     let place : length front ≡ length table + n = let m = ap length e in let l = length-append table (run_table 0 0 n (length table)) in let c = run_count 0 0 n (length table) in omega arith in
     let after = one_more front forked (fork_row (length front) (suc more)) f in
@@ -85,7 +98,9 @@ fill_whole n more table front forked new e f g =
     ∙ append_assoc table (run_table 0 0 n (length table)) (fork_row (length front) (suc more) ∷ run_table 0 0 (suc more) (length front + 1))
     ∙ ap (λ (rows : List (List Edge)). table ++ rows) (sym parts)
 
-pub fill_added : (least most : ℕ) (table front forked new : List (List Edge)) → 0 < least → least < most → front ≡ table ++ run_table 0 0 (least - 1) (length table) → forked ≡ front ++ fork_row (length front) (most - least) ∷ [] → new ≡ forked ++ run_table 0 0 (most - least) (length forked) → new ≡ table ++ fill_table least (most - least) (length table)
+pub fill_added : (least most : ℕ) (table front forked new : List (List Edge)) → 0 < least → least < most
+    → front ≡ table ++ run_table 0 0 (least - 1) (length table) → forked ≡ front ++ fork_row (length front) (most - least) ∷ []
+    → new ≡ forked ++ run_table 0 0 (most - least) (length forked) → new ≡ table ++ fill_table least (most - least) (length table)
 fill_added zero most table front forked new l m e f g = absurd (omega arith)
 fill_added (suc n) most table front forked new l m e f g =
     let less : suc n - 1 ≡ n = omega arith in
@@ -97,19 +112,26 @@ fill_added (suc n) most table front forked new l m e f g =
 
 -- bounded numbers
 
-bound_two : (n greatest : ℕ) (whole once twice all : List (List Edge)) → whole ++ bound_table (suc n) greatest (length whole) ≡ all → once ≡ whole ++ bound_edges n greatest (length whole + 2) ∷ [] → twice ≡ once ++ (edge 0 1 (lower_state n (length once + 1)) ∷ []) ∷ [] → twice ++ bound_table n (bound_rest n greatest) (length twice) ≡ all
+bound_two : (n greatest : ℕ) (whole once twice all : List (List Edge)) → whole ++ bound_table (suc n) greatest (length whole) ≡ all
+    → once ≡ whole ++ bound_edges n greatest (length whole + 2) ∷ []
+    → twice ≡ once ++ (edge 0 1 (lower_state n (length once + 1)) ∷ []) ∷ []
+    → twice ++ bound_table n (bound_rest n greatest) (length twice) ≡ all
 bound_two n greatest whole once twice all h e f =
     let a = one_more whole once (bound_edges n greatest (length whole + 2)) e in
     let b = one_more once twice (edge 0 1 (lower_state n (length once + 1)) ∷ []) f in
     let place : length once + 1 ≡ length whole + 2 = omega arith in
     let after : length twice ≡ length whole + 2 = omega arith in
     next_row once twice (bound_table n (bound_rest n greatest) (length twice)) (edge 0 1 (lower_state n (length once + 1)) ∷ []) f
-    ∙ next_row whole once ((edge 0 1 (lower_state n (length once + 1)) ∷ []) ∷ bound_table n (bound_rest n greatest) (length twice)) (bound_edges n greatest (length whole + 2)) e
+    ∙ next_row whole once ((edge 0 1 (lower_state n (length once + 1)) ∷ []) ∷ bound_table n (bound_rest n greatest) (length twice))
+    (bound_edges n greatest (length whole + 2)) e
     ∙ ap (λ (p : ℕ). whole ++ bound_edges n greatest (length whole + 2) ∷ (edge 0 1 (lower_state n p) ∷ []) ∷ bound_table n (bound_rest n greatest) (length twice)) place
     ∙ ap (λ (p : ℕ). whole ++ bound_edges n greatest (length whole + 2) ∷ (edge 0 1 (lower_state n (length whole + 2)) ∷ []) ∷ bound_table n (bound_rest n greatest) p) after
     ∙ h
 
-pub bound_step : (left less greatest rest : ℕ) (whole once twice all : List (List Edge)) → 0 < left → less ≡ left - 1 → whole ++ bound_table left greatest (length whole) ≡ all → once ≡ whole ++ bound_edges less greatest (length whole + 2) ∷ [] → twice ≡ once ++ (edge 0 1 (lower_state less (length once + 1)) ∷ []) ∷ [] → rest ≡ bound_rest less greatest → twice ++ bound_table less rest (length twice) ≡ all
+pub bound_step : (left less greatest rest : ℕ) (whole once twice all : List (List Edge)) → 0 < left → less ≡ left - 1
+    → whole ++ bound_table left greatest (length whole) ≡ all → once ≡ whole ++ bound_edges less greatest (length whole + 2) ∷ []
+    → twice ≡ once ++ (edge 0 1 (lower_state less (length once + 1)) ∷ []) ∷ [] → rest ≡ bound_rest less greatest
+    → twice ++ bound_table less rest (length twice) ≡ all
 bound_step left less greatest rest whole once twice all l s h e f g =
     let same : left ≡ suc less = omega arith in
     let here : whole ++ bound_table (suc less) greatest (length whole) ≡ all = ap (λ (k : ℕ). whole ++ bound_table k greatest (length whole)) (sym same) ∙ h in

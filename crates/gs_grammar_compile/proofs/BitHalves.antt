@@ -23,16 +23,21 @@ IsBits n is_so w = IsRun 0 1 n w × is_so (number_of w)
 abbrev pub IsHalf : ℕ → ℕ → (ℕ → Type 0) → ℕ → List ℕ → Type 0
 IsHalf bit n is_so s w = (s ≡ bit) × IsBits n is_so w
 
-bit_there : (bit to n s : ℕ) (is_so other : ℕ → Type 0) (w : List ℕ) → ((y : ℕ) → y < 2 ^ n → is_so y → other y) → ByEdge (edge bit bit to) (IsBits n is_so) s w → IsHalf bit n other s w
+bit_there : (bit to n s : ℕ) (is_so other : ℕ → Type 0) (w : List ℕ) → ((y : ℕ) → y < 2 ^ n → is_so y → other y)
+    → ByEdge (edge bit bit to) (IsBits n is_so) s w → IsHalf bit n other s w
 bit_there bit to n s is_so other w f h = (let a = h.0 in let b = h.1 in omega arith, (h.2.0, f (number_of w) (small n w h.2.0) h.2.1))
 
-bit_back : (bit to n s : ℕ) (is_so other : ℕ → Type 0) (w : List ℕ) → ((y : ℕ) → y < 2 ^ n → other y → is_so y) → IsHalf bit n other s w → ByEdge (edge bit bit to) (IsBits n is_so) s w
+bit_back : (bit to n s : ℕ) (is_so other : ℕ → Type 0) (w : List ℕ) → ((y : ℕ) → y < 2 ^ n → other y → is_so y) → IsHalf bit n other s w
+    → ByEdge (edge bit bit to) (IsBits n is_so) s w
 bit_back bit to n s is_so other w f h = (let e = h.0 in omega arith, let e = h.0 in omega arith, (h.1.0, f (number_of w) (small n w h.1.0) h.1.1))
 
 -- by one edge, to a state that reads the rest
-pub half_edge : (table : List (List Edge)) (bit to q n : ℕ) (is_so other : ℕ → Type 0) → Reads table to q (IsBits n is_so) → ((y : ℕ) → y < 2 ^ n → is_so y → other y) → ((y : ℕ) → y < 2 ^ n → other y → is_so y) → Arms table (edge bit bit to ∷ []) q (IsHalf bit n other)
+pub half_edge : (table : List (List Edge)) (bit to q n : ℕ) (is_so other : ℕ → Type 0) → Reads table to q (IsBits n is_so)
+    → ((y : ℕ) → y < 2 ^ n → is_so y → other y) → ((y : ℕ) → y < 2 ^ n → other y → is_so y)
+    → Arms table (edge bit bit to ∷ []) q (IsHalf bit n other)
 half_edge table bit to q n is_so other r there back =
-    arms_as table (edge bit bit to ∷ []) q (ByEdge (edge bit bit to) (IsBits n is_so)) (IsHalf bit n other) (arms_one table (edge bit bit to) q (IsBits n is_so) r)
+    arms_as table (edge bit bit to ∷ []) q (ByEdge (edge bit bit to) (IsBits n is_so)) (IsHalf bit n other)
+    (arms_one table (edge bit bit to) q (IsBits n is_so) r)
     (λ s w h. bit_there bit to n s is_so other w there h)
     (λ s w h. bit_back bit to n s is_so other w back h)
 
@@ -40,7 +45,9 @@ pub half_none : (table : List (List Edge)) (bit q n : ℕ) (other : ℕ → Type
 half_none table bit q n other none =
     arms_as table [] q NoArm (IsHalf bit n other) (arms_none table q) (λ s w h. absurd h) (λ s w h. none (number_of w) (small n w h.1.0) h.1.1)
 
-pub half_where : (table : List (List Edge)) (b : Bool) (bit to q n : ℕ) (is_so other : ℕ → Type 0) → (b ≡ true → Reads table to q (IsBits n is_so)) → (b ≡ true → (y : ℕ) → y < 2 ^ n → is_so y → other y) → ((y : ℕ) → y < 2 ^ n → other y → (b ≡ true) × is_so y) → Arms table (edge_where b bit to) q (IsHalf bit n other)
+pub half_where : (table : List (List Edge)) (b : Bool) (bit to q n : ℕ) (is_so other : ℕ → Type 0)
+    → (b ≡ true → Reads table to q (IsBits n is_so)) → (b ≡ true → (y : ℕ) → y < 2 ^ n → is_so y → other y)
+    → ((y : ℕ) → y < 2 ^ n → other y → (b ≡ true) × is_so y) → Arms table (edge_where b bit to) q (IsHalf bit n other)
 half_where table true bit to q n is_so other r there back = half_edge table bit to q n is_so other (r refl) (there refl) (λ y l h. (back y l h).1)
 half_where table false bit to q n is_so other r there back = half_none table bit q n other (λ y l h. let f = (back y l h).0 in let g : false ≡ true = f in cc)
 
@@ -74,11 +81,14 @@ halves_back n is_so (suc (suc s) ∷ w) h = absurd (let b = h.0.1 in omega arith
 halves_apart : (n s : ℕ) (is_so other : ℕ → Type 0) (w : List ℕ) → IsHalf 0 n is_so s w → IsHalf 1 n other s w → ⊥
 halves_apart n s is_so other w h k = let a = h.0 in let b = k.0 in omega arith
 
-pub reads_halves : (table : List (List Edge)) (base q n : ℕ) (zeros ones : List Edge) (is_so : ℕ → Type 0) → edges_at table base ≡ zeros ++ ones → base < q → Arms table zeros q (IsHalf 0 n is_so) → Arms table ones q (IsHalf 1 n (λ y. is_so (2 ^ n + y))) → Reads table base q (IsBits (suc n) is_so)
+pub reads_halves : (table : List (List Edge)) (base q n : ℕ) (zeros ones : List Edge) (is_so : ℕ → Type 0)
+    → edges_at table base ≡ zeros ++ ones → base < q → Arms table zeros q (IsHalf 0 n is_so)
+    → Arms table ones q (IsHalf 1 n (λ y. is_so (2 ^ n + y))) → Reads table base q (IsBits (suc n) is_so)
 reads_halves table base q n zeros ones is_so e l a b =
     let arms = arms_both table zeros ones q (IsHalf 0 n is_so) (IsHalf 1 n (λ y. is_so (2 ^ n + y))) a b (λ s w h k. halves_apart n s is_so (λ y. is_so (2 ^ n + y)) w h k) in
     let state = reads_state table base q (zeros ++ ones) (Either (IsHalf 0 n is_so) (IsHalf 1 n (λ y. is_so (2 ^ n + y)))) e l arms in
-    reads_as table base q (Begins (Either (IsHalf 0 n is_so) (IsHalf 1 n (λ y. is_so (2 ^ n + y))))) (IsBits (suc n) is_so) state (halves_there n is_so) (halves_back n is_so)
+    reads_as table base q (Begins (Either (IsHalf 0 n is_so) (IsHalf 1 n (λ y. is_so (2 ^ n + y))))) (IsBits (suc n) is_so) state
+    (halves_there n is_so) (halves_back n is_so)
 
 -- any number, a number from the rest of another on, and one up to it
 
@@ -110,7 +120,9 @@ rest_without n number t =
     let at : number % 2 ^ suc n ≡ 0 * 2 ^ n + number % 2 ^ n = rw none at here in
     omega arith
 
-pub reads_from : (table : List (List Edge)) (base q n number same free : ℕ) (b : Bool) → has_bit n number ≡ b → edges_at table base ≡ from_edges b same free → base < q → Reads table same q (IsBits n (From n number)) → Reads table free q (IsBits n Any) → Reads table base q (IsBits (suc n) (From (suc n) number))
+pub reads_from : (table : List (List Edge)) (base q n number same free : ℕ) (b : Bool) → has_bit n number ≡ b
+    → edges_at table base ≡ from_edges b same free → base < q → Reads table same q (IsBits n (From n number))
+    → Reads table free q (IsBits n Any) → Reads table base q (IsBits (suc n) (From (suc n) number))
 reads_from table base q n number same free true t e l r f =
     let rest = rest_with n number t in
     reads_halves table base q n [] (edge 1 1 same ∷ []) (From (suc n) number) e l
@@ -122,7 +134,9 @@ reads_from table base q n number same free false t e l r f =
     (half_edge table 0 same q n (From n number) (From (suc n) number) r (λ y s h. omega arith) (λ y s h. omega arith))
     (half_edge table 1 free q n Any (λ y. From (suc n) number (2 ^ n + y)) f (λ y s h. let m = mod-lt number (one-le-pow n 2 (omega arith)) in omega arith) (λ y s h. tt))
 
-pub reads_up_to : (table : List (List Edge)) (base q n number same free : ℕ) (b : Bool) → has_bit n number ≡ b → edges_at table base ≡ up_to_edges b same free → base < q → Reads table same q (IsBits n (UpTo n number)) → Reads table free q (IsBits n Any) → Reads table base q (IsBits (suc n) (UpTo (suc n) number))
+pub reads_up_to : (table : List (List Edge)) (base q n number same free : ℕ) (b : Bool) → has_bit n number ≡ b
+    → edges_at table base ≡ up_to_edges b same free → base < q → Reads table same q (IsBits n (UpTo n number))
+    → Reads table free q (IsBits n Any) → Reads table base q (IsBits (suc n) (UpTo (suc n) number))
 reads_up_to table base q n number same free true t e l r f =
     let rest = rest_with n number t in
     reads_halves table base q n (edge 0 0 free ∷ []) (edge 1 1 same ∷ []) (UpTo (suc n) number) e l
@@ -142,6 +156,8 @@ free_back : (n next : ℕ) (w : List ℕ) → IsBits (suc n) Any w → Begins (B
 free_back n next [] h = absurd h.0
 free_back n next (s ∷ w) h = (h.0.0, h.0.1, (h.0.2, tt))
 
-pub reads_free_bits : (table : List (List Edge)) (base q n next : ℕ) → edges_at table base ≡ edge 0 1 next ∷ [] → base < q → Reads table next q (IsBits n Any) → Reads table base q (IsBits (suc n) Any)
+pub reads_free_bits : (table : List (List Edge)) (base q n next : ℕ) → edges_at table base ≡ edge 0 1 next ∷ [] → base < q
+    → Reads table next q (IsBits n Any) → Reads table base q (IsBits (suc n) Any)
 reads_free_bits table base q n next e l r =
-    reads_as table base q (Begins (ByEdge (edge 0 1 next) (IsBits n Any))) (IsBits (suc n) Any) (reads_edge table base q 0 1 next (IsBits n Any) e l r) (free_there n next) (free_back n next)
+    reads_as table base q (Begins (ByEdge (edge 0 1 next) (IsBits n Any))) (IsBits (suc n) Any)
+    (reads_edge table base q 0 1 next (IsBits n Any) e l r) (free_there n next) (free_back n next)

@@ -84,7 +84,8 @@ high_back n greatest next lower g (suc zero ∷ w) h =
     inl (omega arith, omega arith, (h.0.2, omega arith))
 high_back n greatest next lower g (suc (suc s) ∷ w) h = absurd (let b = h.0.1 in omega arith)
 
-high_apart : (n greatest next lower s : ℕ) (w : List ℕ) → ByEdge (edge 1 1 next) (IsBounded n (greatest - 2 ^ n)) s w → ByEdge (edge 0 0 lower) (IsRun 0 1 n) s w → ⊥
+high_apart : (n greatest next lower s : ℕ) (w : List ℕ) → ByEdge (edge 1 1 next) (IsBounded n (greatest - 2 ^ n)) s w
+    → ByEdge (edge 0 0 lower) (IsRun 0 1 n) s w → ⊥
 high_apart n greatest next lower s w h k = let a = h.0 in let b = k.1 in omega arith
 
 -- the first state, if it begins with the bit 0
@@ -120,7 +121,9 @@ pub record ReadsBound (table : List (List Edge)) (n greatest base q : ℕ) : Typ
 empty_there : (greatest : ℕ) (w : List ℕ) → IsEmpty w → IsBounded zero greatest w
 empty_there greatest w h = rw h (refl, omega arith)
 
-bound_first : (table : List (List Edge)) (n greatest base q : ℕ) (b : Bool) → nat_le (2 ^ n) greatest ≡ b → edges_at table base ≡ bound_edges n greatest (base + 2) → base < q → ReadsBound table n (bound_rest n greatest) (base + 2) q → Reads table base q (IsBounded (suc n) greatest)
+bound_first : (table : List (List Edge)) (n greatest base q : ℕ) (b : Bool) → nat_le (2 ^ n) greatest ≡ b
+    → edges_at table base ≡ bound_edges n greatest (base + 2) → base < q → ReadsBound table n (bound_rest n greatest) (base + 2) q
+    → Reads table base q (IsBounded (suc n) greatest)
 bound_first table n greatest base q true t e l r =
     let g = leb-true (2 ^ n) greatest t in
     let row : edges_at table base ≡ edge 1 1 (base + 2) ∷ edge 0 0 (lower_state n (base + 2)) ∷ [] = e ∙ rw t refl in
@@ -129,16 +132,19 @@ bound_first table n greatest base q true t e l r =
     let end = arms_one table (edge 0 0 (lower_state n (base + 2))) q (IsRun 0 1 n) r.second in
     let arms = arms_cons table (edge 1 1 (base + 2)) (edge 0 0 (lower_state n (base + 2)) ∷ []) q (IsBounded n (greatest - 2 ^ n)) (ByEdge (edge 0 0 (lower_state n (base + 2))) (IsRun 0 1 n)) first end (high_apart n greatest (base + 2) (lower_state n (base + 2))) in
     let state = reads_state table base q (edge 1 1 (base + 2) ∷ edge 0 0 (lower_state n (base + 2)) ∷ []) (High n greatest (base + 2) (lower_state n (base + 2))) row l arms in
-    reads_as table base q (Begins (High n greatest (base + 2) (lower_state n (base + 2)))) (IsBounded (suc n) greatest) state (high_there n greatest (base + 2) (lower_state n (base + 2)) g) (high_back n greatest (base + 2) (lower_state n (base + 2)) g)
+    reads_as table base q (Begins (High n greatest (base + 2) (lower_state n (base + 2)))) (IsBounded (suc n) greatest) state
+    (high_there n greatest (base + 2) (lower_state n (base + 2)) g) (high_back n greatest (base + 2) (lower_state n (base + 2)) g)
 bound_first table n greatest base q false t e l r =
     let g : greatest < 2 ^ n = grind (arith, nat_tests) in
     let row : edges_at table base ≡ edge 0 0 (base + 2) ∷ [] = e ∙ rw t refl in
     let rest : bound_rest n greatest ≡ greatest = rw t refl in
     let first : Reads table (base + 2) q (IsBounded n greatest) = subst (λ (k : ℕ). Reads table (base + 2) q (IsBounded n k)) rest r.first in
     let state = reads_edge table base q 0 0 (base + 2) (IsBounded n greatest) row l first in
-    reads_as table base q (Begins (ByEdge (edge 0 0 (base + 2)) (IsBounded n greatest))) (IsBounded (suc n) greatest) state (low_there n greatest (base + 2)) (low_back n greatest (base + 2) g)
+    reads_as table base q (Begins (ByEdge (edge 0 0 (base + 2)) (IsBounded n greatest))) (IsBounded (suc n) greatest) state
+    (low_there n greatest (base + 2)) (low_back n greatest (base + 2) g)
 
-pub reads_bound : (table : List (List Edge)) (n greatest base q : ℕ) → Has table base (bound_table n greatest base) → Ascends table → q ≡ base + 2 * n → ReadsBound table n greatest base q
+pub reads_bound : (table : List (List Edge)) (n greatest base q : ℕ) → Has table base (bound_table n greatest base) → Ascends table
+    → q ≡ base + 2 * n → ReadsBound table n greatest base q
 reads_bound table zero greatest base q h a e = record {
   first = reads_as table base q IsEmpty (IsBounded zero greatest) (reads_end table base q a (omega arith)) (empty_there greatest) (λ w b. b.0);
   second = reads_end table base q a (omega arith);
@@ -153,5 +159,7 @@ reads_bound table (suc n) greatest base q h a e =
     let second_row = has_head table (base + 1) (edge 0 1 (lower_state n (base + 2)) ∷ []) (bound_table n (bound_rest n greatest) (base + 2)) behind in
     record {
       first = bound_first table n greatest base q (nat_le (2 ^ n) greatest) refl row (omega arith) rest;
-      second = reads_as table (base + 1) q (Begins (ByEdge (edge 0 1 (lower_state n (base + 2))) (IsRun 0 1 n))) (IsRun 0 1 (suc n)) (reads_edge table (base + 1) q 0 1 (lower_state n (base + 2)) (IsRun 0 1 n) second_row (omega arith) rest.second) (lower_there n (lower_state n (base + 2))) (lower_back n (lower_state n (base + 2)));
+      second = reads_as table (base + 1) q (Begins (ByEdge (edge 0 1 (lower_state n (base + 2))) (IsRun 0 1 n))) (IsRun 0 1 (suc n))
+          (reads_edge table (base + 1) q 0 1 (lower_state n (base + 2)) (IsRun 0 1 n) second_row (omega arith) rest.second)
+          (lower_there n (lower_state n (base + 2))) (lower_back n (lower_state n (base + 2)));
     }

@@ -20,7 +20,8 @@ use Rattle.gs_grammar_compile.proofs.Numerals.{IsTight, FreeOrEnd, FirstFrom, re
 
 -- the states at which any digits may follow
 
-free_at : (table : List (List Edge)) (n base q j : ℕ) → Has table base (free_table n base) → Ascends table → q ≡ base + n → 1 ≤ j → j ≤ n → Has table (q - j) (free_table j (q - j))
+free_at : (table : List (List Edge)) (n base q j : ℕ) → Has table base (free_table n base) → Ascends table → q ≡ base + n → 1 ≤ j → j ≤ n
+    → Has table (q - j) (free_table j (q - j))
 free_at table zero base q j h a e l m = absurd (omega arith)
 free_at table (suc zero) base q j h a e l m =
     let one : j ≡ 1 = omega arith in
@@ -34,7 +35,8 @@ free_at table (suc (suc n)) base q j h a e l m = elim (cases_eq j (suc (suc n)))
       free_at table (suc n) (base + 1) q j (has_tail table base (edge 48 57 (base + 1) ∷ edge 48 57 (base + 1 + suc n) ∷ []) (free_table (suc n) (base + 1)) h) a (omega arith) l (omega arith)
 ]
 
-reads_free_or_end : (table : List (List Edge)) (n base q j : ℕ) → Has table base (free_table n base) → Ascends table → q ≡ base + n → j ≤ n → Reads table (q - j) q (FreeOrEnd j)
+reads_free_or_end : (table : List (List Edge)) (n base q j : ℕ) → Has table base (free_table n base) → Ascends table → q ≡ base + n → j ≤ n
+    → Reads table (q - j) q (FreeOrEnd j)
 reads_free_or_end table n base q zero h a e m = reads_end table (q - 0) q a (omega arith)
 reads_free_or_end table n base q (suc j) h a e m = reads_free table j (q - suc j) q (free_at table n base q (suc j) h a e (omega arith) m) a (omega arith)
 
@@ -63,11 +65,14 @@ digit_small n rest l =
 tight_as : (n rest other : ℕ) (w : List ℕ) → rest ≡ other → IsTight n rest w → IsTight n other w
 tight_as n rest other w e t = record { digits = t.digits; some = t.some; most = t.most; bound = λ l. let b = t.bound l in omega arith }
 
-pub reads_tight : (table : List (List Edge)) (n rest base q : ℕ) → Has table base (tight_table (suc n) rest base q) → Ascends table → ((j : ℕ) → j ≤ n → Reads table (q - j) q (FreeOrEnd j)) → rest < 10 ^ suc n → base + n < q → Reads table base q (IsTight (suc n) rest)
+pub reads_tight : (table : List (List Edge)) (n rest base q : ℕ) → Has table base (tight_table (suc n) rest base q) → Ascends table
+    → ((j : ℕ) → j ≤ n → Reads table (q - j) q (FreeOrEnd j)) → rest < 10 ^ suc n → base + n < q → Reads table base q (IsTight (suc n) rest)
 reads_tight table zero rest base q h a free r l =
     let row = has_head table base (tight_edges 48 0 (rest / 10 ^ 0) (base + 1) q) [] h in
     let same : rest / 10 ^ 0 ≡ rest = omega arith in
-    reads_as table base q (IsTight 1 (rest / 10 ^ 0)) (IsTight 1 rest) (reads_tight_last table (rest / 10 ^ 0) base q (digit_small 0 rest r) row (omega arith) a) (λ w t. tight_as 1 (rest / 10 ^ 0) rest w same t) (λ w t. tight_as 1 rest (rest / 10 ^ 0) w (sym same) t)
+    reads_as table base q (IsTight 1 (rest / 10 ^ 0)) (IsTight 1 rest)
+    (reads_tight_last table (rest / 10 ^ 0) base q (digit_small 0 rest r) row (omega arith) a)
+    (λ w t. tight_as 1 (rest / 10 ^ 0) rest w same t) (λ w t. tight_as 1 rest (rest / 10 ^ 0) w (sym same) t)
 reads_tight table (suc n) rest base q h a free r l =
     let row = has_head table base (tight_edges 48 (suc n) (rest / 10 ^ suc n) (base + 1) q) (tight_table (suc n) (rest % 10 ^ suc n) (base + 1) q) h in
     let digit = digit_small (suc n) rest r in
@@ -88,17 +93,21 @@ length_tight (suc n) rest base q = ap suc (length_tight n (rest % 10 ^ n) (base 
 one_digit : (greatest : ℕ) (w : List ℕ) → IsTight 1 greatest w → FirstFrom 49 w
 one_digit greatest w t f = let a = t.some in let b = t.most in omega arith
 
-reads_numeral_one : (table : List (List Edge)) (greatest base q : ℕ) → Has table base (numeral_table 0 greatest base) → Ascends table → greatest < 10 → q ≡ base + 1 → Reads table base q (λ w. IsTight 1 greatest w × FirstFrom 49 w)
+reads_numeral_one : (table : List (List Edge)) (greatest base q : ℕ) → Has table base (numeral_table 0 greatest base) → Ascends table
+    → greatest < 10 → q ≡ base + 1 → Reads table base q (λ w. IsTight 1 greatest w × FirstFrom 49 w)
 reads_numeral_one table greatest base q h a g e =
     let end : base + 1 + 0 + 0 ≡ q = omega arith in
     let row = has_head table base (tight_edges 49 0 (greatest / 10 ^ 0) (base + 1) (base + 1 + 0 + 0)) [] h in
     let here : edges_at table base ≡ edge 48 (48 + greatest / 10 ^ 0) q ∷ [] = row ∙ ap (λ (k : ℕ). edge 48 (48 + greatest / 10 ^ 0) k ∷ []) end in
     let same : greatest / 10 ^ 0 ≡ greatest = omega arith in
-    reads_as table base q (IsTight 1 (greatest / 10 ^ 0)) (λ w. IsTight 1 greatest w × FirstFrom 49 w) (reads_tight_last table (greatest / 10 ^ 0) base q (omega arith) here (omega arith) a)
+    reads_as table base q (IsTight 1 (greatest / 10 ^ 0)) (λ w. IsTight 1 greatest w × FirstFrom 49 w)
+    (reads_tight_last table (greatest / 10 ^ 0) base q (omega arith) here (omega arith) a)
     (λ w t. (tight_as 1 (greatest / 10 ^ 0) greatest w same t, one_digit (greatest / 10 ^ 0) w t))
     (λ w t. tight_as 1 greatest (greatest / 10 ^ 0) w (sym same) t.0)
 
-reads_numeral_more : (table : List (List Edge)) (n greatest base q : ℕ) → Has table base (numeral_table (suc n) greatest base) → Ascends table → 10 ^ suc n ≤ greatest → greatest < 10 ^ suc (suc n) → q ≡ base + 1 + suc n + suc n → Reads table base q (λ w. IsTight (suc (suc n)) greatest w × FirstFrom 49 w)
+reads_numeral_more : (table : List (List Edge)) (n greatest base q : ℕ) → Has table base (numeral_table (suc n) greatest base)
+    → Ascends table → 10 ^ suc n ≤ greatest → greatest < 10 ^ suc (suc n) → q ≡ base + 1 + suc n + suc n
+    → Reads table base q (λ w. IsTight (suc (suc n)) greatest w × FirstFrom 49 w)
 reads_numeral_more table n greatest base q h a low g e =
     let block : Has table base (tight_edges 49 (suc n) (greatest / 10 ^ suc n) (base + 1) q ∷ (tight_table (suc n) (greatest % 10 ^ suc n) (base + 1) q ++ free_table (suc n) (base + 1 + suc n))) = subst (λ (k : ℕ). Has table base (tight_edges 49 (suc n) (greatest / 10 ^ suc n) (base + 1) k ∷ (tight_table (suc n) (greatest % 10 ^ suc n) (base + 1) k ++ free_table (suc n) (base + 1 + suc n)))) (sym e) h in
     let row = has_head table base (tight_edges 49 (suc n) (greatest / 10 ^ suc n) (base + 1) q) (tight_table (suc n) (greatest % 10 ^ suc n) (base + 1) q ++ free_table (suc n) (base + 1 + suc n)) block in
@@ -118,7 +127,8 @@ reads_numeral_more table n greatest base q h a low g e =
     ] in
     let next = reads_tight table n (greatest % 10 ^ suc n) (base + 1) q tights a (λ j m. free j (omega arith)) small (omega arith) in
     let both = reads_tight_more table 49 n (greatest / 10 ^ suc n) (greatest % 10 ^ suc n) base (base + 1) q (omega arith) (omega arith) (omega arith) digit small row (omega arith) a (free (suc n) (omega arith)) (free n (omega arith)) next in
-    reads_as table base q (λ w. IsTight (suc (suc n)) (greatest / 10 ^ suc n * 10 ^ suc n + greatest % 10 ^ suc n) w × FirstFrom 49 w) (λ w. IsTight (suc (suc n)) greatest w × FirstFrom 49 w) both
+    reads_as table base q (λ w. IsTight (suc (suc n)) (greatest / 10 ^ suc n * 10 ^ suc n + greatest % 10 ^ suc n) w × FirstFrom 49 w)
+    (λ w. IsTight (suc (suc n)) greatest w × FirstFrom 49 w) both
     (λ w t. (tight_as (suc (suc n)) (greatest / 10 ^ suc n * 10 ^ suc n + greatest % 10 ^ suc n) greatest w whole t.0, t.1))
     (λ w t. (tight_as (suc (suc n)) greatest (greatest / 10 ^ suc n * 10 ^ suc n + greatest % 10 ^ suc n) w (sym whole) t.0, t.1))
 
@@ -145,7 +155,8 @@ first_zero greatest number (s ∷ x ∷ w) small e f =
     let zero_first : s ≡ 48 = omega arith in
     absurd (no_leading_zero (s ∷ x ∷ w) zero_first (omega arith) number small e)
 
-text_there : (greatest n : ℕ) (w : List ℕ) → greatest < 2 ^ 64 → length (decimal greatest) ≡ suc n → (number : ℕ) → IsNumeral greatest number w → IsTight (suc n) greatest w × FirstFrom 49 w
+text_there : (greatest n : ℕ) (w : List ℕ) → greatest < 2 ^ 64 → length (decimal greatest) ≡ suc n → (number : ℕ)
+    → IsNumeral greatest number w → IsTight (suc n) greatest w × FirstFrom 49 w
 text_there greatest n w small l number i =
     let s = i.small in
     let little : number < 2 ^ 64 = omega arith in
@@ -167,20 +178,24 @@ value_most greatest n w small l t = elim (cases_eq (length w) (suc n)) as (λ _.
       omega arith
 ]
 
-text_back : (greatest n : ℕ) (w : List ℕ) → greatest < 2 ^ 64 → length (decimal greatest) ≡ suc n → IsTight (suc n) greatest w × FirstFrom 49 w → (number : ℕ) × IsNumeral greatest number w
+text_back : (greatest n : ℕ) (w : List ℕ) → greatest < 2 ^ 64 → length (decimal greatest) ≡ suc n
+    → IsTight (suc n) greatest w × FirstFrom 49 w → (number : ℕ) × IsNumeral greatest number w
 text_back greatest n w small l t =
     let most = value_most greatest n w small l t.0 in
     let some = t.0.some in
     let alone : get_or w 0 0 ≡ 48 → length w ≡ 1 = λ z. t.1 (omega arith) in
     (decimal_value w, record { small = most; text = sym (decimal-digits_value own w t.0.digits (omega arith) alone (omega arith)) })
 
-pub reads_int : (table : List (List Edge)) (greatest n base q : ℕ) → greatest < 2 ^ 64 → length (decimal greatest) ≡ suc n → Has table base (numeral_table n greatest base) → Ascends table → q ≡ base + 1 + n + n → Reads table base q (IsWord (Int greatest))
+pub reads_int : (table : List (List Edge)) (greatest n base q : ℕ) → greatest < 2 ^ 64 → length (decimal greatest) ≡ suc n
+    → Has table base (numeral_table n greatest base) → Ascends table → q ≡ base + 1 + n + n → Reads table base q (IsWord (Int greatest))
 reads_int table greatest zero base q small l h a e =
     let high = text_high greatest 0 small l in
-    reads_as table base q (λ w. IsTight 1 greatest w × FirstFrom 49 w) (IsWord (Int greatest)) (reads_numeral_one table greatest base q h a (omega arith) (omega arith))
+    reads_as table base q (λ w. IsTight 1 greatest w × FirstFrom 49 w) (IsWord (Int greatest))
+    (reads_numeral_one table greatest base q h a (omega arith) (omega arith))
     (λ w t. (int_word greatest w).1 (text_back greatest 0 w small l t))
     (λ w i. let k = (int_word greatest w).0 i in text_there greatest 0 w small l k.0 k.1)
 reads_int table greatest (suc n) base q small l h a e =
-    reads_as table base q (λ w. IsTight (suc (suc n)) greatest w × FirstFrom 49 w) (IsWord (Int greatest)) (reads_numeral_more table n greatest base q h a (text_low greatest (suc n) small l (omega arith)) (text_high greatest (suc n) small l) e)
+    reads_as table base q (λ w. IsTight (suc (suc n)) greatest w × FirstFrom 49 w) (IsWord (Int greatest))
+    (reads_numeral_more table n greatest base q h a (text_low greatest (suc n) small l (omega arith)) (text_high greatest (suc n) small l) e)
     (λ w t. (int_word greatest w).1 (text_back greatest (suc n) w small l t))
     (λ w i. let k = (int_word greatest w).0 i in text_there greatest (suc n) w small l k.0 k.1)

@@ -3,7 +3,7 @@ use Rattle.std.proofs.Common.{◌≡◌, ℕ, ◌<◌, ◌≤◌, ◌+◌, ◌-�
 use Rattle.std.specs.Prelude.{nat_le, nat_lt, ◌&&◌, ◌||◌}
 use Rattle.std.proofs.lemmas.Bool.Decides.{nat_tests}
 use Rattle.std.proofs.lemmas.Fmt.{decimal_nonempty}
-use Rattle.gs_chars.proofs.TruthsAndLists.{and_first, and_second, and_parts}
+use Rattle.gs_chars.proofs.TruthsAndLists.{and_first, and_second}
 use Rattle.gs_grammar.specs.declared.item.Item.{Item}
 use Rattle.gs_grammar.specs.declared.item.Item.TheVariants.{Lit, Pad, Digits, Int, Esc, NumPad, Num, NumStr, Ascii7, Fill}
 use Rattle.gs_grammar.specs.Items.{IsItem}
@@ -26,6 +26,7 @@ use Rattle.gs_grammar_compile.proofs.PackedTexts.{length_characters, length_code
 use Rattle.gs_grammar_compile.proofs.DecimalTexts.{length_tight, reads_int}
 use Rattle.gs_grammar_compile.proofs.SpelledTexts.{reads_esc}
 use Rattle.gs_grammar_compile.proofs.ItemReaders.{reads_literal, reads_pad, reads_digits, reads_numstr, reads_filling, reads_num, reads_numpad}
+use Rattle.std.proofs.lemmas.Bool.{and_parts}
 
 -- the edges of a state lead to higher ones, up to the end
 abbrev pub AllTo : ℕ → ℕ → List Edge → Type 0
@@ -102,10 +103,12 @@ inside_digits : (lo hi base end : ℕ) → lo ≤ hi → 1 ≤ lo → base + hi 
 inside_digits lo hi base end o s l =
     let count = run_count 48 57 (lo - 1) base in
     let tail = inside_at (base + length (run_table 48 57 (lo - 1) base)) (base + (lo - 1)) end (free_table (hi - (lo - 1)) (base + (lo - 1))) (omega arith) (inside_free (hi - (lo - 1)) (base + (lo - 1)) end (omega arith)) in
-    inside_append base end (run_table 48 57 (lo - 1) base) (free_table (hi - (lo - 1)) (base + (lo - 1))) (inside_run 48 57 (lo - 1) base end (omega arith)) tail
+    inside_append base end (run_table 48 57 (lo - 1) base) (free_table (hi - (lo - 1)) (base + (lo - 1)))
+    (inside_run 48 57 (lo - 1) base end (omega arith)) tail
 
 -- the states of the next layer, and the end after the last bit, are further on
-layer_on : (n base next end place hi : ℕ) → base < next → next + layer_states hi * n ≤ end → place < layer_states hi → (base < layer_state n next place) × (layer_state n next place ≤ end)
+layer_on : (n base next end place hi : ℕ) → base < next → next + layer_states hi * n ≤ end → place < layer_states hi
+    → (base < layer_state n next place) × (layer_state n next place ≤ end)
 layer_on zero base next end place hi a b c = (omega arith, omega arith)
 layer_on (suc n) base next end place hi a b c =
     let product : layer_states hi * suc n ≡ layer_states hi * n + layer_states hi = omega arith in
@@ -133,7 +136,8 @@ up_to_to : (b : Bool) (same free state end : ℕ) → (state < same) × (same �
 up_to_to true same free state end s f = (f.0, f.1, (s.0, s.1, tt))
 up_to_to false same free state end s f = (s.0, s.1, tt)
 
-inside_counts : (n next count more hi base end : ℕ) → count + more ≤ hi + 1 → base + 2 * more ≤ next → next + layer_states hi * n ≤ end → Inside base end (counts_rows n next count more)
+inside_counts : (n next count more hi base end : ℕ) → count + more ≤ hi + 1 → base + 2 * more ≤ next → next + layer_states hi * n ≤ end
+    → Inside base end (counts_rows n next count more)
 inside_counts n next count zero hi base end c l m = tt
 inside_counts n next count (suc more) hi base end c l m =
     let free = layer_on n base next end 1 hi (omega arith) m (omega arith) in
@@ -169,9 +173,11 @@ ranges_to : (ranges : List (ℕ × ℕ)) (state to end : ℕ) → state < to →
 ranges_to [] state to end a b = tt
 ranges_to (range ∷ ranges) state to end a b = (a, b, ranges_to ranges state to end a b)
 
-last_to : (lo more : ℕ) (ranges : List (ℕ × ℕ)) (state next end : ℕ) (b : Bool) → nat_le lo 1 ≡ b → state < next → next ≤ end → AllTo state end (last_or_next lo more ranges next end)
+last_to : (lo more : ℕ) (ranges : List (ℕ × ℕ)) (state next end : ℕ) (b : Bool) → nat_le lo 1 ≡ b → state < next → next ≤ end
+    → AllTo state end (last_or_next lo more ranges next end)
 last_to lo zero ranges state next end b t l m = ranges_to ranges state end end (omega arith) (omega arith)
-last_to lo (suc more) ranges state next end true t l m = rw t (all_append state end (with_ranges ranges end) (with_ranges ranges next) (ranges_to ranges state end end (omega arith) (omega arith)) (ranges_to ranges state next end l m))
+last_to lo (suc more) ranges state next end true t l m = rw t
+    (all_append state end (with_ranges ranges end) (with_ranges ranges next) (ranges_to ranges state end end (omega arith) (omega arith)) (ranges_to ranges state next end l m))
 last_to lo (suc more) ranges state next end false t l m = rw t (ranges_to ranges state next end l m)
 
 inside_esc : (hi lo base end : ℕ) → base + 4 * hi ≤ end → Inside base end (esc_table lo hi base end)
@@ -195,7 +201,8 @@ states_lead_on : lead_on 0 code_states ≡ true
 unfolding code_states
 states_lead_on = refl
 
-code_edge_to : (k bit base next end target : ℕ) → leads_on k target ≡ true → k < 23 → base + 23 ≤ next → next ≤ end → AllTo (base + k) end (code_edge bit base next target)
+code_edge_to : (k bit base next end target : ℕ) → leads_on k target ≡ true → k < 23 → base + 23 ≤ next → next ≤ end
+    → AllTo (base + k) end (code_edge bit base next target)
 code_edge_to k bit base next end zero t l m o = tt
 code_edge_to k bit base next end (suc zero) t l m o = (omega arith, omega arith, tt)
 code_edge_to k bit base next end (suc (suc n)) t l m o =
@@ -203,7 +210,8 @@ code_edge_to k bit base next end (suc (suc n)) t l m o =
     let low : suc (suc n) ≤ 24 = grind (arith, nat_tests) in
     (omega arith, omega arith, tt)
 
-inside_code : (rows : List (ℕ × ℕ)) (k base next end : ℕ) → lead_on k rows ≡ true → k + length rows ≤ 23 → base + 23 ≤ next → next ≤ end → Inside (base + k) end (code_block rows base next)
+inside_code : (rows : List (ℕ × ℕ)) (k base next end : ℕ) → lead_on k rows ≡ true → k + length rows ≤ 23 → base + 23 ≤ next → next ≤ end
+    → Inside (base + k) end (code_block rows base next)
 inside_code [] k base next end t l m o = tt
 inside_code (row ∷ rows) k base next end t l m o =
     let place : base + k + 1 ≡ base + (k + 1) = omega arith in
@@ -217,11 +225,13 @@ root_row : (lo left base end chain : ℕ) → base + 24 + chain ≤ end → left
 root_row zero left base end chain l m f = (omega arith, omega arith, (omega arith, omega arith, (omega arith, omega arith, tt)))
 root_row (suc lo) left base end chain l m f = (omega arith, omega arith, (omega arith, omega arith, tt))
 
-next_high : (more lo left base end chain : ℕ) → base + 24 * suc more + chain ≤ end → left ≤ chain + 7 * lo → lo ≤ suc more → 7 ≤ left → (base + 24 ≤ next_character more left base end) × (next_character more left base end ≤ end)
+next_high : (more lo left base end chain : ℕ) → base + 24 * suc more + chain ≤ end → left ≤ chain + 7 * lo → lo ≤ suc more → 7 ≤ left
+    → (base + 24 ≤ next_character more left base end) × (next_character more left base end ≤ end)
 next_high zero lo left base end chain l m o f = (omega arith, omega arith)
 next_high (suc more) lo left base end chain l m o f = (omega arith, omega arith)
 
-inside_characters : (hi lo left base end chain : ℕ) → base + 24 * hi + chain ≤ end → left ≤ chain + 7 * lo → lo ≤ hi → 7 * hi ≤ left → Inside base end (characters_table lo hi left base end)
+inside_characters : (hi lo left base end chain : ℕ) → base + 24 * hi + chain ≤ end → left ≤ chain + 7 * lo → lo ≤ hi → 7 * hi ≤ left
+    → Inside base end (characters_table lo hi left base end)
 inside_characters zero lo left base end chain l m o f = tt
 inside_characters (suc more) lo left base end chain l m o f =
     let next : ℕ = next_character more left base end in
@@ -264,7 +274,8 @@ inside_item (NumStr bits hi) base end i e = inside_ones bits hi base end (omega 
 inside_item (Ascii7 lo hi bits) base end i e = let b = ascii_bounds lo hi bits i in inside_ascii lo hi bits base end b.1 b.2 (omega arith)
 inside_item (Fill a b) base end i e = let o = fill_bounds a b i in let x = o.1 in inside_fill a (b - a) base end (omega arith)
 
-pub reads_item : (table : List (List Edge)) (item : Item) (base q : ℕ) → IsItem item → Has table base (item_table item base) → Ascends table → q ≡ base + item_states item → Reads table base q (IsWord item)
+pub reads_item : (table : List (List Edge)) (item : Item) (base q : ℕ) → IsItem item → Has table base (item_table item base) → Ascends table
+    → q ≡ base + item_states item → Reads table base q (IsWord item)
 reads_item table (Lit literal) base q i h a e = reads_literal table literal base q h a e
 reads_item table (Pad n) base q i h a e = reads_pad table n base q h a e
 reads_item table (Digits lo hi) base q i h a e = let b = digits_bounds lo hi i in reads_digits table lo hi base q h a b.0 b.1 e

@@ -23,13 +23,17 @@ use Rattle.gs_grammar_compile.proofs.BitHalves.{IsBits}
 use Rattle.gs_grammar_compile.proofs.ReadsOnes.{IsOnes, reads_ones}
 use Rattle.gs_grammar_compile.proofs.Bounds.{IsBounded, reads_bound, run_length, run_bits, bits_run}
 
-pub reads_literal : (table : List (List Edge)) (symbols : List ℕ) (base q : ℕ) → Has table base (lit_table symbols base) → Ascends table → q ≡ base + length symbols → Reads table base q (IsWord (Lit symbols))
+pub reads_literal : (table : List (List Edge)) (symbols : List ℕ) (base q : ℕ) → Has table base (lit_table symbols base) → Ascends table
+    → q ≡ base + length symbols → Reads table base q (IsWord (Lit symbols))
 reads_literal table symbols base q h a e =
-    reads_as table base q (λ w. w ≡ symbols) (IsWord (Lit symbols)) (reads_lit table symbols base q h a e) (λ w. (lit_word symbols w).1) (λ w. (lit_word symbols w).0)
+    reads_as table base q (λ w. w ≡ symbols) (IsWord (Lit symbols)) (reads_lit table symbols base q h a e) (λ w. (lit_word symbols w).1)
+    (λ w. (lit_word symbols w).0)
 
-pub reads_pad : (table : List (List Edge)) (n base q : ℕ) → Has table base (run_table 48 57 n base) → Ascends table → q ≡ base + n → Reads table base q (IsWord (Pad n))
+pub reads_pad : (table : List (List Edge)) (n base q : ℕ) → Has table base (run_table 48 57 n base) → Ascends table → q ≡ base + n
+    → Reads table base q (IsWord (Pad n))
 reads_pad table n base q h a e =
-    reads_as table base q (IsRun 48 57 n) (IsWord (Pad n)) (reads_run table 48 57 n base q h a e) (λ w r. (pad_word n w).1 (run_digits n w r)) (λ w i. let d = (pad_word n w).0 i in digits_run n w d.0 d.1)
+    reads_as table base q (IsRun 48 57 n) (IsWord (Pad n)) (reads_run table 48 57 n base q h a e)
+    (λ w r. (pad_word n w).1 (run_digits n w r)) (λ w i. let d = (pad_word n w).0 i in digits_run n w d.0 d.1)
 
 -- more than n digits, and at most that many more
 record IsSome (n more : ℕ) (w : List ℕ) : Type 0 where
@@ -58,16 +62,19 @@ free_some more w f = let s = f.some in let m = f.most in record { digits = f.dig
 some_free : (more : ℕ) (w : List ℕ) → IsSome 0 more w → IsFree more w
 some_free more w f = let s = f.least in let m = f.most in record { digits = f.digits; some = omega arith; most = omega arith }
 
-reads_some : (table : List (List Edge)) (n more base start q : ℕ) → Has table base (run_table 48 57 n base ++ free_table (suc more) start) → Ascends table → start ≡ base + n → q ≡ base + n + suc more → Reads table base q (IsSome n (suc more))
+reads_some : (table : List (List Edge)) (n more base start q : ℕ) → Has table base (run_table 48 57 n base ++ free_table (suc more) start)
+    → Ascends table → start ≡ base + n → q ≡ base + n + suc more → Reads table base q (IsSome n (suc more))
 reads_some table zero more base start q h a e f =
     let same : start ≡ base = omega arith in
     let here : Has table base (free_table (suc more) base) = rw same at h in
-    reads_as table base q (IsFree (suc more)) (IsSome 0 (suc more)) (reads_free table more base q here a (omega arith)) (free_some (suc more)) (some_free (suc more))
+    reads_as table base q (IsFree (suc more)) (IsSome 0 (suc more)) (reads_free table more base q here a (omega arith))
+    (free_some (suc more)) (some_free (suc more))
 reads_some table (suc n) more base start q h a e f =
     let rows : List (List Edge) = run_table 48 57 n (base + 1) ++ free_table (suc more) start in
     let rest = reads_some table n more (base + 1) start q (has_tail table base (edge 48 57 (base + 1) ∷ []) rows h) a (omega arith) (omega arith) in
     let state = reads_edge table base q 48 57 (base + 1) (IsSome n (suc more)) (has_head table base (edge 48 57 (base + 1) ∷ []) rows h) (omega arith) rest in
-    reads_as table base q (Begins (ByEdge (edge 48 57 (base + 1)) (IsSome n (suc more)))) (IsSome (suc n) (suc more)) state (some_there n (suc more) (base + 1)) (some_back n (suc more) (base + 1))
+    reads_as table base q (Begins (ByEdge (edge 48 57 (base + 1)) (IsSome n (suc more)))) (IsSome (suc n) (suc more)) state
+    (some_there n (suc more) (base + 1)) (some_back n (suc more) (base + 1))
 
 some_word : (lo hi more : ℕ) (w : List ℕ) → 1 ≤ lo → more ≡ hi - (lo - 1) → lo ≤ hi → IsSome (lo - 1) more w → IsWord (Digits lo hi) w
 some_word lo hi more w l e m h =
@@ -82,17 +89,21 @@ word_some lo hi more w l e m i =
     let most = d.0.most in
     record { digits = d.1; least = omega arith; most = omega arith }
 
-digits_from : (table : List (List Edge)) (lo hi more base q : ℕ) → Has table base (run_table 48 57 (lo - 1) base ++ free_table more (base + (lo - 1))) → Ascends table → 1 ≤ lo → lo ≤ hi → more ≡ hi - (lo - 1) → q ≡ base + hi → Reads table base q (IsWord (Digits lo hi))
+digits_from : (table : List (List Edge)) (lo hi more base q : ℕ)
+    → Has table base (run_table 48 57 (lo - 1) base ++ free_table more (base + (lo - 1))) → Ascends table → 1 ≤ lo → lo ≤ hi
+    → more ≡ hi - (lo - 1) → q ≡ base + hi → Reads table base q (IsWord (Digits lo hi))
 digits_from table lo hi zero base q h a l m e f = absurd (omega arith)
 digits_from table lo hi (suc more) base q h a l m e f =
     reads_as table base q (IsSome (lo - 1) (suc more)) (IsWord (Digits lo hi)) (reads_some table (lo - 1) more base (base + (lo - 1)) q h a refl (omega arith))
     (λ w s. some_word lo hi (suc more) w l e m s)
     (λ w i. word_some lo hi (suc more) w l e m i)
 
-pub reads_digits : (table : List (List Edge)) (lo hi base q : ℕ) → Has table base (digits_table lo hi base) → Ascends table → 1 ≤ lo → lo ≤ hi → q ≡ base + hi → Reads table base q (IsWord (Digits lo hi))
+pub reads_digits : (table : List (List Edge)) (lo hi base q : ℕ) → Has table base (digits_table lo hi base) → Ascends table → 1 ≤ lo
+    → lo ≤ hi → q ≡ base + hi → Reads table base q (IsWord (Digits lo hi))
 reads_digits table lo hi base q h a l m e = digits_from table lo hi (hi - (lo - 1)) base q h a l m refl e
 
-pub reads_filling : (table : List (List Edge)) (a b base q : ℕ) → Has table base (fill_table a (b - a) base) → Ascends table → 0 < a → a ≤ b → q ≡ base + b → Reads table base q (IsWord (Fill a b))
+pub reads_filling : (table : List (List Edge)) (a b base q : ℕ) → Has table base (fill_table a (b - a) base) → Ascends table → 0 < a → a ≤ b
+    → q ≡ base + b → Reads table base q (IsWord (Fill a b))
 reads_filling table zero b base q h asc some order e = absurd (omega arith)
 reads_filling table (suc a) b base q h asc some order e =
     let total : b ≡ suc a + (b - suc a) = omega arith in
@@ -108,7 +119,8 @@ number_bounded bits greatest number w small written =
     let same = writes_number bits number w written in
     (bits_run bits w (writes_bits bits number w written) (writes_length bits number w written), omega arith)
 
-pub reads_num : (table : List (List Edge)) (bits greatest base q : ℕ) → Has table base (bound_table bits greatest base) → Ascends table → q ≡ base + 2 * bits → Reads table base q (IsWord (Num bits greatest))
+pub reads_num : (table : List (List Edge)) (bits greatest base q : ℕ) → Has table base (bound_table bits greatest base) → Ascends table
+    → q ≡ base + 2 * bits → Reads table base q (IsWord (Num bits greatest))
 reads_num table bits greatest base q h a e =
     reads_as table base q (IsBounded bits greatest) (IsWord (Num bits greatest)) (reads_bound table bits greatest base q h a e).first
     (λ w b. (num_word bits greatest w).1 (bounded_number bits greatest w b))
@@ -121,9 +133,11 @@ digits_small bits n number d f = omega arith
 small_digits : (bits n number : ℕ) → number ≤ digits_greatest bits n → number < 10 ^ n
 small_digits bits n number h = let p = one-le-pow n 10 (omega arith) in omega arith
 
-pub reads_numpad : (table : List (List Edge)) (bits n base q : ℕ) → Has table base (bound_table bits (digits_greatest bits n) base) → Ascends table → q ≡ base + 2 * bits → Reads table base q (IsWord (NumPad bits n))
+pub reads_numpad : (table : List (List Edge)) (bits n base q : ℕ) → Has table base (bound_table bits (digits_greatest bits n) base)
+    → Ascends table → q ≡ base + 2 * bits → Reads table base q (IsWord (NumPad bits n))
 reads_numpad table bits n base q h a e =
-    reads_as table base q (IsBounded bits (digits_greatest bits n)) (IsWord (NumPad bits n)) (reads_bound table bits (digits_greatest bits n) base q h a e).first
+    reads_as table base q (IsBounded bits (digits_greatest bits n)) (IsWord (NumPad bits n))
+    (reads_bound table bits (digits_greatest bits n) base q h a e).first
     (λ w b. (numpad_word bits n w).1 (let m = bounded_number bits (digits_greatest bits n) w b in record { number = m.number; small = small_digits bits n m.number m.small; written = m.written }))
     (λ w i. let m = (numpad_word bits n w).0 i in number_bounded bits (digits_greatest bits n) m.number w (digits_small bits n m.number m.small m.written.fits) m.written)
 
@@ -162,6 +176,8 @@ word_ones bits hi w i =
     let same = writes_number bits k.number w k.written in
     (bits_run bits w (writes_bits bits k.number w k.written) (writes_length bits k.number w k.written), rw same (count_ones hi k.count k.number k.least k.most k.digits))
 
-pub reads_numstr : (table : List (List Edge)) (bits hi base q : ℕ) → 0 < bits → Has table base (ones_table bits hi base) → Ascends table → q ≡ base + layer_states hi * bits → Reads table base q (IsWord (NumStr bits hi))
+pub reads_numstr : (table : List (List Edge)) (bits hi base q : ℕ) → 0 < bits → Has table base (ones_table bits hi base) → Ascends table
+    → q ≡ base + layer_states hi * bits → Reads table base q (IsWord (NumStr bits hi))
 reads_numstr table bits hi base q some h a e =
-    reads_as table base q (IsBits bits (IsOnes hi)) (IsWord (NumStr bits hi)) (reads_ones table bits hi base q some h a e) (ones_word bits hi) (word_ones bits hi)
+    reads_as table base q (IsBits bits (IsOnes hi)) (IsWord (NumStr bits hi)) (reads_ones table bits hi base q some h a e)
+    (ones_word bits hi) (word_ones bits hi)

@@ -24,7 +24,8 @@ abbrev pub Chain : List (List Edge) → List Item → ℕ → List ℕ → Type 
 Chain table [] border [] = Unit {0}
 Chain table [] border (next ∷ borders) = ⊥
 Chain table (item ∷ items) border [] = ⊥
-Chain table (item ∷ items) border (next ∷ borders) = (border < next) × Reads table border next (IsWord item) × Uncrossed table next × Chain table items next borders
+Chain table (item ∷ items) border (next ∷ borders) = (border < next) × Reads table border next
+    (IsWord item) × Uncrossed table next × Chain table items next borders
 
 abbrev pub last_of : ℕ → List ℕ → ℕ
 last_of border [] = border
@@ -41,12 +42,15 @@ last_high border [] h = omega arith
 last_high border (next ∷ borders) h = let r = last_high next borders h.1 in let l = h.0 in omega arith
 
 -- the places of a first part of a run, and then those of the rest
-stands_join : (table : List (List Edge)) (all : List ℕ) (border next : ℕ) (borders : List ℕ) (i : ℕ) (front back w : List ℕ) → From all border (next ∷ borders) → Rises next borders → Ascends table → border < next → Walk table border front w next → stands_from all (i + 1) (front ++ back) ≡ (i + length w) ∷ stands_from all (i + length w + 1) back
+stands_join : (table : List (List Edge)) (all : List ℕ) (border next : ℕ) (borders : List ℕ) (i : ℕ) (front back w : List ℕ)
+    → From all border (next ∷ borders) → Rises next borders → Ascends table → border < next → Walk table border front w next
+    → stands_from all (i + 1) (front ++ back) ≡ (i + length w) ∷ stands_from all (i + length w + 1) back
 stands_join table all border next borders i front back w h r a l walk =
     let count = walk_length table border next front w walk in
     let part = stands_part table all border next borders border (i + 1) (i + length w) front w h r a (omega arith) l walk (omega arith) in
     let place : stands_from all (i + 1 + length front) back ≡ stands_from all (i + length w + 1) back = ap (λ (j : ℕ). stands_from all j back) (omega arith) in
-    stands_append all (i + 1) front back ∙ ap (λ (x : List ℕ). x ++ stands_from all (i + 1 + length front) back) part ∙ ap (λ (x : List ℕ). (i + length w) ∷ x) place
+    stands_append all (i + 1) front back ∙ ap (λ (x : List ℕ). x ++ stands_from all (i + 1 + length front) back) part ∙ ap
+    (λ (x : List ℕ). (i + length w) ∷ x) place
 
 -- words have a run with their cuts
 
@@ -55,20 +59,26 @@ pub record RunFrom (table : List (List Edge)) (all : List ℕ) (border last plac
   pub walk : Walk table border run w last
   pub cuts : place ∷ stands_from all (place + 1) run ≡ cuts_from place words
 
-run_nil : (table : List (List Edge)) (all : List ℕ) (border place : ℕ) (w : List ℕ) (words : List (List ℕ)) → w ≡ [] → words ≡ [] → RunFrom table all border border place w words
+run_nil : (table : List (List Edge)) (all : List ℕ) (border place : ℕ) (w : List ℕ) (words : List (List ℕ)) → w ≡ [] → words ≡ []
+    → RunFrom table all border border place w words
 run_nil table all border place w words e f = rw (e, f) (record { run = []; walk = refl; cuts = refl })
 
-run_cons : (table : List (List Edge)) (all : List ℕ) (border next : ℕ) (borders : List ℕ) (last place : ℕ) (first rest : List ℕ) (words : List (List ℕ)) (states : List ℕ) → From all border (next ∷ borders) → Rises next borders → Ascends table → border < next → Walk table border states first next → RunFrom table all next last (place + length first) rest words → RunFrom table all border last place (first ++ rest) (first ∷ words)
+run_cons : (table : List (List Edge)) (all : List ℕ) (border next : ℕ) (borders : List ℕ) (last place : ℕ) (first rest : List ℕ) (words : List (List ℕ)) (states : List ℕ)
+    → From all border (next ∷ borders) → Rises next borders → Ascends table → border < next → Walk table border states first next
+    → RunFrom table all next last (place + length first) rest words → RunFrom table all border last place (first ++ rest) (first ∷ words)
 run_cons table all border next borders last place first rest words states h r a l walk more = record {
   run = states ++ more.run;
   walk = walk_append table border next last states more.run first rest walk more.walk;
   cuts = ap (λ (x : List ℕ). place ∷ x) (stands_join table all border next borders place states more.run first h r a l walk ∙ more.cuts);
 }
 
-run_moved : (table : List (List Edge)) (all : List ℕ) (border last place : ℕ) (v w : List ℕ) (others words : List (List ℕ)) → w ≡ v → words ≡ others → RunFrom table all border last place v others → RunFrom table all border last place w words
+run_moved : (table : List (List Edge)) (all : List ℕ) (border last place : ℕ) (v w : List ℕ) (others words : List (List ℕ)) → w ≡ v
+    → words ≡ others → RunFrom table all border last place v others → RunFrom table all border last place w words
 run_moved table all border last place v w others words e f r = rw (e, f) r
 
-pub runs : (table : List (List Edge)) (all : List ℕ) (items : List Item) (border : ℕ) (borders : List ℕ) (place : ℕ) (w : List ℕ) (values words : List (List ℕ)) → Chain table items border borders → From all border borders → Ascends table → Derives items w values words → RunFrom table all border (last_of border borders) place w words
+pub runs : (table : List (List Edge)) (all : List ℕ) (items : List Item) (border : ℕ) (borders : List ℕ) (place : ℕ) (w : List ℕ) (values words : List (List ℕ))
+    → Chain table items border borders → From all border borders → Ascends table → Derives items w values words
+    → RunFrom table all border (last_of border borders) place w words
 runs table all [] border [] place w values words h f a d =
     let n = derives_nil w values words d in
     run_nil table all border place w words n.0 n.2
@@ -92,7 +102,10 @@ pub record WordsFrom (all : List ℕ) (items : List Item) (place : ℕ) (run w :
 words_nil : (all : List ℕ) (place : ℕ) (run w : List ℕ) → run ≡ [] → w ≡ [] → WordsFrom all [] place run w
 words_nil all place run w e f = rw (e, f) (record { values = []; words = []; derives = record { each = no_item; joined = refl }; cuts = refl })
 
-words_cons : (table : List (List Edge)) (all : List ℕ) (item : Item) (items : List Item) (border next : ℕ) (borders : List ℕ) (place : ℕ) (front back word rest : List ℕ) → From all border (next ∷ borders) → Rises next borders → Ascends table → border < next → Walk table border front word next → IsWord item word → WordsFrom all items (place + length word) back rest → WordsFrom all (item ∷ items) place (front ++ back) (word ++ rest)
+words_cons : (table : List (List Edge)) (all : List ℕ) (item : Item) (items : List Item) (border next : ℕ) (borders : List ℕ) (place : ℕ) (front back word rest : List ℕ)
+    → From all border (next ∷ borders) → Rises next borders → Ascends table → border < next → Walk table border front word next
+    → IsWord item word → WordsFrom all items (place + length word) back rest
+    → WordsFrom all (item ∷ items) place (front ++ back) (word ++ rest)
 words_cons table all item items border next borders place front back word rest h r a l walk is more = record {
   values = is.0 ∷ more.values;
   words = word ∷ more.words;
@@ -100,10 +113,13 @@ words_cons table all item items border next borders place front back word rest h
   cuts = ap (λ (x : List ℕ). place ∷ x) (stands_join table all border next borders place front back word h r a l walk ∙ more.cuts);
 }
 
-words_moved : (all : List ℕ) (items : List Item) (place : ℕ) (states run v w : List ℕ) → run ≡ states → w ≡ v → WordsFrom all items place states v → WordsFrom all items place run w
+words_moved : (all : List ℕ) (items : List Item) (place : ℕ) (states run v w : List ℕ) → run ≡ states → w ≡ v
+    → WordsFrom all items place states v → WordsFrom all items place run w
 words_moved all items place states run v w e f r = rw (e, f) r
 
-pub words_of : (table : List (List Edge)) (all : List ℕ) (items : List Item) (border : ℕ) (borders : List ℕ) (place : ℕ) (run w : List ℕ) → Chain table items border borders → From all border borders → Ascends table → Walk table border run w (last_of border borders) → WordsFrom all items place run w
+pub words_of : (table : List (List Edge)) (all : List ℕ) (items : List Item) (border : ℕ) (borders : List ℕ) (place : ℕ) (run w : List ℕ)
+    → Chain table items border borders → From all border borders → Ascends table → Walk table border run w (last_of border borders)
+    → WordsFrom all items place run w
 words_of table all [] border [] place run w h f a walk =
     let n = walk_nil table border border run w a walk refl in
     words_nil all place run w n.0 n.1
@@ -132,7 +148,9 @@ heads m n xs ys e = cc
 tails : (m n : ℕ) (xs ys : List ℕ) → m ∷ xs ≡ n ∷ ys → xs ≡ ys
 tails m n xs ys e = cc
 
-pub only_run : (table : List (List Edge)) (all : List ℕ) (items : List Item) (border : ℕ) (borders : List ℕ) (place : ℕ) (run other w : List ℕ) → Chain table items border borders → From all border borders → Ascends table → Walk table border run w (last_of border borders) → Walk table border other w (last_of border borders) → stands_from all (place + 1) run ≡ stands_from all (place + 1) other → run ≡ other
+pub only_run : (table : List (List Edge)) (all : List ℕ) (items : List Item) (border : ℕ) (borders : List ℕ) (place : ℕ) (run other w : List ℕ)
+    → Chain table items border borders → From all border borders → Ascends table → Walk table border run w (last_of border borders)
+    → Walk table border other w (last_of border borders) → stands_from all (place + 1) run ≡ stands_from all (place + 1) other → run ≡ other
 only_run table all [] border [] place run other w h f a walk walk' e =
     (walk_nil table border border run w a walk refl).0 ∙ sym (walk_nil table border border other w a walk' refl).0
 only_run table all [] border (next ∷ borders) place run other w h f a walk walk' e = absurd h
@@ -157,7 +175,10 @@ only_run table all (item ∷ items) border (next ∷ borders) place run other w 
 
 -- a machine that reads the items has such a chain
 
-pub chain_of : (table : List (List Edge)) (items : List Item) (border : ℕ) (borders : List ℕ) → length borders ≡ length items → ((k : ℕ) → k < length borders → get_or (border ∷ borders) k 0 < get_or borders k 0) → ((k : ℕ) (item : Item) → slice_get items k ≡ Some item → Reads table (get_or (border ∷ borders) k 0) (get_or borders k 0) (IsWord item)) → ((k : ℕ) → k < length borders → Uncrossed table (get_or borders k 0)) → Chain table items border borders
+pub chain_of : (table : List (List Edge)) (items : List Item) (border : ℕ) (borders : List ℕ) → length borders ≡ length items
+    → ((k : ℕ) → k < length borders → get_or (border ∷ borders) k 0 < get_or borders k 0)
+    → ((k : ℕ) (item : Item) → slice_get items k ≡ Some item → Reads table (get_or (border ∷ borders) k 0) (get_or borders k 0) (IsWord item))
+    → ((k : ℕ) → k < length borders → Uncrossed table (get_or borders k 0)) → Chain table items border borders
 chain_of table [] border [] e rise reads free = tt
 chain_of table [] border (next ∷ borders) e rise reads free = absurd (omega arith)
 chain_of table (item ∷ items) border [] e rise reads free = absurd (omega arith)
@@ -168,7 +189,9 @@ chain_of table (item ∷ items) border (next ∷ borders) e rise reads free = (
   chain_of table items next borders (omega arith) (λ k l. rise (suc k) (omega arith)) (λ k i g. reads (suc k) i g) (λ k l. free (suc k) (omega arith)),
 )
 
-fits_uncrossed : (states : ℕ) (borders : List ℕ) (state : ℕ) (edges : List Edge) (symbol next k : ℕ) → list_all (is_onward states borders state) edges ≡ true → Fits edges symbol next → k < length borders → state < get_or borders k 0 → next ≤ get_or borders k 0
+fits_uncrossed : (states : ℕ) (borders : List ℕ) (state : ℕ) (edges : List Edge) (symbol next k : ℕ)
+    → list_all (is_onward states borders state) edges ≡ true → Fits edges symbol next → k < length borders → state < get_or borders k 0
+    → next ≤ get_or borders k 0
 fits_uncrossed states borders state [] symbol next k h f l b = absurd f
 fits_uncrossed states borders state (edge ∷ edges) symbol next k h (inl f) l b =
     let one = and_first (is_onward states borders state edge) (list_all (is_onward states borders state) edges) h in
@@ -182,7 +205,8 @@ fits_uncrossed states borders state (edge ∷ edges) symbol next k h (inr f) l b
 
 pub uncrossed_at : (form : AutoForm) (k : ℕ) → IsMachine form → k < length form.borders → Uncrossed form.table (get_or form.borders k 0)
 uncrossed_at form k m l state symbol next f b =
-    fits_uncrossed (length form.table) form.borders state (edges_at form.table state) symbol next k (list_all-from_AllPass (is_onward (length form.table) form.borders state) (edges_at form.table state) (m.onward state)) f l b
+    fits_uncrossed (length form.table) form.borders state (edges_at form.table state) symbol next k
+    (list_all-from_AllPass (is_onward (length form.table) form.borders state) (edges_at form.table state) (m.onward state)) f l b
 
 pub last_is : (border : ℕ) (borders : List ℕ) → get_or (border ∷ borders) (length borders) 0 ≡ last_of border borders
 last_is border [] = refl
@@ -206,7 +230,8 @@ accept_is border borders =
 abbrev form_of : List (List Edge) → List ℕ → AutoForm
 form_of table borders = record { table = table; borders = borders }
 
-the_chain : (table : List (List Edge)) (border : ℕ) (borders : List ℕ) (items : List Item) → IsMachine (form_of table (border ∷ borders)) → ReadsItems (form_of table (border ∷ borders)) items → Chain table items border borders
+the_chain : (table : List (List Edge)) (border : ℕ) (borders : List ℕ) (items : List Item) → IsMachine (form_of table (border ∷ borders))
+    → ReadsItems (form_of table (border ∷ borders)) items → Chain table items border borders
 the_chain table border borders items m r =
     let count = r.count in
     chain_of table items border borders (omega arith)
@@ -214,7 +239,8 @@ the_chain table border borders items m r =
     (λ k item e. rw add-one at (r.reads k item e))
     (λ k l. uncrossed_at (form_of table (border ∷ borders)) (suc k) m (omega arith))
 
-pub law_at : (table : List (List Edge)) (border : ℕ) (borders : List ℕ) (items : List Item) → IsMachine (form_of table (border ∷ borders)) → ReadsItems (form_of table (border ∷ borders)) items → CutsAreThoseOfDerivations (form_of table (border ∷ borders)) items
+pub law_at : (table : List (List Edge)) (border : ℕ) (borders : List ℕ) (items : List Item) → IsMachine (form_of table (border ∷ borders))
+    → ReadsItems (form_of table (border ∷ borders)) items → CutsAreThoseOfDerivations (form_of table (border ∷ borders)) items
 law_at table border borders items m r =
     let chain = the_chain table border borders items m r in
     let free = from_all border borders in
@@ -228,7 +254,8 @@ law_at table border borders items m r =
           let walk : Walk table border run w (last_of border borders) = rw accept at one in
           let other_walk : Walk table border other w (last_of border borders) = rw accept at two in
           let both : 0 ∷ stands_from (border ∷ borders) 1 run ≡ 0 ∷ stands_from (border ∷ borders) 1 other = sym (at_start border borders run) ∙ e ∙ at_start border borders other in
-          only_run table (border ∷ borders) items border borders 0 run other w chain free ascends walk other_walk (tails 0 0 (stands_from (border ∷ borders) 1 run) (stands_from (border ∷ borders) 1 other) both);
+          only_run table (border ∷ borders) items border borders 0 run other w chain free ascends walk other_walk
+          (tails 0 0 (stands_from (border ∷ borders) 1 run) (stands_from (border ∷ borders) 1 other) both);
       derivation = λ w run one.
           let walk : Walk table border run w (last_of border borders) = rw accept at one in
           let a = words_of table (border ∷ borders) items border borders 0 run w chain free ascends walk in
@@ -238,7 +265,8 @@ law_at table border borders items m r =
 no_borders : (table : List (List Edge)) → IsMachine (form_of table []) → ⊥
 no_borders table m = let some = m.bordered in omega arith
 
-law_of : (table : List (List Edge)) (borders : List ℕ) (items : List Item) → IsMachine (form_of table borders) → ReadsItems (form_of table borders) items → CutsAreThoseOfDerivations (form_of table borders) items
+law_of : (table : List (List Edge)) (borders : List ℕ) (items : List Item) → IsMachine (form_of table borders)
+    → ReadsItems (form_of table borders) items → CutsAreThoseOfDerivations (form_of table borders) items
 law_of table [] items m r = absurd (no_borders table m)
 law_of table (border ∷ borders) items m r = law_at table border borders items m r
 

@@ -85,7 +85,8 @@ free_back n next end (s ∷ x ∷ w) h =
 free_apart : (n next end : ℕ) (s : ℕ) (w : List ℕ) → ByEdge (edge 48 57 next) (IsFree n) s w → ByEdge (edge 48 57 end) IsEmpty s w → ⊥
 free_apart n next end s w h k = no_free n (rw k.2 at h.2)
 
-pub reads_free : (table : List (List Edge)) (n base q : ℕ) → Has table base (free_table (suc n) base) → Ascends table → q ≡ base + suc n → Reads table base q (IsFree (suc n))
+pub reads_free : (table : List (List Edge)) (n base q : ℕ) → Has table base (free_table (suc n) base) → Ascends table → q ≡ base + suc n
+    → Reads table base q (IsFree (suc n))
 reads_free table zero base q h a e =
     reads_as table base q (Begins (ByEdge (edge 48 57 (base + 1)) IsEmpty)) (IsFree 1)
     (reads_edge table base q 48 57 (base + 1) IsEmpty (has_head table base (edge 48 57 (base + 1) ∷ []) [] h) (omega arith) (reads_end table (base + 1) q a (omega arith)))
@@ -115,13 +116,15 @@ value_cons n s w l = ap (λ (k : ℕ). (s - 48) * 10 ^ k + decimal_value w) l
 
 -- the least first digit is 48, or 49 if it may be a zero only as the single digit
 abbrev TightBy : ℕ → ℕ → ℕ → ℕ → ℕ → ℕ → ℕ → List ℕ → Type 0
-TightBy low n digit rest next end = Either (ByEdge (edge low (47 + digit) (end - suc n)) (IsFree (suc n))) (Either (ByEdge (edge (48 + digit) (48 + digit) next) (IsTight (suc n) rest)) (Either (ByEdge (edge (above_digit n digit) 57 (end - n)) (FreeOrEnd n)) (ByEdge (edge 48 57 end) IsEmpty)))
+TightBy low n digit rest next end = Either (ByEdge (edge low (47 + digit) (end - suc n)) (IsFree (suc n)))
+    (Either (ByEdge (edge (48 + digit) (48 + digit) next) (IsTight (suc n) rest)) (Either (ByEdge (edge (above_digit n digit) 57 (end - n)) (FreeOrEnd n)) (ByEdge (edge 48 57 end) IsEmpty)))
 
 -- a first digit that is below the least is the only digit
 abbrev pub FirstFrom : ℕ → List ℕ → Type 0
 FirstFrom low w = get_or w 0 0 < low → length w ≡ 1
 
-tight_lower : (low n digit rest s : ℕ) (w : List ℕ) → 48 ≤ low → digit ≤ 9 → low ≤ s → s ≤ 47 + digit → IsFree (suc n) w → IsTight (suc (suc n)) (digit * 10 ^ suc n + rest) (s ∷ w)
+tight_lower : (low n digit rest s : ℕ) (w : List ℕ) → 48 ≤ low → digit ≤ 9 → low ≤ s → s ≤ 47 + digit → IsFree (suc n) w
+    → IsTight (suc (suc n)) (digit * 10 ^ suc n + rest) (s ∷ w)
 tight_lower low n digit rest s w f g a b free =
     let some = free.some in
     let most = free.most in
@@ -138,7 +141,8 @@ tight_lower low n digit rest s w f g a b free =
           omega arith;
     }
 
-tight_same : (n digit rest s : ℕ) (w : List ℕ) → digit ≤ 9 → 48 + digit ≤ s → s ≤ 48 + digit → IsTight (suc n) rest w → IsTight (suc (suc n)) (digit * 10 ^ suc n + rest) (s ∷ w)
+tight_same : (n digit rest s : ℕ) (w : List ℕ) → digit ≤ 9 → 48 + digit ≤ s → s ≤ 48 + digit → IsTight (suc n) rest w
+    → IsTight (suc (suc n)) (digit * 10 ^ suc n + rest) (s ∷ w)
 tight_same n digit rest s w g a b tight =
     let some = tight.some in
     let most = tight.most in
@@ -171,7 +175,8 @@ higher_low : (n digit s : ℕ) (w : List ℕ) → above_digit n digit ≤ s → 
 higher_low zero digit s w a b = omega arith
 higher_low (suc n) digit s w a b = omega arith
 
-tight_there : (low n digit rest next end : ℕ) → 48 ≤ low → low ≤ 48 + digit → low ≤ 49 → digit ≤ 9 → (w : List ℕ) → Begins (TightBy low n digit rest next end) w → IsTight (suc (suc n)) (digit * 10 ^ suc n + rest) w × FirstFrom low w
+tight_there : (low n digit rest next end : ℕ) → 48 ≤ low → low ≤ 48 + digit → low ≤ 49 → digit ≤ 9 → (w : List ℕ)
+    → Begins (TightBy low n digit rest next end) w → IsTight (suc (suc n)) (digit * 10 ^ suc n + rest) w × FirstFrom low w
 tight_there low n digit rest next end f m u g [] h = absurd h
 tight_there low n digit rest next end f m u g (s ∷ w) (inl h) = (tight_lower low n digit rest s w f g h.0 h.1 h.2, λ b. absurd (let a = h.0 in omega arith))
 tight_there low n digit rest next end f m u g (s ∷ w) (inr (inl h)) = (tight_same n digit rest s w g h.0 h.1 h.2, λ b. absurd (let a = h.0 in omega arith))
@@ -179,7 +184,8 @@ tight_there low n digit rest next end f m u g (s ∷ w) (inr (inr (inl h))) =
     (tight_higher n digit (digit * 10 ^ suc n + rest) s w h.0 h.1 h.2, λ b. absurd (let a = higher_low n digit s w h.0 h.1 in omega arith))
 tight_there low n digit rest next end f m u g (s ∷ w) (inr (inr (inr h))) = (tight_end n (digit * 10 ^ suc n + rest) s w h.0 h.1 h.2, λ b. let e = ap length h.2 in omega arith)
 
-same_digit : (n digit rest s : ℕ) (w : List ℕ) → s ≡ 48 + digit → IsTight (suc (suc n)) (digit * 10 ^ suc n + rest) (s ∷ w) → 1 ≤ length w → IsTight (suc n) rest w
+same_digit : (n digit rest s : ℕ) (w : List ℕ) → s ≡ 48 + digit → IsTight (suc (suc n)) (digit * 10 ^ suc n + rest) (s ∷ w) → 1 ≤ length w
+    → IsTight (suc n) rest w
 same_digit n digit rest s w e t some =
     let most = t.most in
     record {
@@ -195,7 +201,8 @@ same_digit n digit rest s w e t some =
     }
 
 -- a higher digit leaves room for one digit less
-fewer : (n digit rest s : ℕ) (w : List ℕ) → rest < 10 ^ suc n → 49 + digit ≤ s → IsTight (suc (suc n)) (digit * 10 ^ suc n + rest) (s ∷ w) → length w ≡ suc n → ⊥
+fewer : (n digit rest s : ℕ) (w : List ℕ) → rest < 10 ^ suc n → 49 + digit ≤ s → IsTight (suc (suc n)) (digit * 10 ^ suc n + rest) (s ∷ w)
+    → length w ≡ suc n → ⊥
 fewer n digit rest s w r a t count =
     let v = value_cons (suc n) s w count in
     let more : suc digit * 10 ^ suc n ≤ (s - 48) * 10 ^ suc n = mul-le-mul_right (10 ^ suc n) (omega arith) in
@@ -203,7 +210,8 @@ fewer n digit rest s w r a t count =
     let top = t.bound (omega arith) in
     omega arith
 
-by_higher : (n digit rest s : ℕ) (w : List ℕ) → rest < 10 ^ suc n → 49 + digit ≤ s → IsTight (suc (suc n)) (digit * 10 ^ suc n + rest) (s ∷ w) → 1 ≤ length w → (above_digit n digit ≤ s) × FreeOrEnd n w
+by_higher : (n digit rest s : ℕ) (w : List ℕ) → rest < 10 ^ suc n → 49 + digit ≤ s
+    → IsTight (suc (suc n)) (digit * 10 ^ suc n + rest) (s ∷ w) → 1 ≤ length w → (above_digit n digit ≤ s) × FreeOrEnd n w
 by_higher zero digit rest s w r a t some = absurd (let m = t.most in fewer zero digit rest s w r a t (omega arith))
 by_higher (suc n) digit rest s w r a t some =
     let most = t.most in
@@ -213,7 +221,8 @@ by_higher (suc n) digit rest s w r a t some =
     ] in
     (a, record { digits = other_digits s w t.digits; some = some; most = less })
 
-tight_longer : (low n digit rest next end s : ℕ) (w : List ℕ) → rest < 10 ^ suc n → low ≤ s → s ≤ 57 → IsTight (suc (suc n)) (digit * 10 ^ suc n + rest) (s ∷ w) → 1 ≤ length w → Begins (TightBy low n digit rest next end) (s ∷ w)
+tight_longer : (low n digit rest next end s : ℕ) (w : List ℕ) → rest < 10 ^ suc n → low ≤ s → s ≤ 57
+    → IsTight (suc (suc n)) (digit * 10 ^ suc n + rest) (s ∷ w) → 1 ≤ length w → Begins (TightBy low n digit rest next end) (s ∷ w)
 tight_longer low n digit rest next end s w r f top t some = elim (cases_lt s (48 + digit)) as (λ _. Begins (TightBy low n digit rest next end) (s ∷ w)) [
   | inl l ↦ let most = t.most in inl (f, omega arith, record { digits = other_digits s w t.digits; some = some; most = omega arith })
   | inr g ↦ elim (cases_eq s (48 + digit)) as (λ _. Begins (TightBy low n digit rest next end) (s ∷ w)) [
@@ -222,7 +231,8 @@ tight_longer low n digit rest next end s w r f top t some = elim (cases_lt s (48
   ]
 ]
 
-tight_back : (low n digit rest next end : ℕ) → rest < 10 ^ suc n → (w : List ℕ) → IsTight (suc (suc n)) (digit * 10 ^ suc n + rest) w → FirstFrom low w → Begins (TightBy low n digit rest next end) w
+tight_back : (low n digit rest next end : ℕ) → rest < 10 ^ suc n → (w : List ℕ) → IsTight (suc (suc n)) (digit * 10 ^ suc n + rest) w
+    → FirstFrom low w → Begins (TightBy low n digit rest next end) w
 tight_back low n digit rest next end r [] t f = no_tight (suc (suc n)) (digit * 10 ^ suc n + rest) t
 tight_back low n digit rest next end r (s ∷ []) t f = let d = first_digit s [] t.digits in inr (inr (inr (d.0, d.1, refl)))
 tight_back low n digit rest next end r (s ∷ x ∷ w) t f =
@@ -235,13 +245,16 @@ tight_back low n digit rest next end r (s ∷ x ∷ w) t f =
 
 -- the edges are apart
 
-apart_lower : (low n digit rest next end s : ℕ) (w : List ℕ) → ByEdge (edge low (47 + digit) (end - suc n)) (IsFree (suc n)) s w → Either (ByEdge (edge (48 + digit) (48 + digit) next) (IsTight (suc n) rest)) (Either (ByEdge (edge (above_digit n digit) 57 (end - n)) (FreeOrEnd n)) (ByEdge (edge 48 57 end) IsEmpty)) s w → ⊥
+apart_lower : (low n digit rest next end s : ℕ) (w : List ℕ) → ByEdge (edge low (47 + digit) (end - suc n)) (IsFree (suc n)) s w
+    → Either (ByEdge (edge (48 + digit) (48 + digit) next) (IsTight (suc n) rest)) (Either (ByEdge (edge (above_digit n digit) 57 (end - n)) (FreeOrEnd n)) (ByEdge (edge 48 57 end) IsEmpty)) s w
+    → ⊥
 apart_lower low n digit rest next end s w h (inl k) = let a = h.1 in let b = k.0 in omega arith
 apart_lower low zero digit rest next end s w h (inr (inl k)) = let a = k.0 in let b = k.1 in omega arith
 apart_lower low (suc n) digit rest next end s w h (inr (inl k)) = let a = h.1 in let b = k.0 in omega arith
 apart_lower low n digit rest next end s w h (inr (inr k)) = no_free (suc n) (rw k.2 at h.2)
 
-apart_same : (n digit rest next end s : ℕ) (w : List ℕ) → ByEdge (edge (48 + digit) (48 + digit) next) (IsTight (suc n) rest) s w → Either (ByEdge (edge (above_digit n digit) 57 (end - n)) (FreeOrEnd n)) (ByEdge (edge 48 57 end) IsEmpty) s w → ⊥
+apart_same : (n digit rest next end s : ℕ) (w : List ℕ) → ByEdge (edge (48 + digit) (48 + digit) next) (IsTight (suc n) rest) s w
+    → Either (ByEdge (edge (above_digit n digit) 57 (end - n)) (FreeOrEnd n)) (ByEdge (edge 48 57 end) IsEmpty) s w → ⊥
 apart_same zero digit rest next end s w h (inl k) = let a = k.0 in let b = k.1 in omega arith
 apart_same (suc n) digit rest next end s w h (inl k) = let a = h.1 in let b = k.0 in omega arith
 apart_same n digit rest next end s w h (inr k) = no_tight (suc n) rest (rw k.2 at h.2)
@@ -251,7 +264,10 @@ apart_higher zero digit end s w h k = let a = h.0 in let b = h.1 in omega arith
 apart_higher (suc n) digit end s w h k = no_free (suc n) (rw k.2 at h.2)
 
 -- a state after which some digits may follow
-pub reads_tight_more : (table : List (List Edge)) (low n digit rest base next q : ℕ) → 48 ≤ low → low ≤ 48 + digit → low ≤ 49 → digit ≤ 9 → rest < 10 ^ suc n → edges_at table base ≡ tight_edges low (suc n) digit next q → base < q → Ascends table → Reads table (q - suc n) q (IsFree (suc n)) → Reads table (q - n) q (FreeOrEnd n) → Reads table next q (IsTight (suc n) rest) → Reads table base q (λ w. IsTight (suc (suc n)) (digit * 10 ^ suc n + rest) w × FirstFrom low w)
+pub reads_tight_more : (table : List (List Edge)) (low n digit rest base next q : ℕ) → 48 ≤ low → low ≤ 48 + digit → low ≤ 49 → digit ≤ 9
+    → rest < 10 ^ suc n → edges_at table base ≡ tight_edges low (suc n) digit next q → base < q → Ascends table
+    → Reads table (q - suc n) q (IsFree (suc n)) → Reads table (q - n) q (FreeOrEnd n) → Reads table next q (IsTight (suc n) rest)
+    → Reads table base q (λ w. IsTight (suc (suc n)) (digit * 10 ^ suc n + rest) w × FirstFrom low w)
 reads_tight_more table low n digit rest base next q f m u g r e l a lower higher same =
     let end = arms_one table (edge 48 57 q) q IsEmpty (reads_end table q q a refl) in
     let three = arms_cons table (edge (above_digit n digit) 57 (q - n)) (edge 48 57 q ∷ []) q (FreeOrEnd n) (ByEdge (edge 48 57 q) IsEmpty) higher end (apart_higher n digit q) in
@@ -287,6 +303,8 @@ last_back digit next (s ∷ []) t =
     (d.0, omega arith, refl)
 last_back digit next (s ∷ x ∷ w) t = absurd (let m = t.most in omega arith)
 
-pub reads_tight_last : (table : List (List Edge)) (digit base q : ℕ) → digit ≤ 9 → edges_at table base ≡ edge 48 (48 + digit) q ∷ [] → base < q → Ascends table → Reads table base q (IsTight 1 digit)
+pub reads_tight_last : (table : List (List Edge)) (digit base q : ℕ) → digit ≤ 9 → edges_at table base ≡ edge 48 (48 + digit) q ∷ []
+    → base < q → Ascends table → Reads table base q (IsTight 1 digit)
 reads_tight_last table digit base q g e l a =
-    reads_as table base q (Begins (ByEdge (edge 48 (48 + digit) q) IsEmpty)) (IsTight 1 digit) (reads_edge table base q 48 (48 + digit) q IsEmpty e l (reads_end table q q a refl)) (last_there digit q g) (last_back digit q)
+    reads_as table base q (Begins (ByEdge (edge 48 (48 + digit) q) IsEmpty)) (IsTight 1 digit)
+    (reads_edge table base q 48 (48 + digit) q IsEmpty e l (reads_end table q q a refl)) (last_there digit q g) (last_back digit q)

@@ -85,7 +85,8 @@ fronted c value w p = record {
   character = and_first (is_in_set82 c) (are_in_set82 value) p.characters;
 }
 
-packed_coded : (lo n bits c : ℕ) (value w : List ℕ) → Fronted c value w → lo ≤ suc (length value) → length value ≤ n → length w ≡ bits → Code 7 0 (PacksIn (lo - 1) n (bits - 7)) w
+packed_coded : (lo n bits c : ℕ) (value w : List ℕ) → Fronted c value w → lo ≤ suc (length value) → length value ≤ n → length w ≡ bits
+    → Code 7 0 (PacksIn (lo - 1) n (bits - 7)) w
 packed_coded lo n bits c value w f least most count =
     let small = set82_bounds c f.character in
     let seven = length-bits_of 7 c in
@@ -110,9 +111,11 @@ code_root lo n bits a b s w (inl h) = let x = h.0 in inl (omega arith, omega ari
 code_root lo n bits a b s w (inr h) = let x = h.0 in inr (omega arith, omega arith, h.1)
 
 root_packed : (lo n bits a b : ℕ) → 7 ≤ bits → (s : ℕ) (w : List ℕ) → Root lo n bits a b s w → PacksIn lo (suc n) bits (s ∷ w)
-root_packed lo n bits a b few s w h = coded_packed lo n bits (s ∷ w) few (code_there 7 0 (PacksIn (lo - 1) n (bits - 7)) (s ∷ w) (root_code lo n bits a b s w h))
+root_packed lo n bits a b few s w h = coded_packed lo n bits (s ∷ w) few
+    (code_there 7 0 (PacksIn (lo - 1) n (bits - 7)) (s ∷ w) (root_code lo n bits a b s w h))
 
-some_code : (lo n bits : ℕ) (value w : List ℕ) → IsPacked value w → 1 ≤ length value → lo ≤ length value → length value ≤ suc n → length w ≡ bits → Code 7 0 (PacksIn (lo - 1) n (bits - 7)) w
+some_code : (lo n bits : ℕ) (value w : List ℕ) → IsPacked value w → 1 ≤ length value → lo ≤ length value → length value ≤ suc n
+    → length w ≡ bits → Code 7 0 (PacksIn (lo - 1) n (bits - 7)) w
 some_code lo n bits [] w p some least most count = absurd (omega arith)
 some_code lo n bits (c ∷ value) w p some least most count = packed_coded lo n bits c value w (fronted c value w p) (omega arith) (omega arith) count
 
@@ -140,7 +143,8 @@ zeros_here bits s w next few h =
     whole ∙ ap (λ (k : ℕ). replicate k 0) count
 
 abbrev RootOrZeros : ℕ → ℕ → ℕ → ℕ → ℕ → ℕ → List ℕ → Type 0
-RootOrZeros n bits a b next = Either (ByEdge (edge 0 0 a) (Code 6 0 (PacksIn 0 n (bits - 7)))) (Either (ByEdge (edge 1 1 b) (Code 6 1 (PacksIn 0 n (bits - 7)))) (Zeros bits next))
+RootOrZeros n bits a b next = Either (ByEdge (edge 0 0 a) (Code 6 0 (PacksIn 0 n (bits - 7))))
+    (Either (ByEdge (edge 1 1 b) (Code 6 1 (PacksIn 0 n (bits - 7)))) (Zeros bits next))
 
 may_there : (n bits a b next : ℕ) → 7 ≤ bits → (w : List ℕ) → Begins (RootOrZeros n bits a b next) w → PacksIn 0 (suc n) bits w
 may_there n bits a b next few [] h = absurd h
@@ -160,7 +164,8 @@ zeros_back n bits a b next s w few e =
     let rest : w ≡ replicate (bits - 1) 0 = cc in
     inr (inr (omega arith, omega arith, zeros_run (bits - 1) w rest))
 
-by_value : (n bits a b next s : ℕ) (value w : List ℕ) → 7 ≤ bits → IsPacked value (s ∷ w) → length value ≤ suc n → length (s ∷ w) ≡ bits → RootOrZeros n bits a b next s w
+by_value : (n bits a b next s : ℕ) (value w : List ℕ) → 7 ≤ bits → IsPacked value (s ∷ w) → length value ≤ suc n → length (s ∷ w) ≡ bits
+    → RootOrZeros n bits a b next s w
 by_value n bits a b next s [] w few p most count = zeros_back n bits a b next s w few (packed_nil (s ∷ w) p ∙ ap (λ (k : ℕ). replicate k 0) count)
 by_value n bits a b next s (c ∷ value) w few p most count =
     from_root n bits a b next s w (code_root 0 n bits a b s w (some_code 0 n bits (c ∷ value) (s ∷ w) p (omega arith) (omega arith) most count))
@@ -191,32 +196,40 @@ zeros_apart n bits a b next s w few h k =
 
 -- the state of a character's first bit
 
-reads_must : (table : List (List Edge)) (lo n bits base q : ℕ) → 7 ≤ bits → edges_at table base ≡ root_edges (suc lo) bits base q → base < q → Reads table (base + 1) q (Code 6 0 (PacksIn lo n (bits - 7))) → Reads table (base + 2) q (Code 6 1 (PacksIn lo n (bits - 7))) → Reads table base q (PacksIn (suc lo) (suc n) bits)
+reads_must : (table : List (List Edge)) (lo n bits base q : ℕ) → 7 ≤ bits → edges_at table base ≡ root_edges (suc lo) bits base q → base < q
+    → Reads table (base + 1) q (Code 6 0 (PacksIn lo n (bits - 7))) → Reads table (base + 2) q (Code 6 1 (PacksIn lo n (bits - 7)))
+    → Reads table base q (PacksIn (suc lo) (suc n) bits)
 reads_must table lo n bits base q few e l r s =
     let less : suc lo - 1 ≡ lo = omega arith in
     let low : Reads table (base + 1) q (Code 6 0 (PacksIn (suc lo - 1) n (bits - 7))) = subst (λ (k : ℕ). Reads table (base + 1) q (Code 6 0 (PacksIn k n (bits - 7)))) (sym less) r in
     let high : Reads table (base + 2) q (Code 6 1 (PacksIn (suc lo - 1) n (bits - 7))) = subst (λ (k : ℕ). Reads table (base + 2) q (Code 6 1 (PacksIn k n (bits - 7)))) (sym less) s in
     let arms = arms_fork table (base + 1) (base + 2) q (Code 6 0 (PacksIn (suc lo - 1) n (bits - 7))) (Code 6 1 (PacksIn (suc lo - 1) n (bits - 7))) low high in
     let state = reads_state table base q (edge 0 0 (base + 1) ∷ edge 1 1 (base + 2) ∷ []) (Root (suc lo) n bits (base + 1) (base + 2)) e l arms in
-    reads_as table base q (Begins (Root (suc lo) n bits (base + 1) (base + 2))) (PacksIn (suc lo) (suc n) bits) state (must_there lo n bits (base + 1) (base + 2) few) (must_back lo n bits (base + 1) (base + 2) few)
+    reads_as table base q (Begins (Root (suc lo) n bits (base + 1) (base + 2))) (PacksIn (suc lo) (suc n) bits) state
+    (must_there lo n bits (base + 1) (base + 2) few) (must_back lo n bits (base + 1) (base + 2) few)
 
-first_apart : (n bits a b next : ℕ) → 7 ≤ bits → (s : ℕ) (w : List ℕ) → ByEdge (edge 0 0 a) (Code 6 0 (PacksIn 0 n (bits - 7))) s w → Either (ByEdge (edge 1 1 b) (Code 6 1 (PacksIn 0 n (bits - 7)))) (Zeros bits next) s w → ⊥
+first_apart : (n bits a b next : ℕ) → 7 ≤ bits → (s : ℕ) (w : List ℕ) → ByEdge (edge 0 0 a) (Code 6 0 (PacksIn 0 n (bits - 7))) s w
+    → Either (ByEdge (edge 1 1 b) (Code 6 1 (PacksIn 0 n (bits - 7)))) (Zeros bits next) s w → ⊥
 first_apart n bits a b next few s w h (inl k) = let x = h.1 in let y = k.0 in omega arith
 first_apart n bits a b next few s w h (inr k) = zeros_apart n bits a b next s w few (inl h) k
 
-reads_may : (table : List (List Edge)) (n bits base q : ℕ) → 7 ≤ bits → edges_at table base ≡ root_edges 0 bits base q → base < q → Reads table (base + 1) q (Code 6 0 (PacksIn 0 n (bits - 7))) → Reads table (base + 2) q (Code 6 1 (PacksIn 0 n (bits - 7))) → Reads table (q - (bits - 1)) q (IsRun 0 0 (bits - 1)) → Reads table base q (PacksIn 0 (suc n) bits)
+reads_may : (table : List (List Edge)) (n bits base q : ℕ) → 7 ≤ bits → edges_at table base ≡ root_edges 0 bits base q → base < q
+    → Reads table (base + 1) q (Code 6 0 (PacksIn 0 n (bits - 7))) → Reads table (base + 2) q (Code 6 1 (PacksIn 0 n (bits - 7)))
+    → Reads table (q - (bits - 1)) q (IsRun 0 0 (bits - 1)) → Reads table base q (PacksIn 0 (suc n) bits)
 reads_may table n bits base q few e l r s z =
     let zeros = arms_one table (edge 0 0 (q - (bits - 1))) q (IsRun 0 0 (bits - 1)) z in
     let ones = arms_cons table (edge 1 1 (base + 2)) (edge 0 0 (q - (bits - 1)) ∷ []) q (Code 6 1 (PacksIn 0 n (bits - 7))) (Zeros bits (q - (bits - 1))) s zeros (λ x w h k. let a = h.0 in let b = k.1 in omega arith) in
     let arms = arms_cons table (edge 0 0 (base + 1)) (edge 1 1 (base + 2) ∷ edge 0 0 (q - (bits - 1)) ∷ []) q (Code 6 0 (PacksIn 0 n (bits - 7))) (Either (ByEdge (edge 1 1 (base + 2)) (Code 6 1 (PacksIn 0 n (bits - 7)))) (Zeros bits (q - (bits - 1)))) r ones (first_apart n bits (base + 1) (base + 2) (q - (bits - 1)) few) in
     let state = reads_state table base q (edge 0 0 (base + 1) ∷ edge 1 1 (base + 2) ∷ edge 0 0 (q - (bits - 1)) ∷ []) (RootOrZeros n bits (base + 1) (base + 2) (q - (bits - 1))) e l arms in
-    reads_as table base q (Begins (RootOrZeros n bits (base + 1) (base + 2) (q - (bits - 1)))) (PacksIn 0 (suc n) bits) state (may_there n bits (base + 1) (base + 2) (q - (bits - 1)) few) (may_back n bits (base + 1) (base + 2) (q - (bits - 1)) few)
+    reads_as table base q (Begins (RootOrZeros n bits (base + 1) (base + 2) (q - (bits - 1)))) (PacksIn 0 (suc n) bits) state
+    (may_there n bits (base + 1) (base + 2) (q - (bits - 1)) few) (may_back n bits (base + 1) (base + 2) (q - (bits - 1)) few)
 
 -- the chain of zeros
 abbrev ZerosFrom : List (List Edge) → ℕ → ℕ → Type 0
 ZerosFrom table n q = (j : ℕ) → j ≤ n → Reads table (q - j) q (IsRun 0 0 j)
 
-zeros_at : (table : List (List Edge)) (n base q j : ℕ) → Has table base (run_table 0 0 n base) → q ≡ base + n → j ≤ n → Has table (q - j) (run_table 0 0 j (q - j))
+zeros_at : (table : List (List Edge)) (n base q j : ℕ) → Has table base (run_table 0 0 n base) → q ≡ base + n → j ≤ n
+    → Has table (q - j) (run_table 0 0 j (q - j))
 zeros_at table zero base q j h e m =
     let none : j ≡ 0 = omega arith in
     let place : base ≡ q - j = omega arith in
@@ -245,17 +258,21 @@ pub record ReadsCode (table : List (List Edge)) (lo n bits base q : ℕ) : Type 
   pub low : Reads table (base + 1) q (Code 6 0 (PacksIn (lo - 1) n (bits - 7)))
   pub high : Reads table (base + 2) q (Code 6 1 (PacksIn (lo - 1) n (bits - 7)))
 
-reads_code : (table : List (List Edge)) (lo n bits base next q : ℕ) → Has table (base + 1) (code_block code_states (base + 1) next) → base + 24 ≤ q → Reads table next q (PacksIn (lo - 1) n (bits - 7)) → ReadsCode table lo n bits base q
+reads_code : (table : List (List Edge)) (lo n bits base next q : ℕ) → Has table (base + 1) (code_block code_states (base + 1) next)
+    → base + 24 ≤ q → Reads table next q (PacksIn (lo - 1) n (bits - 7)) → ReadsCode table lo n bits base q
 reads_code table lo n bits base next q h l r =
     let code : HasCode table (base + 1) next q (PacksIn (lo - 1) n (bits - 7)) = record { states = h; room = omega arith; end = r } in
     let first : base + 1 + 0 ≡ base + 1 = omega arith in
     let second : base + 1 + 1 ≡ base + 2 = omega arith in
     record {
-      low = subst (λ (k : ℕ). Reads table k q (Code 6 0 (PacksIn (lo - 1) n (bits - 7)))) first (reads_low table (base + 1) next q (PacksIn (lo - 1) n (bits - 7)) code);
-      high = subst (λ (k : ℕ). Reads table k q (Code 6 1 (PacksIn (lo - 1) n (bits - 7)))) second (reads_high table (base + 1) next q (PacksIn (lo - 1) n (bits - 7)) code);
+      low = subst (λ (k : ℕ). Reads table k q (Code 6 0 (PacksIn (lo - 1) n (bits - 7)))) first
+          (reads_low table (base + 1) next q (PacksIn (lo - 1) n (bits - 7)) code);
+      high = subst (λ (k : ℕ). Reads table k q (Code 6 1 (PacksIn (lo - 1) n (bits - 7)))) second
+          (reads_high table (base + 1) next q (PacksIn (lo - 1) n (bits - 7)) code);
     }
 
-reads_root : (table : List (List Edge)) (lo n bits base q chain : ℕ) → 7 ≤ bits → edges_at table base ≡ root_edges lo bits base q → base < q → ZerosFrom table chain q → bits ≤ chain + 7 * lo → ReadsCode table lo n bits base q → Reads table base q (PacksIn lo (suc n) bits)
+reads_root : (table : List (List Edge)) (lo n bits base q chain : ℕ) → 7 ≤ bits → edges_at table base ≡ root_edges lo bits base q → base < q
+    → ZerosFrom table chain q → bits ≤ chain + 7 * lo → ReadsCode table lo n bits base q → Reads table base q (PacksIn lo (suc n) bits)
 reads_root table zero n bits base q chain few e l z c r = reads_may table n bits base q few e l r.low r.high (z (bits - 1) (omega arith))
 reads_root table (suc lo) n bits base q chain few e l z c r =
     let less : suc lo - 1 ≡ lo = omega arith in
@@ -263,7 +280,9 @@ reads_root table (suc lo) n bits base q chain few e l z c r =
     let high : Reads table (base + 2) q (Code 6 1 (PacksIn lo n (bits - 7))) = subst (λ (k : ℕ). Reads table (base + 2) q (Code 6 1 (PacksIn k n (bits - 7)))) less r.high in
     reads_must table lo n bits base q few e l low high
 
-pub reads_characters : (table : List (List Edge)) (n lo bits base q chain : ℕ) → Has table base (characters_table lo (suc n) bits base q) → lo ≤ suc n → 7 * suc n ≤ bits → bits ≤ chain + 7 * lo → base + 24 * suc n ≤ q → ZerosFrom table chain q → Reads table base q (PacksIn lo (suc n) bits)
+pub reads_characters : (table : List (List Edge)) (n lo bits base q chain : ℕ) → Has table base (characters_table lo (suc n) bits base q)
+    → lo ≤ suc n → 7 * suc n ≤ bits → bits ≤ chain + 7 * lo → base + 24 * suc n ≤ q → ZerosFrom table chain q
+    → Reads table base q (PacksIn lo (suc n) bits)
 reads_characters table zero lo bits base q chain h l few most room z =
     let next : ℕ = q - (bits - 7) in
     let row : List Edge = root_edges lo bits base q in
@@ -304,7 +323,8 @@ within_packs lo hi bits w h =
     let most = h.1.most in
     record { value = h.1.packed.value; packed = h.1.packed.packed; least = omega arith; most = omega arith; count = h.0 }
 
-pub reads_ascii : (table : List (List Edge)) (lo hi bits base q : ℕ) → Has table base (ascii_table lo hi bits base) → Ascends table → 1 ≤ lo → lo ≤ hi → 7 * hi ≤ bits → q ≡ base + 24 * hi + (bits - 7 * lo) → Reads table base q (IsWord (Ascii7 lo hi bits))
+pub reads_ascii : (table : List (List Edge)) (lo hi bits base q : ℕ) → Has table base (ascii_table lo hi bits base) → Ascends table → 1 ≤ lo
+    → lo ≤ hi → 7 * hi ≤ bits → q ≡ base + 24 * hi + (bits - 7 * lo) → Reads table base q (IsWord (Ascii7 lo hi bits))
 reads_ascii table lo zero bits base q h a some l few e = absurd (omega arith)
 reads_ascii table lo (suc n) bits base q h a some l few e =
     let end : ℕ = base + 24 * suc n + (bits - 7 * lo) in

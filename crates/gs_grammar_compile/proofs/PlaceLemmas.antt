@@ -11,18 +11,22 @@ join_if : (b : Bool) (i : ℕ) (p q r : List ℕ) → p ≡ q ++ r → (if b the
 join_if true i p q r e = ap (λ (x : List ℕ). i ∷ x) e
 join_if false i p q r e = e
 
-pub stands_append : (borders : List ℕ) (i : ℕ) (xs ys : List ℕ) → stands_from borders i (xs ++ ys) ≡ stands_from borders i xs ++ stands_from borders (i + length xs) ys
+pub stands_append : (borders : List ℕ) (i : ℕ) (xs ys : List ℕ)
+    → stands_from borders i (xs ++ ys) ≡ stands_from borders i xs ++ stands_from borders (i + length xs) ys
 stands_append borders i [] ys = ap (λ (j : ℕ). stands_from borders j ys) (omega arith)
 stands_append borders i (x ∷ xs) ys =
     let rest = stands_append borders (i + 1) xs ys in
     let place : stands_from borders (i + 1 + length xs) ys ≡ stands_from borders (i + length (x ∷ xs)) ys = ap (λ (j : ℕ). stands_from borders j ys) (omega arith) in
     let more : stands_from borders (i + 1) (xs ++ ys) ≡ stands_from borders (i + 1) xs ++ stands_from borders (i + length (x ∷ xs)) ys = rest ∙ ap (λ (r : List ℕ). stands_from borders (i + 1) xs ++ r) place in
-    join_if (is_border borders x) i (stands_from borders (i + 1) (xs ++ ys)) (stands_from borders (i + 1) xs) (stands_from borders (i + length (x ∷ xs)) ys) more
+    join_if (is_border borders x) i (stands_from borders (i + 1) (xs ++ ys)) (stands_from borders (i + 1) xs)
+    (stands_from borders (i + length (x ∷ xs)) ys) more
 
-pub stands_here : (borders : List ℕ) (i state : ℕ) (states : List ℕ) → is_border borders state ≡ true → stands_from borders i (state ∷ states) ≡ i ∷ stands_from borders (i + 1) states
+pub stands_here : (borders : List ℕ) (i state : ℕ) (states : List ℕ) → is_border borders state ≡ true
+    → stands_from borders i (state ∷ states) ≡ i ∷ stands_from borders (i + 1) states
 stands_here borders i state states e = rw e refl
 
-stands_past : (borders : List ℕ) (i state : ℕ) (states : List ℕ) → is_border borders state ≡ false → stands_from borders i (state ∷ states) ≡ stands_from borders (i + 1) states
+stands_past : (borders : List ℕ) (i state : ℕ) (states : List ℕ) → is_border borders state ≡ false
+    → stands_from borders i (state ∷ states) ≡ stands_from borders (i + 1) states
 stands_past borders i state states e = rw e refl
 
 -- borders that rise from one on
@@ -47,19 +51,23 @@ from_next all border next borders h l state m =
     let here : eqb border state ≡ false = grind (arith, nat_tests) in
     h state (omega arith) ∙ rw here refl
 
-pub border_at : (all : List ℕ) (border next : ℕ) (borders : List ℕ) (state : ℕ) → From all border (next ∷ borders) → border < next → state ≡ next → is_border all state ≡ true
+pub border_at : (all : List ℕ) (border next : ℕ) (borders : List ℕ) (state : ℕ) → From all border (next ∷ borders) → border < next
+    → state ≡ next → is_border all state ≡ true
 border_at all border next borders state h l e =
     let same : eqb next state ≡ true = grind (arith, nat_tests) in
     from_next all border next borders h l state (omega arith) ∙ rw same refl
 
-pub no_border : (all : List ℕ) (border next : ℕ) (borders : List ℕ) (state : ℕ) → From all border (next ∷ borders) → Rises next borders → border < state → state < next → is_border all state ≡ false
+pub no_border : (all : List ℕ) (border next : ℕ) (borders : List ℕ) (state : ℕ) → From all border (next ∷ borders) → Rises next borders
+    → border < state → state < next → is_border all state ≡ false
 no_border all border next borders state h r l m =
     let here : eqb border state ≡ false = grind (arith, nat_tests) in
     let rest = none_below next borders state r m in
     h state (omega arith) ∙ rw (here, rest) refl
 
 -- a walk to the next border is at a border only at its end
-pub stands_part : (table : List (List Edge)) (all : List ℕ) (border next : ℕ) (borders : List ℕ) (p i j : ℕ) (ts w : List ℕ) → From all border (next ∷ borders) → Rises next borders → Ascends table → border ≤ p → p < next → Walk table p ts w next → j + 1 ≡ i + length ts → stands_from all i ts ≡ j ∷ []
+pub stands_part : (table : List (List Edge)) (all : List ℕ) (border next : ℕ) (borders : List ℕ) (p i j : ℕ) (ts w : List ℕ)
+    → From all border (next ∷ borders) → Rises next borders → Ascends table → border ≤ p → p < next → Walk table p ts w next
+    → j + 1 ≡ i + length ts → stands_from all i ts ≡ j ∷ []
 stands_part table all border next borders p i j [] [] h r a l m w e = absurd (omega arith)
 stands_part table all border next borders p i j [] (s ∷ v) h r a l m w e = absurd w
 stands_part table all border next borders p i j (t ∷ ts) [] h r a l m w e = absurd w

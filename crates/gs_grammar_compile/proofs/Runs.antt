@@ -12,7 +12,8 @@ use Rattle.gs_grammar_compile.proofs.Arms.{Begins, ByEdge, Either, IsEmpty, read
 use Rattle.gs_grammar_compile.proofs.Blocks.{Has, has_head, has_tail}
 
 -- one state with one edge
-pub reads_edge : (table : List (List Edge)) (p q lo hi next : ℕ) (language : List ℕ → Type 0) → edges_at table p ≡ edge lo hi next ∷ [] → p < q → Reads table next q language → Reads table p q (Begins (ByEdge (edge lo hi next) language))
+pub reads_edge : (table : List (List Edge)) (p q lo hi next : ℕ) (language : List ℕ → Type 0) → edges_at table p ≡ edge lo hi next ∷ []
+    → p < q → Reads table next q language → Reads table p q (Begins (ByEdge (edge lo hi next) language))
 reads_edge table p q lo hi next language e l r =
     reads_state table p q (edge lo hi next ∷ []) (ByEdge (edge lo hi next) language) e l (arms_one table (edge lo hi next) q language r)
 
@@ -27,12 +28,14 @@ lit_back symbol symbols next (s ∷ w) e =
     let rest : w ≡ symbols = cc in
     (omega arith, omega arith, rest)
 
-pub reads_lit : (table : List (List Edge)) (symbols : List ℕ) (base q : ℕ) → Has table base (lit_table symbols base) → Ascends table → q ≡ base + length symbols → Reads table base q (λ w. w ≡ symbols)
+pub reads_lit : (table : List (List Edge)) (symbols : List ℕ) (base q : ℕ) → Has table base (lit_table symbols base) → Ascends table
+    → q ≡ base + length symbols → Reads table base q (λ w. w ≡ symbols)
 reads_lit table [] base q h a e = reads_end table base q a (omega arith)
 reads_lit table (symbol ∷ symbols) base q h a e =
     let rest = reads_lit table symbols (base + 1) q (has_tail table base (edge symbol symbol (base + 1) ∷ []) (lit_table symbols (base + 1)) h) a (omega arith) in
     let here = reads_edge table base q symbol symbol (base + 1) (λ w. w ≡ symbols) (has_head table base (edge symbol symbol (base + 1) ∷ []) (lit_table symbols (base + 1)) h) (omega arith) rest in
-    reads_as table base q (Begins (ByEdge (edge symbol symbol (base + 1)) (λ w. w ≡ symbols))) (λ w. w ≡ symbol ∷ symbols) here (lit_there symbol symbols (base + 1)) (lit_back symbol symbols (base + 1))
+    reads_as table base q (Begins (ByEdge (edge symbol symbol (base + 1)) (λ w. w ≡ symbols))) (λ w. w ≡ symbol ∷ symbols) here
+    (lit_there symbol symbols (base + 1)) (lit_back symbol symbols (base + 1))
 
 -- n symbols of a range
 abbrev pub IsRun : ℕ → ℕ → ℕ → List ℕ → Type 0
@@ -48,12 +51,14 @@ run_back : (lo hi n next : ℕ) (w : List ℕ) → IsRun lo hi (suc n) w → Beg
 run_back lo hi n next [] h = h
 run_back lo hi n next (s ∷ w) h = h
 
-pub reads_run : (table : List (List Edge)) (lo hi n base q : ℕ) → Has table base (run_table lo hi n base) → Ascends table → q ≡ base + n → Reads table base q (IsRun lo hi n)
+pub reads_run : (table : List (List Edge)) (lo hi n base q : ℕ) → Has table base (run_table lo hi n base) → Ascends table → q ≡ base + n
+    → Reads table base q (IsRun lo hi n)
 reads_run table lo hi zero base q h a e = reads_end table base q a (omega arith)
 reads_run table lo hi (suc n) base q h a e =
     let rest = reads_run table lo hi n (base + 1) q (has_tail table base (edge lo hi (base + 1) ∷ []) (run_table lo hi n (base + 1)) h) a (omega arith) in
     let here = reads_edge table base q lo hi (base + 1) (IsRun lo hi n) (has_head table base (edge lo hi (base + 1) ∷ []) (run_table lo hi n (base + 1)) h) (omega arith) rest in
-    reads_as table base q (Begins (ByEdge (edge lo hi (base + 1)) (IsRun lo hi n))) (IsRun lo hi (suc n)) here (run_there lo hi n (base + 1)) (run_back lo hi n (base + 1))
+    reads_as table base q (Begins (ByEdge (edge lo hi (base + 1)) (IsRun lo hi n))) (IsRun lo hi (suc n)) here
+    (run_there lo hi n (base + 1)) (run_back lo hi n (base + 1))
 
 -- digits
 
@@ -103,7 +108,9 @@ IsFill (suc n) more [] = ⊥
 IsFill (suc n) more (s ∷ w) = (0 ≤ s) × (s ≤ 0) × IsFill n more w
 
 -- by one zero
-by_zero : (table : List (List Edge)) (base q next : ℕ) (language : List ℕ → Type 0) → edges_at table base ≡ edge 0 0 next ∷ [] → base < q → Reads table next q language → (other : List ℕ → Type 0) → ((w : List ℕ) → Begins (ByEdge (edge 0 0 next) language) w → other w) → ((w : List ℕ) → other w → Begins (ByEdge (edge 0 0 next) language) w) → Reads table base q other
+by_zero : (table : List (List Edge)) (base q next : ℕ) (language : List ℕ → Type 0) → edges_at table base ≡ edge 0 0 next ∷ [] → base < q
+    → Reads table next q language → (other : List ℕ → Type 0) → ((w : List ℕ) → Begins (ByEdge (edge 0 0 next) language) w → other w)
+    → ((w : List ℕ) → other w → Begins (ByEdge (edge 0 0 next) language) w) → Reads table base q other
 by_zero table base q next language e l r other there back =
     reads_as table base q (Begins (ByEdge (edge 0 0 next) language)) other (reads_edge table base q 0 0 next language e l r) there back
 
@@ -124,12 +131,14 @@ more_back : (n more next : ℕ) (w : List ℕ) → IsFill (suc n) more w → Beg
 more_back n more next [] h = h
 more_back n more next (s ∷ w) h = h
 
-fork_there : (more next last : ℕ) (w : List ℕ) → Begins (Either (ByEdge (edge 0 0 next) (IsRun 0 0 (suc more))) (ByEdge (edge 0 0 last) IsEmpty)) w → IsFill 1 (suc more) w
+fork_there : (more next last : ℕ) (w : List ℕ)
+    → Begins (Either (ByEdge (edge 0 0 next) (IsRun 0 0 (suc more))) (ByEdge (edge 0 0 last) IsEmpty)) w → IsFill 1 (suc more) w
 fork_there more next last [] h = h
 fork_there more next last (s ∷ w) (inl h) = (h.0, h.1, inr h.2)
 fork_there more next last (s ∷ w) (inr h) = (h.0, h.1, inl h.2)
 
-fork_back : (more next last : ℕ) (w : List ℕ) → IsFill 1 (suc more) w → Begins (Either (ByEdge (edge 0 0 next) (IsRun 0 0 (suc more))) (ByEdge (edge 0 0 last) IsEmpty)) w
+fork_back : (more next last : ℕ) (w : List ℕ) → IsFill 1 (suc more) w
+    → Begins (Either (ByEdge (edge 0 0 next) (IsRun 0 0 (suc more))) (ByEdge (edge 0 0 last) IsEmpty)) w
 fork_back more next last [] h = h
 fork_back more next last (s ∷ w) (low, high, inl e) = inr (low, high, e)
 fork_back more next last (s ∷ w) (low, high, inr r) = inl (low, high, r)
@@ -138,7 +147,8 @@ fork_apart : (more next last : ℕ) (s : ℕ) (w : List ℕ) → ByEdge (edge 0 
 fork_apart more next last s [] h k = h.2
 fork_apart more next last s (x ∷ w) h k = let f : x ∷ w ≡ [] = k.2 in cc
 
-reads_fork : (table : List (List Edge)) (more base last : ℕ) → Has table base (fill_table 1 (suc more) base) → Ascends table → last ≡ base + 1 + suc more → Reads table base last (IsFill 1 (suc more))
+reads_fork : (table : List (List Edge)) (more base last : ℕ) → Has table base (fill_table 1 (suc more) base) → Ascends table
+    → last ≡ base + 1 + suc more → Reads table base last (IsFill 1 (suc more))
 reads_fork table more base last h a e =
     let row = has_head table base (edge 0 0 (base + 1) ∷ edge 0 0 (base + 1 + suc more) ∷ []) (run_table 0 0 (suc more) (base + 1)) h in
     let here : edges_at table base ≡ edge 0 0 (base + 1) ∷ edge 0 0 last ∷ [] = rw e row in
@@ -146,11 +156,14 @@ reads_fork table more base last h a e =
     let end = arms_one table (edge 0 0 last) last IsEmpty (reads_end table last last a refl) in
     let arms = arms_cons table (edge 0 0 (base + 1)) (edge 0 0 last ∷ []) last (IsRun 0 0 (suc more)) (ByEdge (edge 0 0 last) IsEmpty) rest end (fork_apart more (base + 1) last) in
     let state = reads_state table base last (edge 0 0 (base + 1) ∷ edge 0 0 last ∷ []) (Either (ByEdge (edge 0 0 (base + 1)) (IsRun 0 0 (suc more))) (ByEdge (edge 0 0 last) IsEmpty)) here (omega arith) arms in
-    reads_as table base last (Begins (Either (ByEdge (edge 0 0 (base + 1)) (IsRun 0 0 (suc more))) (ByEdge (edge 0 0 last) IsEmpty))) (IsFill 1 (suc more)) state (fork_there more (base + 1) last) (fork_back more (base + 1) last)
+    reads_as table base last (Begins (Either (ByEdge (edge 0 0 (base + 1)) (IsRun 0 0 (suc more))) (ByEdge (edge 0 0 last) IsEmpty)))
+    (IsFill 1 (suc more)) state (fork_there more (base + 1) last) (fork_back more (base + 1) last)
 
-pub reads_fill : (table : List (List Edge)) (n more base q : ℕ) → Has table base (fill_table (suc n) more base) → Ascends table → q ≡ base + suc n + more → Reads table base q (IsFill (suc n) more)
+pub reads_fill : (table : List (List Edge)) (n more base q : ℕ) → Has table base (fill_table (suc n) more base) → Ascends table
+    → q ≡ base + suc n + more → Reads table base q (IsFill (suc n) more)
 reads_fill table zero zero base q h a e =
-    by_zero table base q (base + 1) IsEmpty (has_head table base (edge 0 0 (base + 1) ∷ []) [] h) (omega arith) (reads_end table (base + 1) q a (omega arith)) (IsFill 1 0) (one_there (base + 1)) (one_back (base + 1))
+    by_zero table base q (base + 1) IsEmpty (has_head table base (edge 0 0 (base + 1) ∷ []) [] h) (omega arith)
+    (reads_end table (base + 1) q a (omega arith)) (IsFill 1 0) (one_there (base + 1)) (one_back (base + 1))
 reads_fill table zero (suc more) base q h a e = reads_fork table more base q h a (omega arith)
 reads_fill table (suc n) more base q h a e =
     let rest = reads_fill table n more (base + 1) q (has_tail table base (edge 0 0 (base + 1) ∷ []) (fill_table (suc n) more (base + 1)) h) a (omega arith) in
@@ -168,22 +181,19 @@ fill_words (suc n) more (suc total) (s ∷ w) e h =
       | inr r ↦ inr (cc)
     ]
 
-fill_from : (n more total : ℕ) (w : List ℕ) → total ≡ n + more → (w ≡ replicate n 0) ⊎ (w ≡ replicate total 0) → IsFill n more w
-fill_from zero more total w e (inl h) = inl h
-fill_from zero more total w e (inr h) = let same : total ≡ more = omega arith in inr (zeros_run more w (rw same at h))
-fill_from (suc n) more zero w e h = absurd (omega arith)
-fill_from (suc n) more (suc total) [] e (inl h) = absurd (let f : [] ≡ 0 ∷ replicate n 0 = h in cc)
-fill_from (suc n) more (suc total) [] e (inr h) = absurd (let f : [] ≡ 0 ∷ replicate total 0 = h in cc)
-fill_from (suc n) more (suc total) (s ∷ w) e (inl h) =
+pub words_fill : (n more total : ℕ) (w : List ℕ) → total ≡ n + more → (w ≡ replicate n 0) ⊎ (w ≡ replicate total 0) → IsFill n more w
+words_fill zero more total w e (inl h) = inl h
+words_fill zero more total w e (inr h) = let same : total ≡ more = omega arith in inr (zeros_run more w (rw same at h))
+words_fill (suc n) more zero w e h = absurd (omega arith)
+words_fill (suc n) more (suc total) [] e (inl h) = absurd (let f : [] ≡ 0 ∷ replicate n 0 = h in cc)
+words_fill (suc n) more (suc total) [] e (inr h) = absurd (let f : [] ≡ 0 ∷ replicate total 0 = h in cc)
+words_fill (suc n) more (suc total) (s ∷ w) e (inl h) =
     let f : s ∷ w ≡ 0 ∷ replicate n 0 = h in
     let first : s ≡ 0 = cc in
     let rest : w ≡ replicate n 0 = cc in
-    (omega arith, omega arith, fill_from n more total w (omega arith) (inl rest))
-fill_from (suc n) more (suc total) (s ∷ w) e (inr h) =
+    (omega arith, omega arith, words_fill n more total w (omega arith) (inl rest))
+words_fill (suc n) more (suc total) (s ∷ w) e (inr h) =
     let f : s ∷ w ≡ 0 ∷ replicate total 0 = h in
     let first : s ≡ 0 = cc in
     let rest : w ≡ replicate total 0 = cc in
-    (omega arith, omega arith, fill_from n more total w (omega arith) (inr rest))
-
-pub words_fill : (n more total : ℕ) (w : List ℕ) → total ≡ n + more → (w ≡ replicate n 0) ⊎ (w ≡ replicate total 0) → IsFill n more w
-words_fill n more total w e h = fill_from n more total w e h
+    (omega arith, omega arith, words_fill n more total w (omega arith) (inr rest))

@@ -40,7 +40,8 @@ none_spelled value w (one_more c v s rest p t) e = absurd (omega arith)
 some_spelled : (value w : List ℕ) → SpellsEach value w → 1 ≤ length value → w ≡ [] → ⊥
 some_spelled value w no_more l e = absurd (omega arith)
 some_spelled value w (one_more c v s rest (inl p) t) l e = let f : c ∷ rest ≡ [] = sym (ap (λ (x : List ℕ). x ++ rest) p.1) ∙ e in cc
-some_spelled value w (one_more c v s rest (inr p) t) l e = let q = p.1 in let f : 37 ∷ q.high ∷ q.low ∷ rest ≡ [] = sym (ap (λ (x : List ℕ). x ++ rest) q.text) ∙ e in cc
+some_spelled value w (one_more c v s rest (inr p) t) l e = let q = p.1 in let f : 37 ∷ q.high ∷ q.low ∷ rest ≡ [] = sym
+    (ap (λ (x : List ℕ). x ++ rest) q.text) ∙ e in cc
 
 -- the edges after a character
 
@@ -53,9 +54,11 @@ rest_more lo n w s = let least = s.least in record { value = s.value; spelled = 
 more_rest : (lo n : ℕ) (w : List ℕ) (r : SpellsRest lo n w) → 1 ≤ length r.value → SpellsSome (lo - 1) n w
 more_rest lo n w r l = let least = r.least in record { value = r.value; spelled = r.spelled; some = l; least = omega arith; most = r.most }
 
-last_arms : (table : List (List Edge)) (lo : ℕ) (ranges : List (ℕ × ℕ)) (next q : ℕ) → lo ≤ 1 → Ascends table → Arms table (with_ranges ranges q) q (ByRanges ranges (SpellsRest lo 0))
+last_arms : (table : List (List Edge)) (lo : ℕ) (ranges : List (ℕ × ℕ)) (next q : ℕ) → lo ≤ 1 → Ascends table
+    → Arms table (with_ranges ranges q) q (ByRanges ranges (SpellsRest lo 0))
 last_arms table lo ranges next q l a =
-    arms_as table (with_ranges ranges q) q (ByRanges ranges IsEmpty) (ByRanges ranges (SpellsRest lo 0)) (arms_spread table ranges q q IsEmpty (reads_end table q q a refl))
+    arms_as table (with_ranges ranges q) q (ByRanges ranges IsEmpty) (ByRanges ranges (SpellsRest lo 0))
+    (arms_spread table ranges q q IsEmpty (reads_end table q q a refl))
     (λ s w h. (h.0, rest_end lo l w h.1 0))
     (λ s w h. let most = h.1.most in (h.0, none_spelled h.1.value w h.1.spelled (omega arith)))
 
@@ -66,7 +69,8 @@ either_there : (lo n : ℕ) (ranges : List (ℕ × ℕ)) (s : ℕ) (w : List ℕ
 either_there lo n ranges s w l (inl h) = (h.0, rest_end lo l w h.1 n)
 either_there lo n ranges s w l (inr h) = (h.0, rest_more lo n w h.1)
 
-rest_cases : (lo n : ℕ) (ranges : List (ℕ × ℕ)) (s : ℕ) (w value : List ℕ) → InRanges ranges s → SpellsEach value w → lo ≤ length value + 1 → length value ≤ n → LastOrNext lo n ranges s w
+rest_cases : (lo n : ℕ) (ranges : List (ℕ × ℕ)) (s : ℕ) (w value : List ℕ) → InRanges ranges s → SpellsEach value w → lo ≤ length value + 1
+    → length value ≤ n → LastOrNext lo n ranges s w
 rest_cases lo n ranges s w [] i h l m = inl (i, none_spelled [] w h refl)
 rest_cases lo n ranges s w (c ∷ value) i h l m = inr (i, record { value = c ∷ value; spelled = h; some = omega arith; least = omega arith; most = m })
 
@@ -76,7 +80,9 @@ next_apart lo n ranges s w h k = some_spelled k.1.value w k.1.spelled k.1.some h
 some_more : (lo n : ℕ) (w : List ℕ) → 1 < lo → SpellsRest lo n w → SpellsSome (lo - 1) n w
 some_more lo n w l r = let least = r.least in more_rest lo n w r (omega arith)
 
-next_arms : (table : List (List Edge)) (lo more : ℕ) (ranges : List (ℕ × ℕ)) (next q : ℕ) (b : Bool) → nat_le lo 1 ≡ b → Ascends table → Reads table next q (SpellsSome (lo - 1) (suc more)) → Arms table (last_or_next lo (suc more) ranges next q) q (ByRanges ranges (SpellsRest lo (suc more)))
+next_arms : (table : List (List Edge)) (lo more : ℕ) (ranges : List (ℕ × ℕ)) (next q : ℕ) (b : Bool) → nat_le lo 1 ≡ b → Ascends table
+    → Reads table next q (SpellsSome (lo - 1) (suc more))
+    → Arms table (last_or_next lo (suc more) ranges next q) q (ByRanges ranges (SpellsRest lo (suc more)))
 next_arms table lo more ranges next q true t a r =
     let low = leb-true lo 1 t in
     let end = arms_spread table ranges q q IsEmpty (reads_end table q q a refl) in
@@ -95,7 +101,8 @@ abbrev NextReads : List (List Edge) → ℕ → ℕ → ℕ → ℕ → Type 0
 NextReads table lo zero next q = lo ≤ 1
 NextReads table lo (suc more) next q = Reads table next q (SpellsSome (lo - 1) (suc more))
 
-behind_arms : (table : List (List Edge)) (lo more : ℕ) (ranges : List (ℕ × ℕ)) (next q : ℕ) → Ascends table → NextReads table lo more next q → Arms table (last_or_next lo more ranges next q) q (ByRanges ranges (SpellsRest lo more))
+behind_arms : (table : List (List Edge)) (lo more : ℕ) (ranges : List (ℕ × ℕ)) (next q : ℕ) → Ascends table → NextReads table lo more next q
+    → Arms table (last_or_next lo more ranges next q) q (ByRanges ranges (SpellsRest lo more))
 behind_arms table lo zero ranges next q a r = last_arms table lo ranges next q r a
 behind_arms table lo (suc more) ranges next q a r = next_arms table lo more ranges next q (nat_le lo 1) refl a r
 
@@ -103,7 +110,8 @@ behind_arms table lo (suc more) ranges next q a r = next_arms table lo more rang
 abbrev BehindPercent : ℕ → ℕ → ℕ → ℕ → List ℕ → Type 0
 BehindPercent lo more two three = Begins (Either (ByEdge (edge 50 50 two) (Begins (ByRanges two_ranges (SpellsRest lo more)))) (ByEdge (edge 51 51 three) (Begins (ByRanges three_ranges (SpellsRest lo more)))))
 
-percent_apart : (lo more two three s : ℕ) (w : List ℕ) → ByEdge (edge 50 50 two) (Begins (ByRanges two_ranges (SpellsRest lo more))) s w → ByEdge (edge 51 51 three) (Begins (ByRanges three_ranges (SpellsRest lo more))) s w → ⊥
+percent_apart : (lo more two three s : ℕ) (w : List ℕ) → ByEdge (edge 50 50 two) (Begins (ByRanges two_ranges (SpellsRest lo more))) s w
+    → ByEdge (edge 51 51 three) (Begins (ByRanges three_ranges (SpellsRest lo more))) s w → ⊥
 percent_apart lo more two three s w h k = let a = h.1 in let b = k.0 in omega arith
 
 -- a whole character
@@ -143,7 +151,8 @@ digits_back : (lo more percent two three h l : ℕ) (rest : List ℕ) → AreDig
 digits_back lo more percent two three h l rest (inl d) r = let e = d.0 in inl (omega arith, omega arith, (d.1, r))
 digits_back lo more percent two three h l rest (inr d) r = let e = d.0 in inr (omega arith, omega arith, (d.1, r))
 
-first_back : (lo more percent two three c : ℕ) (spelling rest : List ℕ) → Spells c spelling → SpellsRest lo more rest → Begins (ByCharacter lo more percent two three) (spelling ++ rest)
+first_back : (lo more percent two three c : ℕ) (spelling rest : List ℕ) → Spells c spelling → SpellsRest lo more rest
+    → Begins (ByCharacter lo more percent two three) (spelling ++ rest)
 first_back lo more percent two three c spelling rest (inl p) r =
     let here : Begins (ByCharacter lo more percent two three) (c ∷ rest) = inl (plain_range c p.0, r) in
     subst (λ (x : List ℕ). Begins (ByCharacter lo more percent two three) (x ++ rest)) (sym p.1) here
@@ -153,18 +162,22 @@ first_back lo more percent two three c spelling rest (inr p) r =
     let here : Begins (ByCharacter lo more percent two three) (37 ∷ q.high ∷ q.low ∷ rest) = inr (omega arith, omega arith, digits_back lo more percent two three q.high q.low rest d r) in
     subst (λ (x : List ℕ). Begins (ByCharacter lo more percent two three) (x ++ rest)) (sym q.text) here
 
-some_back : (lo more percent two three : ℕ) (value w : List ℕ) → SpellsEach value w → 1 ≤ length value → lo ≤ length value → length value ≤ suc more → Begins (ByCharacter lo more percent two three) w
+some_back : (lo more percent two three : ℕ) (value w : List ℕ) → SpellsEach value w → 1 ≤ length value → lo ≤ length value
+    → length value ≤ suc more → Begins (ByCharacter lo more percent two three) w
 some_back lo more percent two three value w no_more s l m = absurd (omega arith)
 some_back lo more percent two three value w (one_more c v spelling rest p t) s l m =
     first_back lo more percent two three c spelling rest p (record { value = v; spelled = t; least = omega arith; most = omega arith })
 
-character_apart : (lo more percent two three s : ℕ) (w : List ℕ) → ByRanges plain_ranges (SpellsRest lo more) s w → ByEdge (edge 37 37 percent) (BehindPercent lo more two three) s w → ⊥
+character_apart : (lo more percent two three s : ℕ) (w : List ℕ) → ByRanges plain_ranges (SpellsRest lo more) s w
+    → ByEdge (edge 37 37 percent) (BehindPercent lo more two three) s w → ⊥
 character_apart lo more percent two three s w h k =
     let same : s ≡ 37 = let a = k.0 in let b = k.1 in omega arith in
     percent_not_plain (rw same at h.0)
 
 -- the four states of a character
-reads_character : (table : List (List Edge)) (lo more base q : ℕ) (block : List (List Edge)) → Has table base ((last_or_next lo more plain_ranges (base + 4) q ++ edge 37 37 (base + 1) ∷ []) ∷ (edge 50 50 (base + 2) ∷ edge 51 51 (base + 3) ∷ []) ∷ last_or_next lo more two_ranges (base + 4) q ∷ last_or_next lo more three_ranges (base + 4) q ∷ block) → Ascends table → base + 3 < q → NextReads table lo more (base + 4) q → Reads table base q (SpellsSome lo (suc more))
+reads_character : (table : List (List Edge)) (lo more base q : ℕ) (block : List (List Edge))
+    → Has table base ((last_or_next lo more plain_ranges (base + 4) q ++ edge 37 37 (base + 1) ∷ []) ∷ (edge 50 50 (base + 2) ∷ edge 51 51 (base + 3) ∷ []) ∷ last_or_next lo more two_ranges (base + 4) q ∷ last_or_next lo more three_ranges (base + 4) q ∷ block)
+    → Ascends table → base + 3 < q → NextReads table lo more (base + 4) q → Reads table base q (SpellsSome lo (suc more))
 reads_character table lo more base q block h a l next =
     let r0 : List Edge = last_or_next lo more plain_ranges (base + 4) q ++ edge 37 37 (base + 1) ∷ [] in
     let r1 : List Edge = edge 50 50 (base + 2) ∷ edge 51 51 (base + 3) ∷ [] in
@@ -184,9 +197,11 @@ reads_character table lo more base q block h a l next =
     let escape = arms_one table (edge 37 37 (base + 1)) q (BehindPercent lo more (base + 2) (base + 3)) percent in
     let arms = arms_both table (last_or_next lo more plain_ranges (base + 4) q) (edge 37 37 (base + 1) ∷ []) q (ByRanges plain_ranges (SpellsRest lo more)) (ByEdge (edge 37 37 (base + 1)) (BehindPercent lo more (base + 2) (base + 3))) (behind_arms table lo more plain_ranges (base + 4) q a next) escape (character_apart lo more (base + 1) (base + 2) (base + 3)) in
     let state = reads_state table base q r0 (ByCharacter lo more (base + 1) (base + 2) (base + 3)) (has_head table base r0 (r1 ∷ r2 ∷ r3 ∷ block) h) (omega arith) arms in
-    reads_as table base q (Begins (ByCharacter lo more (base + 1) (base + 2) (base + 3))) (SpellsSome lo (suc more)) state (character_there lo more (base + 1) (base + 2) (base + 3)) (λ w s. some_back lo more (base + 1) (base + 2) (base + 3) s.value w s.spelled s.some s.least s.most)
+    reads_as table base q (Begins (ByCharacter lo more (base + 1) (base + 2) (base + 3))) (SpellsSome lo (suc more)) state
+    (character_there lo more (base + 1) (base + 2) (base + 3)) (λ w s. some_back lo more (base + 1) (base + 2) (base + 3) s.value w s.spelled s.some s.least s.most)
 
-pub reads_spelled : (table : List (List Edge)) (more lo base q : ℕ) → Has table base (esc_table lo (suc more) base q) → Ascends table → lo ≤ suc more → q ≡ base + 4 * suc more → Reads table base q (SpellsSome lo (suc more))
+pub reads_spelled : (table : List (List Edge)) (more lo base q : ℕ) → Has table base (esc_table lo (suc more) base q) → Ascends table
+    → lo ≤ suc more → q ≡ base + 4 * suc more → Reads table base q (SpellsSome lo (suc more))
 reads_spelled table zero lo base q h a l e = reads_character table lo zero base q [] h a (omega arith) l
 reads_spelled table (suc more) lo base q h a l e =
     let r0 : List Edge = last_or_next lo (suc more) plain_ranges (base + 4) q ++ edge 37 37 (base + 1) ∷ [] in
@@ -203,7 +218,8 @@ reads_spelled table (suc more) lo base q h a l e =
     let rest = reads_spelled table more (lo - 1) (base + 4) q here a (omega arith) (omega arith) in
     reads_character table lo (suc more) base q block h a (omega arith) rest
 
-pub reads_esc : (table : List (List Edge)) (lo hi base q : ℕ) → Has table base (esc_table lo hi base q) → Ascends table → 1 ≤ lo → lo ≤ hi → q ≡ base + 4 * hi → Reads table base q (IsWord (Esc lo hi))
+pub reads_esc : (table : List (List Edge)) (lo hi base q : ℕ) → Has table base (esc_table lo hi base q) → Ascends table → 1 ≤ lo → lo ≤ hi
+    → q ≡ base + 4 * hi → Reads table base q (IsWord (Esc lo hi))
 reads_esc table lo zero base q h a some l e = absurd (omega arith)
 reads_esc table lo (suc more) base q h a some l e =
     reads_as table base q (SpellsSome lo (suc more)) (IsWord (Esc lo (suc more))) (reads_spelled table more lo base q h a l e)

@@ -3,11 +3,11 @@ use Rattle.std.proofs.Common.{◌≡◌, ◌⊎◌, ℕ, ◌<◌, ◌≤◌, ◌
 use Rattle.std.specs.Prelude.{nat_le, nat_lt, ◌&&◌}
 use Rattle.std.specs.List.{list_all, slice_get}
 use Rattle.std.proofs.Math.Nat.{mul-le-mul_left}
-use Rattle.std.proofs.lemmas.Bool.{cases_lt}
+use Rattle.std.proofs.lemmas.Bool.{cases_lt, and_from}
 use Rattle.std.proofs.lemmas.Bool.Decides.{nat_tests}
 use Rattle.std.proofs.lemmas.List.Elements.{All-head, All-tail}
 use Rattle.std.proofs.lemmas.List.Sums.{AllPass-from_list_all}
-use Rattle.gs_chars.proofs.TruthsAndLists.{and_true, or_true}
+use Rattle.gs_chars.proofs.TruthsAndLists.{or_true}
 use Rattle.gs_grammar.specs.declared.item.Item.{Item}
 use Rattle.gs_grammar.specs.declared.item.Item.TheVariants.{Lit, Pad, Digits, Int, Esc, NumPad, Num, NumStr, Ascii7, Fill}
 use Rattle.gs_grammar.specs.Items.{IsItem}
@@ -128,7 +128,8 @@ borders_rise (item ∷ items) base h =
     let some = some_states item (All-head IsItem item items h) in
     (omega arith, borders_rise items (base + item_states item) (All-tail IsItem item items h))
 
-rises_ascend : (border : ℕ) (borders : List ℕ) (k : ℕ) → Rises border borders → k + 1 < length (border ∷ borders) → get_or (border ∷ borders) k 0 < get_or (border ∷ borders) (suc k) 0
+rises_ascend : (border : ℕ) (borders : List ℕ) (k : ℕ) → Rises border borders → k + 1 < length (border ∷ borders)
+    → get_or (border ∷ borders) k 0 < get_or (border ∷ borders) (suc k) 0
 rises_ascend border [] k h l = absurd (omega arith)
 rises_ascend border (next ∷ borders) zero h l = h.0
 rises_ascend border (next ∷ borders) (suc k) h l = rises_ascend next borders k h.1 (omega arith)
@@ -140,9 +141,10 @@ all_of_members p [] h = refl
 all_of_members p (x ∷ xs) h =
     let same : eqb x x ≡ true = grind (arith, nat_tests) in
     let here : is_border (x ∷ xs) x ≡ true = rw same refl in
-    and_true (p x) (list_all p xs) (h x here) (all_of_members p xs (λ y m. h y (or_true (eqb x y) (is_border xs y) m)))
+    and_from (p x) (list_all p xs) (h x here) (all_of_members p xs (λ y m. h y (or_true (eqb x y) (is_border xs y) m)))
 
-apart_from : (all : List ℕ) (base next : ℕ) (borders : List ℕ) (b : ℕ) → From all base (next ∷ borders) → Rises next borders → is_border all b ≡ true → (b ≤ base) ⊎ (next ≤ b)
+apart_from : (all : List ℕ) (base next : ℕ) (borders : List ℕ) (b : ℕ) → From all base (next ∷ borders) → Rises next borders
+    → is_border all b ≡ true → (b ≤ base) ⊎ (next ≤ b)
 apart_from all base next borders b h r m = elim (cases_lt base b) as (λ _. (b ≤ base) ⊎ (next ≤ b)) [
   | inr low ↦ inl low
   | inl above ↦ elim (cases_lt b next) as (λ _. (b ≤ base) ⊎ (next ≤ b)) [
@@ -155,28 +157,35 @@ border_test : (base end state to b : ℕ) → base ≤ state → to ≤ end → 
 border_test base end state to b l m (inl h) = grind (arith, nat_tests)
 border_test base end state to b l m (inr h) = grind (arith, nat_tests)
 
-edge_onward : (states : ℕ) (all : List ℕ) (base end state to : ℕ) → base ≤ state → state < to → to ≤ end → end < states → ((b : ℕ) → is_border all b ≡ true → (b ≤ base) ⊎ (end ≤ b)) → (nat_lt state to && nat_lt to states && list_all (λ border. nat_le border state || nat_le to border) all) ≡ true
+edge_onward : (states : ℕ) (all : List ℕ) (base end state to : ℕ) → base ≤ state → state < to → to ≤ end → end < states
+    → ((b : ℕ) → is_border all b ≡ true → (b ≤ base) ⊎ (end ≤ b))
+    → (nat_lt state to && nat_lt to states && list_all (λ border. nat_le border state || nat_le to border) all) ≡ true
 edge_onward states all base end state to l up m s apart =
     let free = all_of_members (λ border. nat_le border state || nat_le to border) all (λ b i. border_test base end state to b l m (apart b i)) in
     let first : nat_lt state to ≡ true = grind (arith, nat_tests) in
     let second : nat_lt to states ≡ true = grind (arith, nat_tests) in
-    and_true (nat_lt state to && nat_lt to states) (list_all (λ border. nat_le border state || nat_le to border) all) (and_true (nat_lt state to) (nat_lt to states) first second) free
+    and_from (nat_lt state to && nat_lt to states) (list_all (λ border. nat_le border state || nat_le to border) all)
+    (and_from (nat_lt state to) (nat_lt to states) first second) free
 
-row_onward : (states : ℕ) (all : List ℕ) (base end state : ℕ) (row : List Edge) → base ≤ state → end < states → ((b : ℕ) → is_border all b ≡ true → (b ≤ base) ⊎ (end ≤ b)) → AllTo state end row → list_all (is_onward states all state) row ≡ true
+row_onward : (states : ℕ) (all : List ℕ) (base end state : ℕ) (row : List Edge) → base ≤ state → end < states
+    → ((b : ℕ) → is_border all b ≡ true → (b ≤ base) ⊎ (end ≤ b)) → AllTo state end row → list_all (is_onward states all state) row ≡ true
 row_onward states all base end state [] l s apart h = refl
 row_onward states all base end state (e ∷ row) l s apart h =
-    and_true (is_onward states all state e) (list_all (is_onward states all state) row) (edge_onward states all base end state e.to l h.0 h.1 s apart) (row_onward states all base end state row l s apart h.2)
+    and_from (is_onward states all state e) (list_all (is_onward states all state) row)
+    (edge_onward states all base end state e.to l h.0 h.1 s apart) (row_onward states all base end state row l s apart h.2)
 
 -- all rows from a state on lead onward
 abbrev OnwardRows : ℕ → List ℕ → ℕ → List (List Edge) → Type 0
 OnwardRows states all state [] = Unit {0}
 OnwardRows states all state (row ∷ rows) = (list_all (is_onward states all state) row ≡ true) × OnwardRows states all (state + 1) rows
 
-block_onward : (states : ℕ) (all : List ℕ) (base end state : ℕ) (rows : List (List Edge)) → base ≤ state → end < states → ((b : ℕ) → is_border all b ≡ true → (b ≤ base) ⊎ (end ≤ b)) → Inside state end rows → OnwardRows states all state rows
+block_onward : (states : ℕ) (all : List ℕ) (base end state : ℕ) (rows : List (List Edge)) → base ≤ state → end < states
+    → ((b : ℕ) → is_border all b ≡ true → (b ≤ base) ⊎ (end ≤ b)) → Inside state end rows → OnwardRows states all state rows
 block_onward states all base end state [] l s apart h = tt
 block_onward states all base end state (row ∷ rows) l s apart h = (row_onward states all base end state row l s apart h.0, block_onward states all base end (state + 1) rows (omega arith) s apart h.1)
 
-onward_append : (states : ℕ) (all : List ℕ) (state : ℕ) (xs ys : List (List Edge)) → OnwardRows states all state xs → OnwardRows states all (state + length xs) ys → OnwardRows states all state (xs ++ ys)
+onward_append : (states : ℕ) (all : List ℕ) (state : ℕ) (xs ys : List (List Edge)) → OnwardRows states all state xs
+    → OnwardRows states all (state + length xs) ys → OnwardRows states all state (xs ++ ys)
 onward_append states all state [] ys a b = let e : state + length {A = List Edge} [] ≡ state = omega arith in rw e at b
 onward_append states all state (x ∷ xs) ys a b =
     let e : state + length (x ∷ xs) ≡ state + 1 + length xs = omega arith in
@@ -186,7 +195,8 @@ abbrev pub total_states : List Item → ℕ
 total_states [] = 0
 total_states (item ∷ items) = item_states item + total_states items
 
-items_onward : (states : ℕ) (all : List ℕ) (items : List Item) (base : ℕ) → All IsItem items → From all base (items_borders items base) → base + total_states items < states → OnwardRows states all base (items_table items base)
+items_onward : (states : ℕ) (all : List ℕ) (items : List Item) (base : ℕ) → All IsItem items → From all base (items_borders items base)
+    → base + total_states items < states → OnwardRows states all base (items_table items base)
 items_onward states all [] base h f l = (refl, tt)
 items_onward states all (item ∷ items) base h f l =
     let i = All-head IsItem item items h in
@@ -199,9 +209,11 @@ items_onward states all (item ∷ items) base h f l =
     let block = block_onward states all base end base (item_table item base) (omega arith) (omega arith) apart (inside_item item base end i refl) in
     let rest = items_onward states all items end others (from_next all base end (items_borders items end) f (omega arith)) (omega arith) in
     let place : end ≡ base + length (item_table item base) = omega arith in
-    onward_append states all base (item_table item base) (items_table items end) block (subst (λ (k : ℕ). OnwardRows states all k (items_table items end)) place rest)
+    onward_append states all base (item_table item base) (items_table items end) block
+    (subst (λ (k : ℕ). OnwardRows states all k (items_table items end)) place rest)
 
-onward_row : (states : ℕ) (all : List ℕ) (base i : ℕ) (rows : List (List Edge)) → OnwardRows states all base rows → list_all (is_onward states all (base + i)) (edges_at rows i) ≡ true
+onward_row : (states : ℕ) (all : List ℕ) (base i : ℕ) (rows : List (List Edge)) → OnwardRows states all base rows
+    → list_all (is_onward states all (base + i)) (edges_at rows i) ≡ true
 onward_row states all base i [] h = refl
 onward_row states all base zero (row ∷ rows) h = let e : base + 0 ≡ base = omega arith in rw e h.0
 onward_row states all base (suc i) (row ∷ rows) h =
@@ -224,12 +236,14 @@ borders_count : (items : List Item) (base : ℕ) → length (items_borders items
 borders_count [] base = refl
 borders_count (item ∷ items) base = ap suc (borders_count items (base + item_states item))
 
-onward_of : (items : List Item) → All IsItem items → (state : ℕ) → list_all (is_onward (length (items_table items 0)) (0 ∷ items_borders items 0) state) (edges_at (items_table items 0) state) ≡ true
+onward_of : (items : List Item) → All IsItem items → (state : ℕ)
+    → list_all (is_onward (length (items_table items 0)) (0 ∷ items_borders items 0) state) (edges_at (items_table items 0) state) ≡ true
 onward_of items h state =
     let count = table_count items 0 h in
     let rows = items_onward (length (items_table items 0)) (0 ∷ items_borders items 0) items 0 h (λ s l. refl) (omega arith) in
     let e : 0 + state ≡ state = omega arith in
-    ap (λ (k : ℕ). list_all (is_onward (length (items_table items 0)) (0 ∷ items_borders items 0) k) (edges_at (items_table items 0) state)) (sym e) ∙ onward_row (length (items_table items 0)) (0 ∷ items_borders items 0) 0 state (items_table items 0) rows
+    ap (λ (k : ℕ). list_all (is_onward (length (items_table items 0)) (0 ∷ items_borders items 0) k) (edges_at (items_table items 0) state))
+    (sym e) ∙ onward_row (length (items_table items 0)) (0 ∷ items_borders items 0) 0 state (items_table items 0) rows
 
 pub machine_rules : (items : List Item) → All IsItem items → IsMachine (machine_of items)
 machine_rules items h =
@@ -237,15 +251,19 @@ machine_rules items h =
     let last = last_border items 0 in
     let place : length (0 ∷ items_borders items 0) - 1 ≡ length (items_borders items 0) = omega arith in
     record {
-      onward = λ state. AllPass-from_list_all (is_onward (length (items_table items 0)) (0 ∷ items_borders items 0) state) (edges_at (items_table items 0) state) (onward_of items h state);
+      onward = λ state. AllPass-from_list_all (is_onward (length (items_table items 0)) (0 ∷ items_borders items 0) state)
+          (edges_at (items_table items 0) state) (onward_of items h state);
       bordered = omega arith;
       ascend = λ k l. rw add-one (rises_ascend 0 (items_borders items 0) k (borders_rise items 0 h) l);
-      inside = let at : get_or (0 ∷ items_borders items 0) (length (0 ∷ items_borders items 0) - 1) 0 ≡ 0 + total_states items = ap (λ (k : ℕ). get_or (0 ∷ items_borders items 0) k 0) place ∙ last in omega arith;
+      inside = let at : get_or (0 ∷ items_borders items 0) (length (0 ∷ items_borders items 0) - 1) 0 ≡ 0 + total_states items = ap
+          (λ (k : ℕ). get_or (0 ∷ items_borders items 0) k 0) place ∙ last in omega arith;
     }
 
 -- the items are read
 
-reads_all : (table : List (List Edge)) (items : List Item) (base : ℕ) → Has table base (items_table items base) → Ascends table → All IsItem items → (k : ℕ) (item : Item) → slice_get items k ≡ Some item → Reads table (get_or (base ∷ items_borders items base) k 0) (get_or (items_borders items base) k 0) (IsWord item)
+reads_all : (table : List (List Edge)) (items : List Item) (base : ℕ) → Has table base (items_table items base) → Ascends table
+    → All IsItem items → (k : ℕ) (item : Item) → slice_get items k ≡ Some item
+    → Reads table (get_or (base ∷ items_borders items base) k 0) (get_or (items_borders items base) k 0) (IsWord item)
 reads_all table [] base h a i k item e = absurd (let f : None ≡ Some item = e in cc)
 reads_all table (first ∷ items) base h a i zero item e =
     let same : first ≡ item = cc in

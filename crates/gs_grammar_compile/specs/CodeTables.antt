@@ -7,8 +7,8 @@ use Rattle.gs_grammar_compile.specs.Tables.{edge, run_table}
 abbrev pub edge_where : Bool → ℕ → ℕ → List Edge
 edge_where is_so bit to = if is_so then edge bit bit to ∷ [] else []
 
--- the edge of a bit of a code to a state, given by 2 more than its number among the states below the first bit; 0 means that there
--- is no edge, and 1 the end of the code
+-- The edge of a bit of a code to a state, given by 2 more than its number among the states below the first bit. The number 0
+-- means that there is no edge, and 1 the end of the code.
 abbrev pub code_edge : ℕ → ℕ → ℕ → ℕ → List Edge
 code_edge bit base next zero = []
 code_edge bit base next (suc zero) = edge bit bit next ∷ []
@@ -40,8 +40,8 @@ code_states =
     ∷ (22, 23) ∷ (22, 24) ∷ (24, 24) ∷ (24, 23) ∷ (0, 22)
     ∷ (0, 1) ∷ (1, 0) ∷ (1, 1) ∷ []
 
--- the edges of the first bit of a character, with that many bits left: to the rest of the code, and to the zeros if no more
--- characters are required
+-- The edges of the first bit of a character, with that many bits left. They lead to the rest of the code, and to the zeros if
+-- no more characters are required.
 abbrev pub root_edges : ℕ → ℕ → ℕ → ℕ → List Edge
 root_edges zero left base end = edge 0 0 (base + 1) ∷ edge 1 1 (base + 2) ∷ edge 0 0 (end - (left - 1)) ∷ []
 root_edges (suc lo) left base end = edge 0 0 (base + 1) ∷ edge 1 1 (base + 2) ∷ []

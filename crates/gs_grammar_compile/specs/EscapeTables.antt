@@ -1,5 +1,5 @@
--- The states of characters in the spellings of EPC URIs, four for each: before it, after a percent sign, and after the first
--- digit of its code, which is 2 or 3.
+-- The states of characters in the spellings of EPC URIs, four for each. They are before it, after a percent sign, and after the
+-- first digit of its code, which is 2 or 3.
 use Rattle.std.specs.Prelude.{ℕ, ◌+◌, ◌-◌, nat_le, if◌then◌else◌, List, [], ◌∷◌, ◌++◌, zero, suc}
 use Rattle.gs_ambig.specs.declared.machine.Edge.{Edge}
 use Rattle.gs_grammar_compile.specs.Tables.{edge}
@@ -21,8 +21,8 @@ two_ranges = (50, 50) ∷ (53, 54) ∷ (70, 70) ∷ (102, 102) ∷ []
 abbrev pub three_ranges : List (ℕ × ℕ)
 three_ranges = (67, 67) ∷ (69, 70) ∷ (99, 99) ∷ (101, 102) ∷ []
 
--- the edges of the last symbol of a character: to the end if this may be the last character, and to the next character if that
--- many may follow; at least `lo` are to follow, with this one
+-- The edges of the last symbol of a character. They lead to the end if this may be the last character, and to the next if that
+-- many may follow. At least `lo` are to follow, with this one.
 abbrev pub last_or_next : ℕ → ℕ → List (ℕ × ℕ) → ℕ → ℕ → List Edge
 last_or_next lo zero ranges next end = with_ranges ranges end
 last_or_next lo (suc more) ranges next end =

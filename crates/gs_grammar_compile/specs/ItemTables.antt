@@ -14,7 +14,7 @@ use Rattle.gs_grammar_compile.specs.OnesTables.{layer_states, ones_table}
 abbrev pub digits_behind : ℕ → ℕ
 digits_behind number = length (decimal number) - 1
 
--- how many states an item has
+-- the number of states of an item
 abbrev pub item_states : Item → ℕ
 item_states (Lit literal) = length literal
 item_states (Pad n) = n

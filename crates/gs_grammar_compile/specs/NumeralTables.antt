@@ -1,11 +1,10 @@
--- The states of decimal texts up to a greatest number, without leading zeros. That many digits may follow at most; at the states
--- of the first kind the digits so far are those of the greatest, at those of the second any digits may follow.
+-- The states of decimal texts up to a greatest number, without leading zeros. That many digits may follow at most. At the
+-- states of the first kind the digits so far are those of the greatest; at those of the second any digits may follow.
 use Rattle.std.specs.Prelude.{ℕ, ◌+◌, ◌-◌, ◌/◌, ◌%◌, ◌^◌, List, [], ◌∷◌, ◌++◌, zero, suc}
 use Rattle.gs_ambig.specs.declared.machine.Edge.{Edge}
 use Rattle.gs_grammar_compile.specs.Tables.{edge, run_table}
 
--- the edges of a state at which from one digit up to n more than one may follow: to the next such state, and
--- to the end
+-- the edges of a state at which from one digit up to n more may follow: to the next such state, and to the end
 abbrev pub free_edges : ℕ → ℕ → List Edge
 free_edges zero base = edge 48 57 (base + 1) ∷ []
 free_edges (suc n) base = edge 48 57 (base + 1) ∷ edge 48 57 (base + 1 + suc n) ∷ []

@@ -7,7 +7,7 @@ use Rattle.gs_ambig.specs.declared.machine.Edge.{Edge}
 use Rattle.gs_grammar_compile.specs.Tables.{edge}
 use Rattle.gs_grammar_compile.specs.CodeTables.{edge_where}
 
--- how many states a layer has
+-- the number of states of a layer
 abbrev pub layer_states : ℕ → ℕ
 layer_states hi = 2 + 2 * hi
 
@@ -16,16 +16,16 @@ abbrev pub layer_state : ℕ → ℕ → ℕ → ℕ
 layer_state zero next place = next
 layer_state (suc n) next place = next + place
 
--- a bit of a number: the one after which there are n more
+-- holds if the bit of `number` after which there are `n` more is set
 abbrev pub has_bit : ℕ → ℕ → Bool
 has_bit n number = number / 2 ^ n % 2 == 1
 
--- the bit is the highest of the number
+-- holds if the bit is the highest of the number
 abbrev pub is_highest : ℕ → ℕ → Bool
 is_highest n number = nat_le (2 ^ n) number && nat_lt number (2 * 2 ^ n)
 
--- the edges with a first 1 after zeros, to the states of a count of digits: one if it is the highest bit of the least number,
--- and one if it is that of the greatest only
+-- The edges with a first 1 after zeros, to the states of a count of digits. One is there if it is the highest bit of the least
+-- number, and one if it is only that of the greatest.
 abbrev pub lead_edges : ℕ → ℕ → ℕ → ℕ → List Edge
 lead_edges n next power count =
     edge_where (is_highest n power) 1 (layer_state n next (2 * count)) ++ edge_where (nat_lt power (2 ^ n) && nat_lt (2 ^ n) (2 * power)) 1 (layer_state n next (2 * count + 1))

@@ -7,14 +7,14 @@ use Rattle.gs_ambig.specs.declared.machine.Edge.{Edge}
 use Rattle.gs_ambig.specs.Walks.{Walk}
 use Rattle.gs_ambig.specs.Machines.{AutoForm}
 
--- trusted, own: exactly one walk leads from one state to the other on each list of the language, and none on any other list
+-- trusted, own: holds if exactly one walk leads from `first` to `last` on each list of the language, and none on any other list
 pub record Reads (table : List (List Edge)) (first last : ℕ) (language : List ℕ → Type 0) : Type 0 where
   pub some : (symbols : List ℕ) → language symbols → (states : List ℕ) × Walk table first states symbols last
   pub only : (symbols states others : List ℕ) → Walk table first states symbols last → Walk table first others symbols last → states ≡ others
   pub word : (symbols states : List ℕ) → Walk table first states symbols last → language symbols
 
--- trusted, own: The machine has one border more than there are items. Exactly one walk leads from border k to the next on each
--- word of item k, and none on any other list.
+-- trusted, own: Holds if the machine has one border more than there are items. Exactly one walk leads from border k to the next
+-- on each word of item k, and none on any other list.
 pub record ReadsItems (form : AutoForm) (items : List Item) : Type 0 where
   pub count : length form.borders ≡ length items + 1
   pub reads : (k : ℕ) (item : Item) → slice_get items k ≡ Some item → Reads form.table (slice_index form.borders k) (slice_index form.borders (k + 1)) (IsWord item)

@@ -20,8 +20,7 @@ run_table lo hi (suc n) base = (edge lo hi (base + 1) ∷ []) ∷ run_table lo h
 abbrev pub fork_edges : ℕ → ℕ → List Edge
 fork_edges more base = edge 0 0 (base + 1) ∷ edge 0 0 (base + 1 + more) ∷ []
 
--- a run of zeros of two lengths, the second longer by `more`: the last state of the first length has an edge
--- to the end too
+-- A run of zeros of two lengths, the second longer by `more`. The last state of the first length has an edge to the end too.
 abbrev pub fill_table : ℕ → ℕ → ℕ → List (List Edge)
 fill_table zero more base = run_table 0 0 more base
 fill_table (suc zero) zero base = (edge 0 0 (base + 1) ∷ []) ∷ []
@@ -50,7 +49,8 @@ bound_edges n greatest next =
 abbrev pub lower_edges : ℕ → ℕ → List Edge
 lower_edges n next = edge 0 1 (lower_state n next) ∷ []
 
--- the states of a number of that many bits that is at most the greatest, two to a bit: with its bits so far, and below it
+-- The states of a number of that many bits that is at most the greatest, two to a bit. One is for its bits so far, and one for
+-- a number below it.
 abbrev pub bound_table : ℕ → ℕ → ℕ → List (List Edge)
 bound_table zero greatest base = []
 bound_table (suc n) greatest base =

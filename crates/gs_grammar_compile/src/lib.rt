@@ -15,7 +15,7 @@
 //!
 //! # Differences from the standards
 //!
-//! - GS1 EPC Tag Data Translation gives the forms of an option by patterns; here they are items, and a machine of each option
+//! - GS1 EPC Tag Data Translation gives the forms of an option by patterns. Here they are items, and a machine of each option
 //!   reads them.
 #![tactic(auto)]
 

@@ -20,8 +20,8 @@ fn push_ranges(row: &mut Vec<Edge>, ranges: &[(u8, u8)], to: usize) -> Result<()
     Ok(())
 }
 
-/// Makes the edges of the last symbol of a character: to the end if this may be the last character, and to the next character
-/// if `more` may follow.
+/// Makes the edges of the last symbol of a character. They lead to the end if this may be the last character, and to the next
+/// character if `more` may follow.
 fn last_row(
     alloc: Global,
     lo: usize,

@@ -38,7 +38,9 @@ pub record NextCut (item : Item) (others : List Item) (rest : List ℕ) (place n
   pub word : IsWord item (take (next - place) rest)
   pub ahead : Ahead others (drop (next - place) rest) next number cuts
 
-pub next_cut : (left : List Item) (item : Item) (others : List Item) (rest : List ℕ) (place number : ℕ) (cuts : List ℕ) → left ≡ item ∷ others → Ahead left rest place number cuts → NextCut item others rest place (number + 1) (get_or cuts (number + 1) 0) cuts
+pub next_cut : (left : List Item) (item : Item) (others : List Item) (rest : List ℕ) (place number : ℕ) (cuts : List ℕ)
+    → left ≡ item ∷ others → Ahead left rest place number cuts
+    → NextCut item others rest place (number + 1) (get_or cuts (number + 1) 0) cuts
 next_cut left item others rest place number cuts e h =
     let derives : Derives (item ∷ others) rest h.values h.words = rw e at h.derives in
     let s = to_cut item others rest h.values h.words derives in
@@ -70,7 +72,9 @@ pub record Gathers (items : List Item) (w : List ℕ) (left : List Item) (rest :
   pub back : (vs : List (List ℕ)) → HasValues left rest vs → HasValues items w (values ++ vs)
   pub derived : IsDerived left rest
 
-pub gathers_step : (items : List Item) (w : List ℕ) (left : List Item) (rest : List ℕ) (values : List (List ℕ)) (item : Item) (others : List Item) (cut : ℕ) (value : List ℕ) → Gathers items w left rest values → left ≡ item ∷ others → AtCut item others rest cut → Word item value (take cut rest) → Gathers items w others (drop cut rest) (values ++ value ∷ [])
+pub gathers_step : (items : List Item) (w : List ℕ) (left : List Item) (rest : List ℕ) (values : List (List ℕ)) (item : Item) (others : List Item) (cut : ℕ) (value : List ℕ)
+    → Gathers items w left rest values → left ≡ item ∷ others → AtCut item others rest cut → Word item value (take cut rest)
+    → Gathers items w others (drop cut rest) (values ++ value ∷ [])
 gathers_step items w left rest values item others cut value g s split word =
     record {
       back = λ vs h.
@@ -81,7 +85,8 @@ gathers_step items w left rest values item others cut value g s split word =
       derived = record { values = split.values; words = split.words; derives = split.rest };
     }
 
-pub gathers_end : (items : List Item) (w : List ℕ) (left : List Item) (rest : List ℕ) (values : List (List ℕ)) → Gathers items w left rest values → length left ≡ 0 → HasValues items w values
+pub gathers_end : (items : List Item) (w : List ℕ) (left : List Item) (rest : List ℕ) (values : List (List ℕ))
+    → Gathers items w left rest values → length left ≡ 0 → HasValues items w values
 gathers_end items w left rest values g h =
     let nil : left ≡ [] = nil_from_length left h in
     let d : IsDerived [] rest = rw nil at g.derived in

@@ -51,7 +51,8 @@ word_bits (Fill a b) value w i h = elim h.1 as (λ _. AreBits w) [
   | inr e ↦ rw e (zero_bits b)
 ]
 
-derived_bits : (items : List Item) (w : List ℕ) (values words : List (List ℕ)) → All (λ item. is_in_bounds true item ≡ true) items → Derives items w values words → AreBits w
+derived_bits : (items : List Item) (w : List ℕ) (values words : List (List ℕ)) → All (λ item. is_in_bounds true item ≡ true) items
+    → Derives items w values words → AreBits w
 derived_bits [] w values words i d = rw (derives_nil w values words d).0 (All-nil (λ b. b < 2))
 derived_bits (item ∷ items) w values words i d =
     let u = derives_uncons item items w values words d in
@@ -59,7 +60,8 @@ derived_bits (item ∷ items) w values words i d =
     let rest = derived_bits items u.rest u.values' u.words' (All-tail (λ item. is_in_bounds true item ≡ true) item items i) u.derives in
     rw u.whole (All-append (λ b. b < 2) u.first u.rest first rest)
 
-pub bits_of_option : (bit_level : Bool) (items : List Item) (w : List ℕ) (values words : List (List ℕ)) → bit_level ≡ true → KeepBounds bit_level items → Derives items w values words → AreBits w
+pub bits_of_option : (bit_level : Bool) (items : List Item) (w : List ℕ) (values words : List (List ℕ)) → bit_level ≡ true
+    → KeepBounds bit_level items → Derives items w values words → AreBits w
 bits_of_option bit_level items w values words e k d =
     let bounds : KeepBounds true items = rw e at k in
     derived_bits items w values words (none_bad true items bounds.none_bad) d

@@ -21,14 +21,16 @@ pub record Back (form : AutoForm) (trail : List Entry) (symbols : List ℕ) (pla
   pub came : Came form trail symbols place number
   pub ahead : CutsFrom form symbols place (entry_at trail number).state cuts
 
-pub back_within : (form : AutoForm) (trail : List Entry) (symbols : List ℕ) (place number : ℕ) (cuts : List ℕ) → Back form trail symbols place number cuts → number < length trail
+pub back_within : (form : AutoForm) (trail : List Entry) (symbols : List ℕ) (place number : ℕ) (cuts : List ℕ)
+    → Back form trail symbols place number cuts → number < length trail
 back_within form trail symbols place number cuts b = came_within form trail symbols place number b.came
 
 pub trail_within : (form : AutoForm) (trail : List Entry) (symbols : List ℕ) (number : ℕ) → IsTrail form trail symbols number → number < length trail
 trail_within form trail symbols number t = came_within form trail symbols (length symbols) number t.came
 
 -- the entry that the last one was reached from
-pub before_within : (form : AutoForm) (trail : List Entry) (symbols : List ℕ) (place number : ℕ) (cuts : List ℕ) → Back form trail symbols place number cuts → 0 < place → (entry_at trail number).back < length trail
+pub before_within : (form : AutoForm) (trail : List Entry) (symbols : List ℕ) (place number : ℕ) (cuts : List ℕ)
+    → Back form trail symbols place number cuts → 0 < place → (entry_at trail number).back < length trail
 before_within form trail symbols zero number cuts b some = absurd (omega arith)
 before_within form trail symbols (suc n) number cuts b some = came_within form trail symbols n (entry_at trail number).back b.came.1
 
@@ -36,7 +38,10 @@ drop_all : (symbols : List ℕ) → drop (length symbols) symbols ≡ []
 drop_all [] = refl
 drop_all (s ∷ symbols) = drop_all symbols
 
-pub back_start : (form : AutoForm) (trail : List Entry) (symbols : List ℕ) (number place : ℕ) (borders before cuts : List ℕ) → IsTrail form trail symbols number → place ≡ length symbols → borders ≡ form.borders → before ≡ [] → cuts ≡ (if is_border borders (entry_at trail number).state then place ∷ before else before) → Back form trail symbols place number cuts
+pub back_start : (form : AutoForm) (trail : List Entry) (symbols : List ℕ) (number place : ℕ) (borders before cuts : List ℕ)
+    → IsTrail form trail symbols number → place ≡ length symbols → borders ≡ form.borders → before ≡ []
+    → cuts ≡ (if is_border borders (entry_at trail number).state then place ∷ before else before)
+    → Back form trail symbols place number cuts
 back_start form trail symbols number place borders before cuts t e b n is =
     let state = (entry_at trail number).state in
     let left : drop place symbols ≡ [] = ap (λ (i : ℕ). drop i symbols) e ∙ drop_all symbols in
@@ -50,7 +55,10 @@ back_start form trail symbols number place borders before cuts t e b n is =
       };
     }
 
-pub back_step : (form : AutoForm) (trail : List Entry) (symbols : List ℕ) (place number less back : ℕ) (borders cuts new : List ℕ) → Back form trail symbols place number cuts → 0 < place → less ≡ place - 1 → back ≡ (entry_at trail number).back → borders ≡ form.borders → new ≡ (if is_border borders (entry_at trail back).state then less ∷ cuts else cuts) → Back form trail symbols less back new
+pub back_step : (form : AutoForm) (trail : List Entry) (symbols : List ℕ) (place number less back : ℕ) (borders cuts new : List ℕ)
+    → Back form trail symbols place number cuts → 0 < place → less ≡ place - 1 → back ≡ (entry_at trail number).back
+    → borders ≡ form.borders → new ≡ (if is_border borders (entry_at trail back).state then less ∷ cuts else cuts)
+    → Back form trail symbols less back new
 back_step form trail symbols zero number less back borders cuts new h p l prior b is = absurd (omega arith)
 back_step form trail symbols (suc n) number less back borders cuts new h p l prior b is =
     let within = h.within in
@@ -69,11 +77,13 @@ back_step form trail symbols (suc n) number less back borders cuts new h p l pri
       ahead = record {
         run = (entry_at trail number).state ∷ h.ahead.run;
         walk = rw rest walk;
-        cuts_are = is ∙ ap (λ (i : ℕ). with_cut borders state i cuts) count ∙ ap (λ (xs : List ℕ). with_cut xs state n cuts) b ∙ ap (λ (xs : List ℕ). with_cut form.borders state n xs) more;
+        cuts_are = is ∙ ap (λ (i : ℕ). with_cut borders state i cuts) count ∙ ap (λ (xs : List ℕ). with_cut xs state n cuts) b ∙ ap
+            (λ (xs : List ℕ). with_cut form.borders state n xs) more;
       };
     })
 
-pub back_end : (form : AutoForm) (trail : List Entry) (symbols : List ℕ) (place number : ℕ) (cuts : List ℕ) → Back form trail symbols place number cuts → place ≤ 0 → AreCuts form symbols cuts
+pub back_end : (form : AutoForm) (trail : List Entry) (symbols : List ℕ) (place number : ℕ) (cuts : List ℕ)
+    → Back form trail symbols place number cuts → place ≤ 0 → AreCuts form symbols cuts
 back_end form trail symbols zero number cuts h l =
     let start : (entry_at trail number).state ≡ start_of form = h.came.1 in
     record {

@@ -20,7 +20,8 @@ use Rattle.gs_grammar_compile.proofs.JoinLemmas.{same_front}
 
 -- the start places of the items, one item more
 
-pub starts_step : (starts new all : List ℕ) (place next : ℕ) (item : Item) (others left : List Item) → left ≡ item ∷ others → starts ++ starts_of place left ≡ all → new ≡ starts ++ place ∷ [] → next ≡ place + size_of item → new ++ starts_of next others ≡ all
+pub starts_step : (starts new all : List ℕ) (place next : ℕ) (item : Item) (others left : List Item) → left ≡ item ∷ others
+    → starts ++ starts_of place left ≡ all → new ≡ starts ++ place ∷ [] → next ≡ place + size_of item → new ++ starts_of next others ≡ all
 starts_step starts new all place next item others left e h n p =
     let here : starts ++ starts_of place (item ∷ others) ≡ all = rw e at h in
     ap (λ (xs : List ℕ). xs ++ starts_of next others) n
@@ -39,7 +40,8 @@ pub record FixedFrom (left items : List Item) : Type 0 where
 
 -- one derivation
 
-same_words : (items : List Item) → All IsItem items → CutsAreFixed items → (w : List ℕ) (values words values' words' : List (List ℕ)) → Derives items w values words → Derives items w values' words' → words ≡ words'
+same_words : (items : List Item) → All IsItem items → CutsAreFixed items → (w : List ℕ) (values words values' words' : List (List ℕ))
+    → Derives items w values words → Derives items w values' words' → words ≡ words'
 same_words [] i c w values words values' words' d e = (derives_nil w values words d).2 ∙ sym (derives_nil w values' words' e).2
 same_words (item ∷ []) i c w values words values' words' d e =
     let f = derives_uncons item [] w values words d in
@@ -76,7 +78,8 @@ pub read_alone : (items : List Item) → All IsItem items → CutsAreFixed items
 read_alone items i c = record { only = λ w values words values' words' d e. same_words items i c w values words values' words' d e }
 
 -- an option that is cut by widths shares no list with itself
-pub none_by_cuts : (cuttings : List Cutting) (options : List OptionForm) (i j : ℕ) (one : Cutting) (places : List ℕ) → AreCuttingsOf cuttings options → slice_get cuttings i ≡ Some one → one ≡ Widths places → i ≡ j → ShareNoList (item_lists options) i j
+pub none_by_cuts : (cuttings : List Cutting) (options : List OptionForm) (i j : ℕ) (one : Cutting) (places : List ℕ)
+    → AreCuttingsOf cuttings options → slice_get cuttings i ≡ Some one → one ≡ Widths places → i ≡ j → ShareNoList (item_lists options) i j
 none_by_cuts cuttings options i j one places h at is e w s =
     let a = option_by options w i s.one s.by_one in
     let b = option_by options w j s.other s.by_other in

@@ -21,7 +21,8 @@ same_words (v ∷ words) (w ∷ others) = elim (same_list v w) as (λ _. (v ∷ 
   ]
 ]
 
-pub only_derivation : (level : List (List Item)) (w : List ℕ) (derivation : Derivation level w) → (IsAmbiguous level → ⊥) → OneDerivation level w derivation.option derivation.values
+pub only_derivation : (level : List (List Item)) (w : List ℕ) (derivation : Derivation level w) → (IsAmbiguous level → ⊥)
+    → OneDerivation level w derivation.option derivation.values
 only_derivation level w derivation none = record {
   derivation = derivation;
   of_option = refl;

@@ -48,10 +48,12 @@ ways_of items w (two_of two) =
       differ = λ same. two.differ (record { option = one.0 ∙ sym other.0; words = same });
     })
 
-pub derives_at : (level : List (List Item)) (w : List ℕ) (i : ℕ) (items : List Item) (d : Derivation level w) → slice_get level i ≡ Some items → d.option ≡ i → Derives items w d.values d.words
+pub derives_at : (level : List (List Item)) (w : List ℕ) (i : ℕ) (items : List Item) (d : Derivation level w)
+    → slice_get level i ≡ Some items → d.option ≡ i → Derives items w d.values d.words
 derives_at level w i items d at e = moved items d.items w d.values d.words (same_at level d.option i d.items items d.of_level at e) d.derives
 
-derived_at : (level : List (List Item)) (w : List ℕ) (i : ℕ) (items : List Item) (d : Derivation level w) → slice_get level i ≡ Some items → d.option ≡ i → IsDerived items w
+derived_at : (level : List (List Item)) (w : List ℕ) (i : ℕ) (items : List Item) (d : Derivation level w) → slice_get level i ≡ Some items
+    → d.option ≡ i → IsDerived items w
 derived_at level w i items d at e = record { values = d.values; words = d.words; derives = derives_at level w i items d at e }
 
 -- it is decidable whether the two options share the list
@@ -59,7 +61,8 @@ abbrev pub IsKnownShare : List (List Item) → ℕ → ℕ → List ℕ → Type
 IsKnownShare level i j w = ShareList level i j w ⊎ (ShareList level i j w → ⊥)
 
 -- an option with itself
-known_alone : (level : List (List Item)) (i j : ℕ) (w : List ℕ) (items : List Item) → slice_get level i ≡ Some items → slice_get level j ≡ Some items → i ≡ j → Ways items w → IsKnownShare level i j w
+known_alone : (level : List (List Item)) (i j : ℕ) (w : List ℕ) (items : List Item) → slice_get level i ≡ Some items
+    → slice_get level j ≡ Some items → i ≡ j → Ways items w → IsKnownShare level i j w
 known_alone level i j w items at at' e (never none) = inr (λ s. none (derived_at level w i items s.one at s.by_one))
 known_alone level i j w items at at' e (once o) = inr (λ s.
     let a = o.only s.one.values s.one.words (derives_at level w i items s.one at s.by_one) in
@@ -80,7 +83,9 @@ known_derived items w (once o) = inl (record { values = o.values; words = o.word
 known_derived items w (twice t) = inl (record { values = t.values; words = t.words; derives = t.derives })
 
 -- two different options
-known_two : (level : List (List Item)) (i j : ℕ) (w : List ℕ) (items others : List Item) → slice_get level i ≡ Some items → slice_get level j ≡ Some others → (i ≡ j → ⊥) → IsDerived items w ⊎ (IsDerived items w → ⊥) → IsDerived others w ⊎ (IsDerived others w → ⊥) → IsKnownShare level i j w
+known_two : (level : List (List Item)) (i j : ℕ) (w : List ℕ) (items others : List Item) → slice_get level i ≡ Some items
+    → slice_get level j ≡ Some others → (i ≡ j → ⊥) → IsDerived items w ⊎ (IsDerived items w → ⊥)
+    → IsDerived others w ⊎ (IsDerived others w → ⊥) → IsKnownShare level i j w
 known_two level i j w items others at at' n (inr none) known = inr (λ s. none (derived_at level w i items s.one at s.by_one))
 known_two level i j w items others at at' n (inl d) (inr none) = inr (λ s. none (derived_at level w j others s.other at' s.by_other))
 known_two level i j w items others at at' n (inl d) (inl e) = inl (record {
@@ -91,10 +96,12 @@ known_two level i j w items others at at' n (inl d) (inl e) = inl (record {
   differ = λ same. n same.option;
 })
 
-pub known_share : (level : List (List Item)) (i j : ℕ) (items others : List Item) → slice_get level i ≡ Some items → slice_get level j ≡ Some others → (w : List ℕ) → IsKnownShare level i j w
+pub known_share : (level : List (List Item)) (i j : ℕ) (items others : List Item) → slice_get level i ≡ Some items
+    → slice_get level j ≡ Some others → (w : List ℕ) → IsKnownShare level i j w
 known_share level i j items others at at' w = elim (cases_eq i j) as (λ _. IsKnownShare level i j w) [
   | inl e ↦
       let same = same_at level i j items others at at' e in
       known_alone level i j w items at (subst (λ (x : List Item). slice_get level j ≡ Some x) (sym same) at') e (ways_of items w (each_counted (items ∷ []) w))
-  | inr n ↦ known_two level i j w items others at at' n (known_derived items w (ways_of items w (each_counted (items ∷ []) w))) (known_derived others w (ways_of others w (each_counted (others ∷ []) w)))
+  | inr n ↦ known_two level i j w items others at at' n (known_derived items w (ways_of items w (each_counted (items ∷ []) w)))
+      (known_derived others w (ways_of others w (each_counted (others ∷ []) w)))
 ]

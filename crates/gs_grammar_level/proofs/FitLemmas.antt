@@ -24,7 +24,9 @@ pub last_at : {X : Type 0} (xs : List X) (y x : X) → slice_get (xs ++ y ∷ []
 last_at [] y x e = cc
 last_at (z ∷ xs) y x e = last_at xs y x e
 
-pub one_more : {X : Type 0} (Fitting : X → OptionForm → Type 0) (xs new : List X) (options : List OptionForm) (n : ℕ) (x : X) (option : OptionForm) → FitFirst Fitting xs options n → n < length options → option ≡ get_or options n option → Fitting x option → new ≡ xs ++ x ∷ [] → FitFirst Fitting new options (n + 1)
+pub one_more : {X : Type 0} (Fitting : X → OptionForm → Type 0) (xs new : List X) (options : List OptionForm) (n : ℕ) (x : X) (option : OptionForm)
+    → FitFirst Fitting xs options n → n < length options → option ≡ get_or options n option → Fitting x option → new ≡ xs ++ x ∷ []
+    → FitFirst Fitting new options (n + 1)
 one_more {X} Fitting xs new options n x option h l at is e =
     let c = h.count in
     let more = length-append xs (x ∷ []) in
@@ -37,19 +39,24 @@ one_more {X} Fitting xs new options n x option h l at is e =
     ] in
     rw e (record { count = more ∙ omega arith; each = all })
 
-pub fit_all : {X : Type 0} (Fitting : X → OptionForm → Type 0) (xs list : List X) (options : List OptionForm) (n : ℕ) → FitFirst Fitting xs options n → n ≡ length options → list ≡ xs → FitEach Fitting list options
+pub fit_all : {X : Type 0} (Fitting : X → OptionForm → Type 0) (xs list : List X) (options : List OptionForm) (n : ℕ)
+    → FitFirst Fitting xs options n → n ≡ length options → list ≡ xs → FitEach Fitting list options
 fit_all Fitting xs list options n h e is = rw is (record { count = h.count ∙ e; each = h.each })
 
 -- there is one at the number of each option
-pub fits_at : {X : Type 0} (Fitting : X → OptionForm → Type 0) (xs : List X) (options : List OptionForm) (n : ℕ) (x : X) (option : OptionForm) → FitEach Fitting xs options → n < length options → x ≡ get_or xs n x → option ≡ get_or options n option → Fitting x option
+pub fits_at : {X : Type 0} (Fitting : X → OptionForm → Type 0) (xs : List X) (options : List OptionForm) (n : ℕ) (x : X) (option : OptionForm)
+    → FitEach Fitting xs options → n < length options → x ≡ get_or xs n x → option ≡ get_or options n option → Fitting x option
 fits_at Fitting xs options n x option h l e f =
     let c = h.count in
     h.each n x option (read_at xs n x (omega arith) e) (read_at options n option l f)
 
-pub fits_here : {X : Type 0} (Fitting : X → OptionForm → Type 0) (xs : List X) (options : List OptionForm) (n : ℕ) (x : X) → FitEach Fitting xs options → n < length options → x ≡ get_or xs n x → (option : OptionForm) → slice_get options n ≡ Some option → Fitting x option
+pub fits_here : {X : Type 0} (Fitting : X → OptionForm → Type 0) (xs : List X) (options : List OptionForm) (n : ℕ) (x : X)
+    → FitEach Fitting xs options → n < length options → x ≡ get_or xs n x → (option : OptionForm) → slice_get options n ≡ Some option
+    → Fitting x option
 fits_here Fitting xs options n x h l e option f =
     let c = h.count in
     h.each n x option (read_at xs n x (omega arith) e) f
 
-pub found_at : {X : Type 0} (Fitting : X → OptionForm → Type 0) (xs : List X) (options : List OptionForm) (n : ℕ) (x : X) → FitEach Fitting xs options → n < length options → x ≡ get_or xs n x → slice_get xs n ≡ Some x
+pub found_at : {X : Type 0} (Fitting : X → OptionForm → Type 0) (xs : List X) (options : List OptionForm) (n : ℕ) (x : X)
+    → FitEach Fitting xs options → n < length options → x ≡ get_or xs n x → slice_get xs n ≡ Some x
 found_at Fitting xs options n x h l e = let c = h.count in read_at xs n x (omega arith) e

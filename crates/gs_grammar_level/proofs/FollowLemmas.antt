@@ -27,7 +27,8 @@ pub came_within : (form : AutoForm) (trail : List Entry) (symbols : List ℕ) (n
 came_within form trail symbols zero number c = c.0
 came_within form trail symbols (suc n) number c = c.0
 
-pub came_more : (form : AutoForm) (trail more : List Entry) (symbols : List ℕ) (n number : ℕ) → Came form trail symbols n number → Came form (trail ++ more) symbols n number
+pub came_more : (form : AutoForm) (trail more : List Entry) (symbols : List ℕ) (n number : ℕ) → Came form trail symbols n number
+    → Came form (trail ++ more) symbols n number
 came_more form trail more symbols zero number c =
     let l = c.0 in
     let count = length-append trail more in
@@ -60,7 +61,8 @@ pub record SoFar (form : AutoForm) (trail : List Entry) (symbols : List ℕ) (n 
   pub came : (k : ℕ) → from ≤ k → k < length trail → Came form trail symbols n k
   pub goes : (run : List ℕ) → Accepts form run symbols → GoesOn form trail symbols n from
 
-pub so_far_start : (form : AutoForm) (trail before : List Entry) (entry : Entry) (symbols : List ℕ) → entry.state ≡ start_of form → start_of form < states_of form → before ≡ [] → trail ≡ before ++ entry ∷ [] → SoFar form trail symbols 0 0
+pub so_far_start : (form : AutoForm) (trail before : List Entry) (entry : Entry) (symbols : List ℕ) → entry.state ≡ start_of form
+    → start_of form < states_of form → before ≡ [] → trail ≡ before ++ entry ∷ [] → SoFar form trail symbols 0 0
 so_far_start form trail before entry symbols e l none is =
     let whole : trail ≡ entry ∷ [] = is ∙ ap (λ (xs : List Entry). xs ++ entry ∷ []) none in
     rw whole (record {
@@ -71,7 +73,9 @@ so_far_start form trail before entry symbols e l none is =
 
 -- one symbol more
 
-new_states : (form : AutoForm) (trail more : List Entry) (symbol from : ℕ) → IsMachine form → ((k : ℕ) → k < length trail → (entry_at trail k).state < states_of form) → Each (Steps form.table trail symbol from) more → (k : ℕ) → k < length (trail ++ more) → (entry_at (trail ++ more) k).state < states_of form
+new_states : (form : AutoForm) (trail more : List Entry) (symbol from : ℕ) → IsMachine form
+    → ((k : ℕ) → k < length trail → (entry_at trail k).state < states_of form) → Each (Steps form.table trail symbol from) more → (k : ℕ)
+    → k < length (trail ++ more) → (entry_at (trail ++ more) k).state < states_of form
 new_states form trail more symbol from m h s k l = elim (cases_lt k (length trail)) as (λ _. (entry_at (trail ++ more) k).state < states_of form) [
   | inl b ↦ rw (left_entry trail more k b) (h k b)
   | inr b ↦
@@ -80,7 +84,9 @@ new_states form trail more symbol from m h s k l = elim (cases_lt k (length trai
       rw (right_entry trail more k b) (goes_on form (entry_at trail (entry_at more (k - length trail)).back).state symbol (entry_at more (k - length trail)).state m step.fits).1
 ]
 
-new_came : (form : AutoForm) (trail more : List Entry) (symbols : List ℕ) (symbol n from : ℕ) → symbol ≡ get_or symbols n 0 → ((k : ℕ) → from ≤ k → k < length trail → Came form trail symbols n k) → Each (Steps form.table trail symbol from) more → (k : ℕ) → length trail ≤ k → k < length (trail ++ more) → Came form (trail ++ more) symbols (suc n) k
+new_came : (form : AutoForm) (trail more : List Entry) (symbols : List ℕ) (symbol n from : ℕ) → symbol ≡ get_or symbols n 0
+    → ((k : ℕ) → from ≤ k → k < length trail → Came form trail symbols n k) → Each (Steps form.table trail symbol from) more → (k : ℕ)
+    → length trail ≤ k → k < length (trail ++ more) → Came form (trail ++ more) symbols (suc n) k
 new_came form trail more symbols symbol n from e h s k b l =
     let count = length-append trail more in
     let step = each_at (Steps form.table trail symbol from) more (k - length trail) s (omega arith) in
@@ -88,7 +94,8 @@ new_came form trail more symbols symbol n from e h s k b l =
     let here = right_entry trail more k b in
     let before = left_entry trail more entry.back step.within in
     let there : Came form (trail ++ more) symbols n (entry_at (trail ++ more) k).back =
-    subst (λ (x : Entry). Came form (trail ++ more) symbols n x.back) (sym here) (came_more form trail more symbols n entry.back (h entry.back step.low step.within)) in
+    subst (λ (x : Entry). Came form (trail ++ more) symbols n x.back) (sym here)
+    (came_more form trail more symbols n entry.back (h entry.back step.low step.within)) in
     let one : Fits (edges_at form.table (entry_at (trail ++ more) entry.back).state) symbol entry.state =
     subst (λ (x : Entry). Fits (edges_at form.table x.state) symbol entry.state) (sym before) step.fits in
     let two : Fits (edges_at form.table (entry_at (trail ++ more) entry.back).state) (get_or symbols n 0) entry.state =
@@ -97,7 +104,9 @@ new_came form trail more symbols symbol n from e h s k b l =
     subst (λ (x : Entry). Fits (edges_at form.table (entry_at (trail ++ more) x.back).state) (get_or symbols n 0) x.state) (sym here) two in
     (l, there, fits)
 
-new_goes : (form : AutoForm) (trail : List Entry) (symbols : List ℕ) (symbol n from : ℕ) → n < length symbols → symbol ≡ get_or symbols n 0 → GoesOn form trail symbols n from → GoesOn form (trail ++ layer form.table symbol from (drop from trail)) symbols (suc n) (length trail)
+new_goes : (form : AutoForm) (trail : List Entry) (symbols : List ℕ) (symbol n from : ℕ) → n < length symbols → symbol ≡ get_or symbols n 0
+    → GoesOn form trail symbols n from
+    → GoesOn form (trail ++ layer form.table symbol from (drop from trail)) symbols (suc n) (length trail)
 new_goes form trail symbols symbol n from l e g =
     let s = next_state form symbols symbol n (entry_at trail g.number).state g.rest l e g.walk in
     let more = layer form.table symbol from (drop from trail) in
@@ -114,7 +123,9 @@ new_goes form trail symbols symbol n from l e g =
       walk = subst (λ (p : ℕ). Walk form.table p s.rest (drop (suc n) symbols) (accept_of form)) (sym state) s.walk;
     }
 
-pub so_far_step : (form : AutoForm) (trail new : List Entry) (symbols : List ℕ) (symbol n from end : ℕ) → IsMachine form → SoFar form trail symbols n from → n < length symbols → symbol ≡ get_or symbols n 0 → new ≡ trail ++ layer form.table symbol from (drop from trail) → end ≡ length trail → SoFar form new symbols (n + 1) end
+pub so_far_step : (form : AutoForm) (trail new : List Entry) (symbols : List ℕ) (symbol n from end : ℕ) → IsMachine form
+    → SoFar form trail symbols n from → n < length symbols → symbol ≡ get_or symbols n 0
+    → new ≡ trail ++ layer form.table symbol from (drop from trail) → end ≡ length trail → SoFar form new symbols (n + 1) end
 so_far_step form trail new symbols symbol n from end m h l e is count =
     let more = layer form.table symbol from (drop from trail) in
     let steps = layer_comes form.table trail symbol from (drop from trail) refl in
@@ -124,7 +135,9 @@ so_far_step form trail new symbols symbol n from end m h l e is count =
       goes = λ run a. new_goes form trail symbols symbol n from l e (h.goes run a);
     })
 
-pub none_goes : (form : AutoForm) (trail new : List Entry) (symbols : List ℕ) (symbol n from : ℕ) → SoFar form trail symbols n from → n < length symbols → symbol ≡ get_or symbols n 0 → new ≡ trail ++ layer form.table symbol from (drop from trail) → length new ≡ length trail → HasNoRun form symbols
+pub none_goes : (form : AutoForm) (trail new : List Entry) (symbols : List ℕ) (symbol n from : ℕ) → SoFar form trail symbols n from
+    → n < length symbols → symbol ≡ get_or symbols n 0 → new ≡ trail ++ layer form.table symbol from (drop from trail)
+    → length new ≡ length trail → HasNoRun form symbols
 none_goes form trail new symbols symbol n from h l e is count run a =
     let g = new_goes form trail symbols symbol n from l e (h.goes run a) in
     let w = g.within in
@@ -134,11 +147,17 @@ none_goes form trail new symbols symbol n from h l e is count run a =
 
 -- at the end
 
-pub found_at_end : (form : AutoForm) (trail : List Entry) (symbols : List ℕ) (n from accept : ℕ) (found : Option ℕ) → SoFar form trail symbols n from → n ≡ length symbols → accept ≡ accept_of form → IfSome found (λ number. (from ≤ number) × (number < length trail) × ((entry_at trail number).state ≡ accept)) → IfSome found (λ number. IsTrail form trail symbols number)
+pub found_at_end : (form : AutoForm) (trail : List Entry) (symbols : List ℕ) (n from accept : ℕ) (found : Option ℕ)
+    → SoFar form trail symbols n from → n ≡ length symbols → accept ≡ accept_of form
+    → IfSome found (λ number. (from ≤ number) × (number < length trail) × ((entry_at trail number).state ≡ accept))
+    → IfSome found (λ number. IsTrail form trail symbols number)
 found_at_end form trail symbols n from accept None h e a is = is
 found_at_end form trail symbols n from accept (Some number) h e a is = record { came = rw e at (h.came number is.0 is.1); accepting = is.2 ∙ a }
 
-pub none_at_end : (form : AutoForm) (trail : List Entry) (symbols : List ℕ) (n from accept : ℕ) (found : Option ℕ) → SoFar form trail symbols n from → n ≡ length symbols → accept ≡ accept_of form → IfNone found ((number : ℕ) → from ≤ number → number < length trail → (entry_at trail number).state ≡ accept → ⊥) → IfNone found (HasNoRun form symbols)
+pub none_at_end : (form : AutoForm) (trail : List Entry) (symbols : List ℕ) (n from accept : ℕ) (found : Option ℕ)
+    → SoFar form trail symbols n from → n ≡ length symbols → accept ≡ accept_of form
+    → IfNone found ((number : ℕ) → from ≤ number → number < length trail → (entry_at trail number).state ≡ accept → ⊥)
+    → IfNone found (HasNoRun form symbols)
 none_at_end form trail symbols n from accept None h e a none = λ run r.
     let g = h.goes run r in
     let at : (entry_at trail g.number).state ≡ accept_of form = ends_at form symbols n (entry_at trail g.number).state g.rest (omega arith) g.walk in

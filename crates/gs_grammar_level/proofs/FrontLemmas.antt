@@ -105,7 +105,8 @@ esc_open lo hi i e =
     let order : lo ≤ hi = grind (arith, nat_tests) in
     omega arith
 
-word_each : (item : Item) (value w : List ℕ) → IsItem item → shortest_of item ≡ size_of item → length w ≡ size_of item → Word item value w → StandEach (places_of item) w
+word_each : (item : Item) (value w : List ℕ) → IsItem item → shortest_of item ≡ size_of item → length w ≡ size_of item → Word item value w
+    → StandEach (places_of item) w
 word_each (Lit literal) value w i s l h = rw h.1 (literal_each literal)
 word_each (Pad n) value w i s l h = digits_each w n (ap are_digits h.2 ∙ h.1) l
 word_each (Digits lo hi) value w i s l h = digits_each w hi (ap are_digits h.2 ∙ h.1) l
@@ -138,7 +139,8 @@ pub record PlacesSoFar (items left : List Item) (places : List Place) : Type 0 w
 pub places_start : (items : List Item) (places : List Place) → places ≡ [] → PlacesSoFar items items places
 places_start items places e = rw e (record { begins = λ w d. record { front = []; rest = w; whole = refl; stand = tt; derived = d } })
 
-begins_step : (item : Item) (others : List Item) (places : List Place) (w : List ℕ) → IsItem item → shortest_of item ≡ size_of item → BeginsWith (item ∷ others) places w → BeginsWith others (places ++ places_of item) w
+begins_step : (item : Item) (others : List Item) (places : List Place) (w : List ℕ) → IsItem item → shortest_of item ≡ size_of item
+    → BeginsWith (item ∷ others) places w → BeginsWith others (places ++ places_of item) w
 begins_step item others places w i s b =
     let f = derives_uncons item others b.rest b.derived.values b.derived.words b.derived.derives in
     let bounds = word_length item f.value f.first i f.word in
@@ -152,7 +154,9 @@ begins_step item others places w i s b =
       derived = record { values = f.values'; words = f.words'; derives = f.derives };
     }
 
-pub places_step : (items left : List Item) (item : Item) (others : List Item) (places new : List Place) (size : ℕ) → PlacesSoFar items left places → left ≡ item ∷ others → IsItem item → size ≡ size_of item → shortest_of item ≡ size → new ≡ places ++ places_of item → PlacesSoFar items others new
+pub places_step : (items left : List Item) (item : Item) (others : List Item) (places new : List Place) (size : ℕ)
+    → PlacesSoFar items left places → left ≡ item ∷ others → IsItem item → size ≡ size_of item → shortest_of item ≡ size
+    → new ≡ places ++ places_of item → PlacesSoFar items others new
 places_step items left item others places new size h e i is s n = rw n (record {
   begins = λ w d.
       let here : BeginsWith (item ∷ others) places w = rw e at (h.begins w d) in
@@ -182,7 +186,9 @@ option_by options w i d e =
       derives = subst (λ (x : List Item). Derives x w d.values d.words) (sym o.2) d.derives;
     }
 
-pub none_by_places : (fronts : List Front) (options : List OptionForm) (i j : ℕ) (one other : Front) → AreFrontsOf fronts options → slice_get fronts i ≡ Some one → slice_get fronts j ≡ Some other → AreApart one.places other.places → ShareNoList (item_lists options) i j
+pub none_by_places : (fronts : List Front) (options : List OptionForm) (i j : ℕ) (one other : Front) → AreFrontsOf fronts options
+    → slice_get fronts i ≡ Some one → slice_get fronts j ≡ Some other → AreApart one.places other.places
+    → ShareNoList (item_lists options) i j
 none_by_places fronts options i j one other h at at' apart w s =
     let a = option_by options w i s.one s.by_one in
     let b = option_by options w j s.other s.by_other in

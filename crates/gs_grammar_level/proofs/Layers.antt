@@ -61,17 +61,20 @@ fits_leads edge symbol a b = grind (arith, nat_tests)
 abbrev entry_of : Edge → ℕ → Entry
 entry_of edge back = record { state = edge.to; back = back }
 
-successors_yes : (edge : Edge) (edges : List Edge) (symbol back : ℕ) → leads_with edge symbol ≡ true → successors (edge ∷ edges) symbol back ≡ entry_of edge back ∷ successors edges symbol back
+successors_yes : (edge : Edge) (edges : List Edge) (symbol back : ℕ) → leads_with edge symbol ≡ true
+    → successors (edge ∷ edges) symbol back ≡ entry_of edge back ∷ successors edges symbol back
 successors_yes edge edges symbol back t = rw t refl
 
-successors_no : (edge : Edge) (edges : List Edge) (symbol back : ℕ) → leads_with edge symbol ≡ false → successors (edge ∷ edges) symbol back ≡ successors edges symbol back
+successors_no : (edge : Edge) (edges : List Edge) (symbol back : ℕ) → leads_with edge symbol ≡ false
+    → successors (edge ∷ edges) symbol back ≡ successors edges symbol back
 successors_no edge edges symbol back t = rw t refl
 
 -- an edge leads to the entry
 abbrev pub ByEdge : List Edge → ℕ → ℕ → Entry → Type 0
 ByEdge edges symbol back entry = (entry.back ≡ back) × Fits edges symbol entry.state
 
-later_edge : (edge : Edge) (edges : List Edge) (symbol back : ℕ) (xs : List Entry) → Each (ByEdge edges symbol back) xs → Each (ByEdge (edge ∷ edges) symbol back) xs
+later_edge : (edge : Edge) (edges : List Edge) (symbol back : ℕ) (xs : List Entry) → Each (ByEdge edges symbol back) xs
+    → Each (ByEdge (edge ∷ edges) symbol back) xs
 later_edge edge edges symbol back [] a = tt
 later_edge edge edges symbol back (x ∷ xs) a = ((a.0.0, inr a.0.1), later_edge edge edges symbol back xs a.1)
 
@@ -106,7 +109,8 @@ pub record Steps (table : List (List Edge)) (trail : List Entry) (symbol from : 
   pub within : entry.back < length trail
   pub fits : Fits (edges_at table (entry_at trail entry.back).state) symbol entry.state
 
-steps_of_edges : (table : List (List Edge)) (trail : List Entry) (symbol from : ℕ) (x : Entry) (xs : List Entry) → from < length trail → entry_at trail from ≡ x → Each (ByEdge (edges_at table x.state) symbol from) xs → Each (Steps table trail symbol from) xs
+steps_of_edges : (table : List (List Edge)) (trail : List Entry) (symbol from : ℕ) (x : Entry) (xs : List Entry) → from < length trail
+    → entry_at trail from ≡ x → Each (ByEdge (edges_at table x.state) symbol from) xs → Each (Steps table trail symbol from) xs
 steps_of_edges table trail symbol from x [] l e a = tt
 steps_of_edges table trail symbol from x (y ∷ xs) l e a =
     let back : y.back ≡ from = a.0.0 in
@@ -114,13 +118,15 @@ steps_of_edges table trail symbol from x (y ∷ xs) l e a =
     let fits : Fits (edges_at table (entry_at trail y.back).state) symbol y.state = subst (λ (z : Entry). Fits (edges_at table z.state) symbol y.state) (sym source) a.0.1 in
     (record { low = omega arith; within = omega arith; fits = fits }, steps_of_edges table trail symbol from x xs l e a.1)
 
-steps_later : (table : List (List Edge)) (trail : List Entry) (symbol from : ℕ) (xs : List Entry) → Each (Steps table trail symbol (from + 1)) xs → Each (Steps table trail symbol from) xs
+steps_later : (table : List (List Edge)) (trail : List Entry) (symbol from : ℕ) (xs : List Entry)
+    → Each (Steps table trail symbol (from + 1)) xs → Each (Steps table trail symbol from) xs
 steps_later table trail symbol from [] a = tt
 steps_later table trail symbol from (x ∷ xs) a =
     let s = a.0 in
     (record { low = let l = s.low in omega arith; within = s.within; fits = s.fits }, steps_later table trail symbol from xs a.1)
 
-pub layer_comes : (table : List (List Edge)) (trail : List Entry) (symbol from : ℕ) (entries : List Entry) → entries ≡ drop from trail → Each (Steps table trail symbol from) (layer table symbol from entries)
+pub layer_comes : (table : List (List Edge)) (trail : List Entry) (symbol from : ℕ) (entries : List Entry) → entries ≡ drop from trail
+    → Each (Steps table trail symbol from) (layer table symbol from entries)
 layer_comes table trail symbol from [] e = tt
 layer_comes table trail symbol from (x ∷ xs) e =
     let p = part_at trail xs x none_entry from e in
@@ -128,7 +134,9 @@ layer_comes table trail symbol from (x ∷ xs) e =
     let rest = steps_later table trail symbol from (layer table symbol (from + 1) xs) (layer_comes table trail symbol (from + 1) xs p.others) in
     each_append (Steps table trail symbol from) (successors (edges_at table x.state) symbol from) (layer table symbol (from + 1) xs) here rest
 
-pub layer_all : (table : List (List Edge)) (trail : List Entry) (symbol from : ℕ) (entries : List Entry) (number state : ℕ) → entries ≡ drop from trail → from ≤ number → number < length trail → Fits (edges_at table (entry_at trail number).state) symbol state → Stands state (layer table symbol from entries)
+pub layer_all : (table : List (List Edge)) (trail : List Entry) (symbol from : ℕ) (entries : List Entry) (number state : ℕ)
+    → entries ≡ drop from trail → from ≤ number → number < length trail → Fits (edges_at table (entry_at trail number).state) symbol state
+    → Stands state (layer table symbol from entries)
 layer_all table trail symbol from [] number state e low l f =
     let count = length-drop from trail in
     let none = ap length e in
@@ -139,7 +147,9 @@ layer_all table trail symbol from (x ∷ xs) number state e low l f =
       | inl same ↦
           let source : entry_at trail number ≡ x = ap (entry_at trail) same ∙ p.here in
           let fits : Fits (edges_at table x.state) symbol state = subst (λ (z : Entry). Fits (edges_at table z.state) symbol state) source f in
-          stands_left state (successors (edges_at table x.state) symbol from) (layer table symbol (from + 1) xs) (successors_all (edges_at table x.state) symbol from state fits)
+          stands_left state (successors (edges_at table x.state) symbol from) (layer table symbol (from + 1) xs)
+          (successors_all (edges_at table x.state) symbol from state fits)
       | inr other ↦
-          stands_right state (successors (edges_at table x.state) symbol from) (layer table symbol (from + 1) xs) (layer_all table trail symbol (from + 1) xs number state p.others (omega arith) l f)
+          stands_right state (successors (edges_at table x.state) symbol from) (layer table symbol (from + 1) xs)
+          (layer_all table trail symbol (from + 1) xs number state p.others (omega arith) l f)
     ]

@@ -1,8 +1,8 @@
 -- The machines of the options of a level.
 use Rattle.std.proofs.Common.{◌≡◌, ℕ, ◌<◌, Bool, true, List, length, get_or, Some, refl, ◌∙◌, arith}
 use Rattle.std.specs.List.{slice_get}
-use Rattle.std.proofs.lemmas.Option.{slice_get-map}
-use Rattle.gs_chars.proofs.TruthsAndLists.{within, read_at}
+use Rattle.std.proofs.lemmas.Option.{slice_get-map, slice_get_within}
+use Rattle.gs_chars.proofs.TruthsAndLists.{read_at}
 use Rattle.gs_grammar.specs.declared.item.Item.{Item}
 use Rattle.gs_grammar.specs.Levels.{OptionForm, AreOfKind, KeepBounds, item_lists}
 use Rattle.gs_grammar.specs.Ambiguity.{ShareList}
@@ -24,10 +24,12 @@ pub record LawAt (options : List OptionForm) (k : ℕ) (form : AutoForm) : Type 
   pub at : slice_get (item_lists options) k ≡ Some items
   pub law : CutsAreThoseOfDerivations form items
 
-items_here : (options : List OptionForm) (k : ℕ) (option : OptionForm) → slice_get options k ≡ Some option → slice_get (item_lists options) k ≡ Some option.items
+items_here : (options : List OptionForm) (k : ℕ) (option : OptionForm) → slice_get options k ≡ Some option
+    → slice_get (item_lists options) k ≡ Some option.items
 items_here options k option e = slice_get-map (λ (option : OptionForm). option.items) options k ∙ rw e refl
 
-pub law_at : (machines : List AutoForm) (options : List OptionForm) (k : ℕ) (form : AutoForm) → AreMachinesOf machines options → k < length options → form ≡ get_or machines k form → LawAt options k form
+pub law_at : (machines : List AutoForm) (options : List OptionForm) (k : ℕ) (form : AutoForm) → AreMachinesOf machines options
+    → k < length options → form ≡ get_or machines k form → LawAt options k form
 law_at machines options k form h l e =
     let o = there options k l in
     let is : IsMachineOf form o.0 = h.each k form o.0 (found_at IsMachineOf machines options k form h l e) o.1 in
@@ -35,10 +37,13 @@ law_at machines options k form h l e =
 
 -- the symbols of a list that options of a bit level share are bits
 
-kind_at : (options : List OptionForm) (bit_level : Bool) (k : ℕ) (option : OptionForm) → AreOfKind bit_level options → k < length options → option ≡ get_or options k option → option.bit_level ≡ bit_level
+kind_at : (options : List OptionForm) (bit_level : Bool) (k : ℕ) (option : OptionForm) → AreOfKind bit_level options → k < length options
+    → option ≡ get_or options k option → option.bit_level ≡ bit_level
 kind_at options bit_level k option kinds l e = rw e (kinds k option l)
 
-pub shared_bits : (options : List OptionForm) (bit_level : Bool) (i j : ℕ) (w : List ℕ) (option : OptionForm) → AreOfKind bit_level options → i < length options → option ≡ get_or options i option → KeepBounds option.bit_level option.items → ShareList (item_lists options) i j w → bit_level ≡ true → AreBits w
+pub shared_bits : (options : List OptionForm) (bit_level : Bool) (i j : ℕ) (w : List ℕ) (option : OptionForm) → AreOfKind bit_level options
+    → i < length options → option ≡ get_or options i option → KeepBounds option.bit_level option.items
+    → ShareList (item_lists options) i j w → bit_level ≡ true → AreBits w
 shared_bits options bit_level i j w option kinds l e bounds s bits =
     let at = items_here options i option (read_at options i option l e) in
     let d = derives_at (item_lists options) w i option.items s.one at s.by_one in
@@ -46,7 +51,7 @@ shared_bits options bit_level i j w option kinds l e bounds s bits =
 
 pub share_inside : (options : List OptionForm) (i j : ℕ) (w : List ℕ) → ShareList (item_lists options) i j w → i < length options
 share_inside options i j w s =
-    let l = within (item_lists options) s.one.option s.one.items s.one.of_level in
+    let l = slice_get_within (item_lists options) s.one.option s.one.items s.one.of_level in
     let c = length_lists options in
     let e = s.by_one in
     omega arith

@@ -14,7 +14,8 @@ use Rattle.gs_grammar_level.specs.Widths.{HasWidth, HasNextCut, width_by}
 
 -- the width of one item
 
-one_width : (item : Item) (others : List Item) (w : List ℕ) (size : ℕ) → IsItem item → size ≡ size_of item → shortest_of item ≡ size → HasWidth item others w size
+one_width : (item : Item) (others : List Item) (w : List ℕ) (size : ℕ) → IsItem item → size ≡ size_of item → shortest_of item ≡ size
+    → HasWidth item others w size
 one_width item others w size i s b = record {
   is = λ word rest whole h d.
       let bounds = word_length item h.0 word i h.1 in
@@ -23,13 +24,15 @@ one_width item others w size i s b = record {
       omega arith;
 }
 
-size_by : (item next : Item) (others : List Item) (rest cuts : List ℕ) (place : ℕ) → cuts ≡ starts_of place (item ∷ next ∷ others) → width_by cuts (next ∷ others) rest ≡ size_of item
+size_by : (item next : Item) (others : List Item) (rest cuts : List ℕ) (place : ℕ) → cuts ≡ starts_of place (item ∷ next ∷ others)
+    → width_by cuts (next ∷ others) rest ≡ size_of item
 size_by item next others rest cuts place e =
     let first = ap (λ (xs : List ℕ). get_or xs 0 0) e in
     let other = ap (λ (xs : List ℕ). get_or xs 1 0) e in
     omega arith
 
-pub has_width : (item : Item) (others : List Item) (rest cuts : List ℕ) (place : ℕ) → IsItem item → CutsAreFixed (item ∷ others) → cuts ≡ starts_of place (item ∷ others) → HasWidth item others rest (width_by cuts others rest)
+pub has_width : (item : Item) (others : List Item) (rest cuts : List ℕ) (place : ℕ) → IsItem item → CutsAreFixed (item ∷ others)
+    → cuts ≡ starts_of place (item ∷ others) → HasWidth item others rest (width_by cuts others rest)
 has_width item [] rest cuts place i c e = record {
   is = λ word r whole h d.
       let none = ap length (derives_nil r d.values d.words d.derives).0 in
@@ -56,7 +59,8 @@ pub record Measures (items left : List Item) (w rest ahead : List ℕ) (values :
   pub back : (vs : List (List ℕ)) → HasValues left rest vs → HasValues items w (values ++ vs)
   pub on : IsDerived items w → IsDerived left rest
 
-pub measures_start : (items : List Item) (w places : List ℕ) (values : List (List ℕ)) → places ≡ starts_of 0 items → values ≡ [] → Measures items items w w places values
+pub measures_start : (items : List Item) (w places : List ℕ) (values : List (List ℕ)) → places ≡ starts_of 0 items → values ≡ []
+    → Measures items items w w places values
 measures_start items w places values e f = rw f (record { place = 0; ahead_are = e; back = λ vs h. h; on = λ d. d })
 
 -- the next item, and the cuts that it is at
@@ -65,7 +69,8 @@ pub record NextItem (item : Item) (others : List Item) (rest ahead : List ℕ) :
   pub next : HasNextCut ahead others
   pub width : HasWidth item others rest (width_by ahead others rest)
 
-pub next_item : (items left : List Item) (item : Item) (others : List Item) (w rest ahead : List ℕ) (values : List (List ℕ)) → Measures items left w rest ahead values → left ≡ item ∷ others → IsItem item → CutsAreFixed left → NextItem item others rest ahead
+pub next_item : (items left : List Item) (item : Item) (others : List Item) (w rest ahead : List ℕ) (values : List (List ℕ))
+    → Measures items left w rest ahead values → left ≡ item ∷ others → IsItem item → CutsAreFixed left → NextItem item others rest ahead
 next_item items left item others w rest ahead values m e i c =
     let here : ahead ≡ starts_of m.place (item ∷ others) = rw e at m.ahead_are in
     let fixed : CutsAreFixed (item ∷ others) = rw e at c in
@@ -81,7 +86,8 @@ record Front (item : Item) (others : List Item) (rest : List ℕ) (width : ℕ) 
   word : IsWord item (take width rest)
   derived : IsDerived others (drop width rest)
 
-front : (item : Item) (others : List Item) (rest : List ℕ) (width : ℕ) → HasWidth item others rest width → IsDerived (item ∷ others) rest → Front item others rest width
+front : (item : Item) (others : List Item) (rest : List ℕ) (width : ℕ) → HasWidth item others rest width → IsDerived (item ∷ others) rest
+    → Front item others rest width
 front item others rest width h d =
     let f = derives_uncons item others rest d.values d.words d.derives in
     let behind : IsDerived others f.rest = record { values = f.values'; words = f.words'; derives = f.derives } in
@@ -96,7 +102,9 @@ front item others rest width h d =
       derived = rw back behind;
     }
 
-pub measures_step : (items left : List Item) (item : Item) (others : List Item) (w rest ahead : List ℕ) (values : List (List ℕ)) (width : ℕ) (value : List ℕ) → Measures items left w rest ahead values → left ≡ item ∷ others → HasWidth item others rest width → Word item value (take width rest) → Measures items others w (drop width rest) (take (length ahead - 1) (drop 1 ahead)) (values ++ value ∷ [])
+pub measures_step : (items left : List Item) (item : Item) (others : List Item) (w rest ahead : List ℕ) (values : List (List ℕ)) (width : ℕ) (value : List ℕ)
+    → Measures items left w rest ahead values → left ≡ item ∷ others → HasWidth item others rest width → Word item value (take width rest)
+    → Measures items others w (drop width rest) (take (length ahead - 1) (drop 1 ahead)) (values ++ value ∷ [])
 measures_step items left item others w rest ahead values width value m e h word =
     let here : ahead ≡ starts_of m.place (item ∷ others) = rw e at m.ahead_are in
     let left_are : take (length ahead - 1) (drop 1 ahead) ≡ drop 1 ahead = take_all (length ahead - 1) (drop 1 ahead) (let l = length-drop 1 ahead in omega arith) in
@@ -113,18 +121,23 @@ measures_step items left item others w rest ahead values width value m e h word 
           (front item others rest width h one).derived;
     }
 
-pub too_short : (items left : List Item) (item : Item) (others : List Item) (w rest ahead : List ℕ) (values : List (List ℕ)) (width : ℕ) → Measures items left w rest ahead values → left ≡ item ∷ others → HasWidth item others rest width → length rest < width → IsDerived items w → ⊥
+pub too_short : (items left : List Item) (item : Item) (others : List Item) (w rest ahead : List ℕ) (values : List (List ℕ)) (width : ℕ)
+    → Measures items left w rest ahead values → left ≡ item ∷ others → HasWidth item others rest width → length rest < width
+    → IsDerived items w → ⊥
 too_short items left item others w rest ahead values width m e h l d =
     let here : IsDerived (item ∷ others) rest = rw e at (m.on d) in
     let within = (front item others rest width h here).within in
     omega arith
 
-pub no_word : (items left : List Item) (item : Item) (others : List Item) (w rest ahead : List ℕ) (values : List (List ℕ)) (width : ℕ) (word : List ℕ) → Measures items left w rest ahead values → left ≡ item ∷ others → HasWidth item others rest width → word ≡ take width rest → (IsWord item word → ⊥) → IsDerived items w → ⊥
+pub no_word : (items left : List Item) (item : Item) (others : List Item) (w rest ahead : List ℕ) (values : List (List ℕ)) (width : ℕ) (word : List ℕ)
+    → Measures items left w rest ahead values → left ≡ item ∷ others → HasWidth item others rest width → word ≡ take width rest
+    → (IsWord item word → ⊥) → IsDerived items w → ⊥
 no_word items left item others w rest ahead values width word m e h is none d =
     let here : IsDerived (item ∷ others) rest = rw e at (m.on d) in
     none (rw is (front item others rest width h here).word)
 
-pub measured : (items left : List Item) (w rest ahead : List ℕ) (values list : List (List ℕ)) → Measures items left w rest ahead values → length left ≡ 0 → length rest ≡ 0 → list ≡ values → HasValues items w list
+pub measured : (items left : List Item) (w rest ahead : List ℕ) (values list : List (List ℕ)) → Measures items left w rest ahead values
+    → length left ≡ 0 → length rest ≡ 0 → list ≡ values → HasValues items w list
 measured items left w rest ahead values list m l r e =
     let nil : left ≡ [] = nil_from_length left l in
     let none : rest ≡ [] = nil_from_length rest r in
@@ -132,7 +145,8 @@ measured items left w rest ahead values list m l r e =
     let all = m.back [] (rw (nil, none) empty) in
     rw e (rw append-nil at all)
 
-pub some_left : (items left : List Item) (w rest ahead : List ℕ) (values : List (List ℕ)) → Measures items left w rest ahead values → length left ≡ 0 → (length rest ≡ 0 → ⊥) → IsDerived items w → ⊥
+pub some_left : (items left : List Item) (w rest ahead : List ℕ) (values : List (List ℕ)) → Measures items left w rest ahead values
+    → length left ≡ 0 → (length rest ≡ 0 → ⊥) → IsDerived items w → ⊥
 some_left items left w rest ahead values m l some d =
     let nil : left ≡ [] = nil_from_length left l in
     let here : IsDerived [] rest = rw nil at (m.on d) in

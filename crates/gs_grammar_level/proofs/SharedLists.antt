@@ -23,7 +23,8 @@ first_cut place other [] (w ∷ others) e = let f : place ∷ [] ≡ other ∷ c
 first_cut place other (v ∷ words) [] e = let f : place ∷ cuts_from (place + length v) words ≡ other ∷ [] = e in cc
 first_cut place other (v ∷ words) (w ∷ others) e = let f : place ∷ cuts_from (place + length v) words ≡ other ∷ cuts_from (other + length w) others = e in cc
 
-other_cuts : (place : ℕ) (v w : List ℕ) (words others : List (List ℕ)) → cuts_from place (v ∷ words) ≡ cuts_from place (w ∷ others) → cuts_from (place + length v) words ≡ cuts_from (place + length w) others
+other_cuts : (place : ℕ) (v w : List ℕ) (words others : List (List ℕ)) → cuts_from place (v ∷ words) ≡ cuts_from place (w ∷ others)
+    → cuts_from (place + length v) words ≡ cuts_from (place + length w) others
 other_cuts place v w words others e = let f : place ∷ cuts_from (place + length v) words ≡ place ∷ cuts_from (place + length w) others = e in cc
 
 words_of_cuts : (place : ℕ) (words others : List (List ℕ)) → cuts_from place words ≡ cuts_from place others → concat words ≡ concat others → words ≡ others
@@ -46,20 +47,26 @@ there (x ∷ xs) (suc k) l = there xs k (omega arith)
 
 -- equal words, equal runs, and the reverse
 
-same_runs : (form other : AutoForm) (items : List Item) (w run other_run : List ℕ) (words others : List (List ℕ)) → CutsAreThoseOfDerivations form items → form ≡ other → Accepts form run w → Accepts other other_run w → run_cuts form run ≡ word_cuts words → run_cuts other other_run ≡ word_cuts others → words ≡ others → run ≡ other_run
+same_runs : (form other : AutoForm) (items : List Item) (w run other_run : List ℕ) (words others : List (List ℕ))
+    → CutsAreThoseOfDerivations form items → form ≡ other → Accepts form run w → Accepts other other_run w
+    → run_cuts form run ≡ word_cuts words → run_cuts other other_run ≡ word_cuts others → words ≡ others → run ≡ other_run
 same_runs form other items w run other_run words others law e a b c d f =
     let b' : Accepts form other_run w = rw e b in
     let d' : run_cuts form other_run ≡ word_cuts others = ap (λ (m : AutoForm). run_cuts m other_run) e ∙ d in
     law.only w run other_run a b' (c ∙ ap word_cuts f ∙ sym d')
 
-same_words : (form other : AutoForm) (w run other_run : List ℕ) (words others : List (List ℕ)) → form ≡ other → run_cuts form run ≡ word_cuts words → run_cuts other other_run ≡ word_cuts others → concat words ≡ w → concat others ≡ w → run ≡ other_run → words ≡ others
+same_words : (form other : AutoForm) (w run other_run : List ℕ) (words others : List (List ℕ)) → form ≡ other
+    → run_cuts form run ≡ word_cuts words → run_cuts other other_run ≡ word_cuts others → concat words ≡ w → concat others ≡ w
+    → run ≡ other_run → words ≡ others
 same_words form other w run other_run words others e c d j k f =
     let cuts : word_cuts words ≡ word_cuts others = sym c ∙ ap (λ (m : AutoForm). run_cuts m run) e ∙ ap (run_cuts other) f ∙ d in
     words_of_cuts 0 words others cuts (j ∙ sym k)
 
 -- a list that two machines, or one, accept is a list that their options share
 
-pub share_of_two : (level : List (List Item)) (i j : ℕ) (items others : List Item) (m n : AutoForm) (w : List ℕ) → slice_get level i ≡ Some items → slice_get level j ≡ Some others → CutsAreThoseOfDerivations m items → CutsAreThoseOfDerivations n others → (i ≡ j → ⊥) → BothAccept m n w → ShareList level i j w
+pub share_of_two : (level : List (List Item)) (i j : ℕ) (items others : List Item) (m n : AutoForm) (w : List ℕ)
+    → slice_get level i ≡ Some items → slice_get level j ≡ Some others → CutsAreThoseOfDerivations m items
+    → CutsAreThoseOfDerivations n others → (i ≡ j → ⊥) → BothAccept m n w → ShareList level i j w
 share_of_two level i j items others m n w at at' law law' apart b =
     let d = law.derivation w b.run b.walk in
     let e = law'.derivation w b.other_run b.other_walk in
@@ -71,13 +78,16 @@ share_of_two level i j items others m n w at at' law law' apart b =
       differ = λ same. apart same.option;
     }
 
-pub none_of_two : (level : List (List Item)) (i j : ℕ) (items others : List Item) (m n : AutoForm) → slice_get level i ≡ Some items → slice_get level j ≡ Some others → CutsAreThoseOfDerivations m items → CutsAreThoseOfDerivations n others → NoneInCommon m n → ShareNoList level i j
+pub none_of_two : (level : List (List Item)) (i j : ℕ) (items others : List Item) (m n : AutoForm) → slice_get level i ≡ Some items
+    → slice_get level j ≡ Some others → CutsAreThoseOfDerivations m items → CutsAreThoseOfDerivations n others → NoneInCommon m n
+    → ShareNoList level i j
 none_of_two level i j items others m n at at' law law' none w s =
     let r = law.run w s.one.values s.one.words (derives_at level w i items s.one at s.by_one) in
     let q = law'.run w s.other.values s.other.words (derives_at level w j others s.other at' s.by_other) in
     none w (record { run = r.run; other_run = q.run; walk = r.accepts; other_walk = q.accepts })
 
-pub share_of_one : (level : List (List Item)) (i j : ℕ) (items : List Item) (m : AutoForm) (w : List ℕ) → slice_get level i ≡ Some items → CutsAreThoseOfDerivations m items → i ≡ j → HasTwoWalks m (start_of m) w → ShareList level i j w
+pub share_of_one : (level : List (List Item)) (i j : ℕ) (items : List Item) (m : AutoForm) (w : List ℕ) → slice_get level i ≡ Some items
+    → CutsAreThoseOfDerivations m items → i ≡ j → HasTwoWalks m (start_of m) w → ShareList level i j w
 share_of_one level i j items m w at law e p =
     let d = law.derivation w p.run p.walk in
     let f = law.derivation w p.other_run p.other_walk in
@@ -89,7 +99,8 @@ share_of_one level i j items m w at law e p =
       differ = λ same. p.differ (same_runs m m items w p.run p.other_run d.words f.words law refl p.walk p.other_walk d.cuts f.cuts same.words);
     }
 
-pub none_of_one : (level : List (List Item)) (i j : ℕ) (items : List Item) (m : AutoForm) → slice_get level i ≡ Some items → CutsAreThoseOfDerivations m items → i ≡ j → IsSingle m (start_of m) → ShareNoList level i j
+pub none_of_one : (level : List (List Item)) (i j : ℕ) (items : List Item) (m : AutoForm) → slice_get level i ≡ Some items
+    → CutsAreThoseOfDerivations m items → i ≡ j → IsSingle m (start_of m) → ShareNoList level i j
 none_of_one level i j items m at law e none w s =
     let r = law.run w s.one.values s.one.words (derives_at level w i items s.one at s.by_one) in
     let q = law.run w s.other.values s.other.words (derives_at level w i items s.other at (s.by_other ∙ sym e)) in

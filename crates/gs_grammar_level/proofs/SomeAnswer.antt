@@ -2,8 +2,7 @@
 use Rattle.std.proofs.Common.{◌≡◌, ℕ, ◌<◌, ◌≤◌, ◌+◌, ◌-◌, ◌⊎◌, zero, suc, All, List, [], ◌∷◌, length, get_or, Option, Some, None, refl, sym, ap, subst, inl, inr, arith}
 use Rattle.std.specs.List.{slice_get}
 use Rattle.std.proofs.lemmas.Bool.{cases_eq, cases_lt}
-use Rattle.std.proofs.lemmas.Option.{get_or_from_slice_get}
-use Rattle.gs_chars.proofs.TruthsAndLists.{within}
+use Rattle.std.proofs.lemmas.Option.{get_or_from_slice_get, slice_get_within}
 use Rattle.gs_grammar.specs.declared.item.Item.{Item}
 use Rattle.gs_grammar.specs.Items.{IsItem}
 use Rattle.gs_grammar.specs.Levels.{LevelForm, OptionForm, item_lists}
@@ -40,7 +39,9 @@ empty : (w : List ℕ) → length w ≤ 0 → w ≡ []
 empty [] h = refl
 empty (c ∷ w) h = absurd (omega arith)
 
-longer : (P : List ℕ → Type 0) (most bound : ℕ) → (P [] → ⊥) → ((c : ℕ) (w : List ℕ) → c < bound → length w ≤ most → AreBelow bound w → P (c ∷ w) → ⊥) → (w : List ℕ) → length w ≤ suc most → AreBelow bound w → P w → ⊥
+longer : (P : List ℕ → Type 0) (most bound : ℕ) → (P [] → ⊥)
+    → ((c : ℕ) (w : List ℕ) → c < bound → length w ≤ most → AreBelow bound w → P (c ∷ w) → ⊥) → (w : List ℕ) → length w ≤ suc most
+    → AreBelow bound w → P w → ⊥
 longer P most bound n none [] short below = n
 longer P most bound n none (c ∷ w) short below = none c w below.0 (omega arith) below.1
 
@@ -61,7 +62,8 @@ searched P (suc most) bound known = elim (known []) as (λ _. Searched P (suc mo
 abbrev IsKnownPair : List (List Item) → ℕ → ℕ → Type 0
 IsKnownPair level i j = ((w : List ℕ) × ShareList level i j w) ⊎ ((w : List ℕ) → ShareList level i j w → ⊥)
 
-known_there : (level : List (List Item)) (i j : ℕ) (items others : List Item) → All IsItem items → slice_get level i ≡ Some items → slice_get level j ≡ Some others → IsKnownPair level i j
+known_there : (level : List (List Item)) (i j : ℕ) (items others : List Item) → All IsItem items → slice_get level i ≡ Some items
+    → slice_get level j ≡ Some others → IsKnownPair level i j
 known_there level i j items others each at at' =
     let b = bounded_of items each in
     elim (searched (ShareList level i j) b.most b.bound (known_share level i j items others at at')) as (λ _. IsKnownPair level i j) [
@@ -73,7 +75,7 @@ known_there level i j items others each at at' =
 
 items_at : (level : List (List Item)) (i : ℕ) (items : List Item) → All (All IsItem) level → slice_get level i ≡ Some items → All IsItem items
 items_at level i items each at =
-    let here : All IsItem (get_or level i items) = each i items (within level i items at) in
+    let here : All IsItem (get_or level i items) = each i items (slice_get_within level i items at) in
     subst (λ (x : List Item). All IsItem x) (get_or_from_slice_get level i items items at) here
 
 known_pair : (level : List (List Item)) (i j : ℕ) → All (All IsItem) level → i < length level → j < length level → IsKnownPair level i j
@@ -89,18 +91,20 @@ record FirstInRow (level : List (List Item)) (i : ℕ) : Type 0 where
   w : List ℕ
   first : IsFirstWith level i j w
 
-row_searched : (level : List (List Item)) (i more : ℕ) → All (All IsItem) level → i + more ≤ length level → FirstInRow level i ⊎ SharesNoneBefore level i (i + more)
+row_searched : (level : List (List Item)) (i more : ℕ) → All (All IsItem) level → i + more ≤ length level
+    → FirstInRow level i ⊎ SharesNoneBefore level i (i + more)
 row_searched level i zero each l = inr (λ j w a b. absurd (omega arith))
-row_searched level i (suc more) each l = elim (row_searched level i more each (omega arith)) as (λ _. FirstInRow level i ⊎ SharesNoneBefore level i (i + suc more)) [
-  | inl found ↦ inl found
-  | inr none ↦ elim (known_pair level i (i + more) each (omega arith) (omega arith)) as (λ _. FirstInRow level i ⊎ SharesNoneBefore level i (i + suc more)) [
-    | inl s ↦ inl (record { j = i + more; w = s.0; first = record { order = omega arith; share = s.1; none = none } })
-    | inr never ↦ inr (λ j w a b. elim (cases_eq j (i + more)) as (λ _. ShareList level i j w → ⊥) [
-      | inl e ↦ λ s. never w (subst (λ (x : ℕ). ShareList level i x w) e s)
-      | inr n ↦ none j w a (omega arith)
-    ])
-  ]
-]
+row_searched level i (suc more) each l = elim (row_searched level i more each (omega arith)) as
+    (λ _. FirstInRow level i ⊎ SharesNoneBefore level i (i + suc more)) [
+      | inl found ↦ inl found
+      | inr none ↦ elim (known_pair level i (i + more) each (omega arith) (omega arith)) as (λ _. FirstInRow level i ⊎ SharesNoneBefore level i (i + suc more)) [
+        | inl s ↦ inl (record { j = i + more; w = s.0; first = record { order = omega arith; share = s.1; none = none } })
+        | inr never ↦ inr (λ j w a b. elim (cases_eq j (i + more)) as (λ _. ShareList level i j w → ⊥) [
+          | inl e ↦ λ s. never w (subst (λ (x : ℕ). ShareList level i x w) e s)
+          | inr n ↦ none j w a (omega arith)
+        ])
+      ]
+    ]
 
 -- the first pair
 
@@ -128,8 +132,8 @@ first_pair level i above row = record { i = i; j = row.j; w = row.w; first = fir
 
 inside : (level : List (List Item)) (i j : ℕ) (w : List ℕ) → ShareList level i j w → (i < length level) × (j < length level)
 inside level i j w s =
-    let a = within level s.one.option s.one.items s.one.of_level in
-    let b = within level s.other.option s.other.items s.other.of_level in
+    let a = slice_get_within level s.one.option s.one.items s.one.of_level in
+    let b = slice_get_within level s.other.option s.other.items s.other.of_level in
     let e = s.by_one in
     let f = s.by_other in
     (omega arith, omega arith)
@@ -140,7 +144,8 @@ above_more level i above none k l w a b = elim (cases_eq k i) as (λ _. ShareLis
   | inr n ↦ above k l w (omega arith) b
 ]
 
-one_row : (level : List (List Item)) (n total : ℕ) → n < total → total ≡ length level → NoneAbove level n → All (All IsItem) level → FirstPair level ⊎ NoneAbove level (suc n)
+one_row : (level : List (List Item)) (n total : ℕ) → n < total → total ≡ length level → NoneAbove level n → All (All IsItem) level
+    → FirstPair level ⊎ NoneAbove level (suc n)
 one_row level n total l e above each =
     let whole : n + (total - n) ≡ length level = omega arith in
     elim (row_searched level n (total - n) each (omega arith)) as (λ _. FirstPair level ⊎ NoneAbove level (suc n)) [
@@ -166,18 +171,21 @@ pub length_lists : (options : List OptionForm) → length (item_lists options) �
 length_lists [] = refl
 length_lists (option ∷ options) = ap suc (length_lists options)
 
-pub above_next : (options : List OptionForm) (i : ℕ) → NoneAbove (item_lists options) i → SharesNoneBefore (item_lists options) i (length options) → NoneAbove (item_lists options) (i + 1)
+pub above_next : (options : List OptionForm) (i : ℕ) → NoneAbove (item_lists options) i
+    → SharesNoneBefore (item_lists options) i (length options) → NoneAbove (item_lists options) (i + 1)
 above_next options i above none k l w a b =
     let row : SharesNoneBefore (item_lists options) i (length (item_lists options)) = rw (length_lists options) none in
     above_more (item_lists options) i above row k l w (omega arith) b
 
-pub none_next : (options : List OptionForm) (i j : ℕ) → SharesNoneBefore (item_lists options) i j → ShareNoList (item_lists options) i j → SharesNoneBefore (item_lists options) i (j + 1)
+pub none_next : (options : List OptionForm) (i j : ℕ) → SharesNoneBefore (item_lists options) i j → ShareNoList (item_lists options) i j
+    → SharesNoneBefore (item_lists options) i (j + 1)
 none_next options i j before none k w a b = elim (cases_eq k j) as (λ _. ShareList (item_lists options) i k w → ⊥) [
   | inl e ↦ λ s. none w (subst (λ (x : ℕ). ShareList (item_lists options) i x w) e s)
   | inr n ↦ before k w a (omega arith)
 ]
 
-pub none_upto : (options : List OptionForm) (i j : ℕ) → SharesNoneBefore (item_lists options) i j → length options ≤ j → SharesNoneBefore (item_lists options) i (length options)
+pub none_upto : (options : List OptionForm) (i j : ℕ) → SharesNoneBefore (item_lists options) i j → length options ≤ j
+    → SharesNoneBefore (item_lists options) i (length options)
 none_upto options i j before l k w a b = before k w a (omega arith)
 
 pub none_above : (options : List OptionForm) (i : ℕ) → NoneAbove (item_lists options) i → length options ≤ i → IsAmbiguous (item_lists options) → ⊥
@@ -186,10 +194,11 @@ none_above options i above l =
     not_ambiguous (item_lists options) (λ k m w a b. above k m w (omega arith) b)
 
 pub some_answer : (level : LevelForm) → All (All IsItem) (item_lists level.options) → (answer : Option Shared) × IsFirstShared level answer
-some_answer level each = elim (rows_searched (item_lists level.options) (length (item_lists level.options)) each (omega arith)) as (λ _. (answer : Option Shared) × IsFirstShared level answer) [
-  | inl f ↦ (Some (record { first = f.i; second = f.j; text = shown_symbols level.bit_level f.w }), record { w = f.w; share = f.first; shown = refl })
-  | inr above ↦ (None, not_ambiguous (item_lists level.options) above)
-]
+some_answer level each = elim (rows_searched (item_lists level.options) (length (item_lists level.options)) each (omega arith)) as
+    (λ _. (answer : Option Shared) × IsFirstShared level answer) [
+      | inl f ↦ (Some (record { first = f.i; second = f.j; text = shown_symbols level.bit_level f.w }), record { w = f.w; share = f.first; shown = refl })
+      | inr above ↦ (None, not_ambiguous (item_lists level.options) above)
+    ]
 
 -- the answer names one pair
 

@@ -13,17 +13,18 @@ abbrev pub starts_of : ℕ → List Item → List ℕ
 starts_of place [] = []
 starts_of place (item ∷ items) = place ∷ starts_of (place + size_of item) items
 
--- the words of each item before the last have one length, no text has two derivations, and the items begin at these places
+-- holds if the words of each item before the last have one length, no text has two derivations, and the items begin at these
+-- places
 pub record AreWidthsOf (places : List ℕ) (option : OptionForm) : Type 0 where
   pub fixed : CutsAreFixed option.items
   pub alone : ReadAlone option.items
   pub places_are : places ≡ starts_of 0 option.items
 
--- the way is right for the option; that by its machine is right for each
+-- holds if the way is right for the option; that by its machine is right for each
 abbrev pub IsCuttingOf : Cutting → OptionForm → Type 0
 IsCuttingOf (Widths places) option = AreWidthsOf places option
 IsCuttingOf Machine option = Unit {0}
 
--- there is one way for each option, in the same order, and each is right for its option
+-- holds if there is one way for each option, in the same order, and each is right for its option
 abbrev pub AreCuttingsOf : List Cutting → List OptionForm → Type 0
 AreCuttingsOf cuttings options = FitEach IsCuttingOf cuttings options

@@ -13,19 +13,19 @@ use Rattle.gs_grammar_level.specs.OptionMachines.{FitEach}
 abbrev pub place_of : ℕ → ℕ → Place
 place_of least most = record { least = least; most = most }
 
--- the symbol may be at the place
+-- holds if the symbol may be at the place
 pub record MayStand (place : Place) (symbol : ℕ) : Type 0 where
   pub least : place.least ≤ symbol
   pub most : symbol ≤ place.most
 
--- each symbol that has a place may be at it, and there is a symbol for each place
+-- holds if each symbol that has a place may be at it, and there is a symbol for each place
 abbrev pub StandWithin : List Place → List ℕ → Type 0
 StandWithin [] w = Unit {0}
 StandWithin (place ∷ places) [] = ⊥
 StandWithin (place ∷ places) (symbol ∷ w) = MayStand place symbol × StandWithin places w
 
--- the places of the words of an item whose words have one length: those of a literal have one symbol each, those of digits the
--- digits, those of numbers and of packed characters the bits
+-- The places of the words of an item whose words have one length. Those of a literal have one symbol each, those of digits the
+-- digits, those of numbers and of packed characters the bits.
 abbrev pub places_of : Item → List Place
 places_of (Lit literal) = map (λ symbol. place_of symbol symbol) literal
 places_of (Pad n) = replicate n (place_of 48 57)
@@ -38,33 +38,33 @@ places_of (NumStr bits hi) = replicate bits (place_of 0 1)
 places_of (Ascii7 lo hi bits) = replicate bits (place_of 0 1)
 places_of (Fill a b) = replicate b (place_of 0 0)
 
--- each list that the items derive has these places at its start
+-- holds if each list that the items derive has these places at its start
 pub record HavePlaces (items : List Item) (places : List Place) : Type 0 where
   pub within : (w : List ℕ) → IsDerived items w → StandWithin places w
 
--- the words of each item before the last have one length
+-- holds if the words of each item before the last have one length
 abbrev pub CutsAreFixed : List Item → Type 0
 CutsAreFixed [] = Unit {0}
 CutsAreFixed (item ∷ []) = Unit {0}
 CutsAreFixed (item ∷ next ∷ others) = (shortest_of item ≡ size_of item) × CutsAreFixed (next ∷ others)
 
--- no list of symbols has two derivations by the items
+-- holds if no list of symbols has two derivations by the items
 pub record ReadAlone (items : List Item) : Type 0 where
   pub only : (w : List ℕ) (values words others others' : List (List ℕ)) → Derives items w values words → Derives items w others others' → words ≡ others'
 
--- the `Front` is that of the option: its places are at the start of each of its texts
+-- holds if the `Front` is that of the option: its places are at the start of each of its texts
 abbrev pub IsFrontOf : Front → OptionForm → Type 0
 IsFrontOf front option = HavePlaces option.items front.places
 
--- the fronts are those of the options, one for each, in the same order
+-- holds if the fronts are those of the options, one for each, in the same order
 abbrev pub AreFrontsOf : List Front → List OptionForm → Type 0
 AreFrontsOf fronts options = FitEach IsFrontOf fronts options
 
--- no symbol may be at both places
+-- holds if no symbol may be at both places
 abbrev pub ArePlacesApart : Place → Place → Type 0
 ArePlacesApart place other = (place.most < other.least) ⊎ (other.most < place.least)
 
--- at some place no symbol may be at that of both
+-- holds if at some place no symbol may be at that of both
 pub record AreApart (places others : List Place) : Type 0 where
   pub number : ℕ
   pub place : Place

@@ -5,8 +5,8 @@ use Rattle.gs_grammar_level.specs.declared.read.Reading.{Reading}
 use Rattle.gs_grammar_level.specs.declared.read.Reading.TheVariants.{One, Nothing, Memory}
 use Rattle.gs_grammar.specs.Derivations.{Derivation, OneDerivation}
 
--- trusted, own: The answer for the list of symbols in the level: the option and the values of the only derivation, or that
--- there is none. `Memory` may be returned instead of either.
+-- trusted, own: Holds if the answer is the option and the values of the only derivation of `w` in `level`, or that there is
+-- none. `Memory` may be returned instead of either.
 abbrev pub Reads : List (List Item) → List ℕ → Reading → Type 0
 Reads level w (One option values) = OneDerivation level w option values
 Reads level w Nothing = Derivation level w → ⊥

@@ -9,7 +9,7 @@ use Rattle.gs_ambig.specs.MachinesSupport.{start_of, Accepts}
 use Rattle.gs_grammar_compile.specs.Places.{is_border, run_cuts, word_cuts}
 use Rattle.gs_grammar_level.specs.declared.trail.Entry.{Entry}
 
--- the edge leads with this symbol
+-- holds if the edge leads with this symbol
 abbrev pub leads_with : Edge → ℕ → Bool
 leads_with edge symbol = nat_le edge.lo symbol && nat_le symbol edge.hi
 
@@ -34,27 +34,27 @@ with_layer form symbol from trail = trail ++ layer form.table symbol from (drop 
 abbrev pub entry_at : List Entry → ℕ → Entry
 entry_at trail number = slice_index_or trail number (record { state = 0; back = 0 })
 
--- the state of each entry is one of the machine
+-- holds if the state of each entry is one of the machine
 abbrev pub AreInside : AutoForm → List Entry → Type 0
 AreInside form trail = (number : ℕ) → number < length trail → (entry_at trail number).state < states_of form
 
--- the entry of this number, which is `from` or more, has this state
+-- holds if the entry of this number, which is `from` or more, has this state
 abbrev pub IsEntryOf : List Entry → ℕ → ℕ → ℕ → Type 0
 IsEntryOf trail from state number =
     (from ≤ number) × (number < length trail) × ((entry_at trail number).state ≡ state)
 
--- no entry of the number `from` or more has this state
+-- holds if no entry of the number `from` or more has this state
 abbrev pub HasNoEntryOf : List Entry → ℕ → ℕ → Type 0
 HasNoEntryOf trail from state =
     (number : ℕ) → from ≤ number → number < length trail → (entry_at trail number).state ≡ state → ⊥
 
--- the entry of this number was reached from the start over the first n symbols
+-- holds if the entry of this number was reached from the start over the first n symbols
 abbrev pub Came : AutoForm → List Entry → List ℕ → ℕ → ℕ → Type 0
 Came form trail symbols zero number = (number < length trail) × ((entry_at trail number).state ≡ start_of form)
 Came form trail symbols (suc n) number =
     (number < length trail) × Came form trail symbols n (entry_at trail number).back × Fits (edges_at form.table (entry_at trail (entry_at trail number).back).state) (slice_index symbols n) (entry_at trail number).state
 
--- the entry of this number was reached over all symbols, and its state is the accepting one
+-- holds if the entry of this number was reached over all symbols, and its state is the accepting one
 pub record IsTrail (form : AutoForm) (trail : List Entry) (symbols : List ℕ) (number : ℕ) : Type 0 where
   pub came : Came form trail symbols (length symbols) number
   pub accepting : (entry_at trail number).state ≡ accept_of form
@@ -63,17 +63,17 @@ pub record IsTrail (form : AutoForm) (trail : List Entry) (symbols : List ℕ) (
 abbrev pub with_cut : List ℕ → ℕ → ℕ → List ℕ → List ℕ
 with_cut borders state place cuts = if is_border borders state then place ∷ cuts else cuts
 
--- these are the cuts of an accepting run on the symbols
+-- holds if these are the cuts of an accepting run on the symbols
 pub record AreCuts (form : AutoForm) (symbols cuts : List ℕ) : Type 0 where
   pub run : List ℕ
   pub accepts : Accepts form run symbols
   pub cuts_are : cuts ≡ run_cuts form run
 
--- the list has no accepting run
+-- holds if the list has no accepting run
 abbrev pub HasNoRun : AutoForm → List ℕ → Type 0
 HasNoRun form symbols = (run : List ℕ) → Accepts form run symbols → ⊥
 
--- the items derive the list, and these are the cuts of a derivation
+-- holds if the items derive the list, and these are the cuts of a derivation
 pub record HasCuts (items : List Item) (symbols cuts : List ℕ) : Type 0 where
   pub values : List (List ℕ)
   pub words : List (List ℕ)

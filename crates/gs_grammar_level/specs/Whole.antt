@@ -11,7 +11,7 @@ use Rattle.gs_grammar_level.specs.Cuttings.{AreCuttingsOf}
 use Rattle.gs_grammar_level.specs.OptionMachines.{AreMachinesOf}
 use Rattle.gs_grammar_level.specs.Guides.{AreProbesOf, AreGroupsFrom}
 
--- the options are of the level's kind, and the fronts, machines, cuttings, probes and groups are theirs
+-- holds if the options are of the level's kind, and the fronts, machines, cuttings, probes and groups are theirs
 pub record IsLevel (bit_level : Bool) (options : List OptionForm) (fronts : List Front) (machines : List AutoForm) (cuttings : List Cutting) (probes : List Probe) (groups : List Group) : Type 0 where
   pub of_kind : AreOfKind bit_level options
   pub fronts_are : AreFrontsOf fronts options

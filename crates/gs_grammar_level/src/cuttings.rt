@@ -98,7 +98,8 @@ pub fn has_one_length(item: &Item, size: usize) -> bool
     }
 }
 
-/// Returns the length of a word that other items follow: from the first cut to the second, and all of the rest for the last item.
+/// Returns the length of a word that other items follow. It extends from the first cut to the second, and for the last item
+/// over all of the rest.
 pub fn width_by(cuts: &[usize], others: &[Item], rest: &[u8]) -> usize
     requires { HasNextCut cuts.now others.now }
     ensures { result ≡ width_by cuts.now others.now rest.now }

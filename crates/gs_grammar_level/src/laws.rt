@@ -15,14 +15,14 @@ pub fn ambiguous_exactly_where_options_share()
         IsFirstShare level i j w → IsAmbiguous level }
 {}
 
-/// States that in a level that is not ambiguous each list of symbols has at most one derivation: the one that it has is its
+/// States that in a level that is not ambiguous each list of symbols has at most one derivation. The one that it has is its
 /// only one.
 pub fn no_list_has_two_readings()
     ensures { (level : List (List Item)) (w : List ℕ) (derivation : Derivation level w) →
         (IsAmbiguous level → ⊥) → OneDerivation level w derivation.option derivation.values }
 {}
 
-/// States that each level whose items are within their bounds has an answer: it is not ambiguous, or it has a first pair of
+/// States that each level whose items are within their bounds has an answer. It is not ambiguous, or it has a first pair of
 /// options that shares a list. Only one pair can be the first, so that two answers differ at most in the text.
 pub fn each_level_has_an_answer()
     ensures some { (level : LevelForm) → All (All IsItem) (item_lists level.options) →

@@ -1,7 +1,7 @@
 //! Levels: options with their machines, and the readings of a text or of bits by one pass.
 //!
-//! A level has the meaning of Tag Data Translation: the options in which one form of an EPC, for example its tag bits, may be
-//! written.
+//! A level has the meaning of Tag Data Translation. It is the options in which one form of an EPC, for example its tag bits,
+//! may be written.
 //!
 //! - `Level::new` compiles the machine of each option, once, and `Level::machines` lends the machines.
 //! - `read_text` and `read_bits` find the option that reads a text or bits, and the value of each of its items. If each item

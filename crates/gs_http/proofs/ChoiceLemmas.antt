@@ -21,7 +21,8 @@ use Rattle.gs_http.specs.Answers.{by_elements, by_linkset, by_relation, choices,
 use Rattle.gs_http.specs.Lookups.{numbers_for}
 use Rattle.gs_http.specs.Wishes.{Wish, for_linkset, for_relation}
 
-pub same_want : (links : List Link) (identity : Elements) (name : List ℕ) (lent : Bor (List ℕ)) → lent.now ≡ name → chosen links identity (RelationOf lent) ≡ chosen links identity (of_relation name)
+pub same_want : (links : List Link) (identity : Elements) (name : List ℕ) (lent : Bor (List ℕ)) → lent.now ≡ name
+    → chosen links identity (RelationOf lent) ≡ chosen links identity (of_relation name)
 unfolding is_candidate
 same_want links identity name lent e = rw e refl
 
@@ -66,13 +67,15 @@ narrowed_few links (i ∷ j ∷ numbers) (range ∷ ranges) few = absurd (omega 
 -- ---- the numbers that fit a wish
 
 -- they are chosen, and narrowed
-pub numbers_narrowed : (links : List Link) (ranges : List (List ℕ)) (identity : Elements) (wish : Wish) (numbers : List ℕ) → numbers ≡ numbers_for links ranges identity wish
+pub numbers_narrowed : (links : List Link) (ranges : List (List ℕ)) (identity : Elements) (wish : Wish) (numbers : List ℕ)
+    → numbers ≡ numbers_for links ranges identity wish
     → (want : Want) × (others : List (List ℕ)) × (numbers ≡ narrowed links (chosen links identity want) others)
 numbers_narrowed links ranges identity (for_linkset form) numbers e = (AllRelations, [], e)
 numbers_narrowed links ranges identity (for_relation name) numbers e = (of_relation name, ranges, e)
 
 -- the answer for a linkset
-pub linkset_found : (templates : Bool) (links : List Link) (ranges : List (List ℕ)) (identity : Elements) (wish : Wish) (form : LinksetForm) (numbers : List ℕ) (sent : Rendered) → wish ≡ for_linkset form
+pub linkset_found : (templates : Bool) (links : List Link) (ranges : List (List ℕ)) (identity : Elements) (wish : Wish) (form : LinksetForm) (numbers : List ℕ) (sent : Rendered)
+    → wish ≡ for_linkset form
     → numbers ≡ numbers_for links ranges identity wish → 0 < length numbers → sent ≡ rendered_as form (sent_document templates identity (linked links numbers))
     → linkset sent ≡ by_elements templates links ranges identity wish
 linkset_found templates links ranges identity wish form numbers sent is e some made =

@@ -56,7 +56,8 @@ no_more_heads : (n i : ℕ) (stream : List ℕ) → i < n → front_of stream �
 no_more_heads n i stream low e =
     ap (λ k. heads_of k stream) (one_more n i low) ∙ ap (λ front. with_front front (heads_of (n - (i + 1)))) e
 
-heads_headless : (n i : ℕ) (held : List ℕ) (left : Option (List ℕ)) → i < n → Begins filled.Headless held left → heads_of (n - i) (held ++ rest_of left) ≡ None ∷ []
+heads_headless : (n i : ℕ) (held : List ℕ) (left : Option (List ℕ)) → i < n → Begins filled.Headless held left
+    → heads_of (n - i) (held ++ rest_of left) ≡ None ∷ []
 heads_headless n i held left low begins = elim begins.1 [
   | inl many ↦ no_more_heads n i (held ++ rest_of left) low (front_full held (rest_of left) begins.0 many)
   | inr cut ↦
@@ -77,7 +78,8 @@ module _ (table : List AiRow) (links : List Link) (settings : Settings) where
   says_last (Some asked) last e = or_first last _ e
 
   -- a reply after which the connection stays is not the last that may come
-  pub stays_before_last : (head : List ℕ) (last : Bool) (reply : Reply) → IsReplyTo table links settings (Some head) last reply → reply.close ≡ false → last ≡ false
+  pub stays_before_last : (head : List ℕ) (last : Bool) (reply : Reply) → IsReplyTo table links settings (Some head) last reply
+      → reply.close ≡ false → last ≡ false
   stays_before_last head last reply is stays = says_last is.asked last (sym (ap (λ (r : Reply). r.close) is.is_reply) ∙ stays)
 
   -- ---- the turns so far
@@ -112,15 +114,18 @@ module _ (table : List AiRow) (links : List Link) (settings : Settings) where
   }
 
   -- more was read after the heads
-  module _ (n i : ℕ) (bytes grown : List ℕ) (l0 l1 l2 t0 t1 t2 h0 h1 : Option (List ℕ)) (x : SoFar n i bytes l0 l1 t0 t1 h0 h1) (r : Reads bytes grown l1 l2 t1 t2) where
+  module _ (n i : ℕ) (bytes grown : List ℕ) (l0 l1 l2 t0 t1 t2 h0 h1 : Option (List ℕ)) (x : SoFar n i bytes l0 l1 t0 t1 h0 h1)
+      (r : Reads bytes grown l1 l2 t1 t2) where
     read_so_far : (bytes_of x.heads ++ bytes) ++ r.bytes ≡ bytes_of x.heads ++ grown
     read_so_far = append_assoc (bytes_of x.heads) bytes r.bytes ∙ ap (λ more. bytes_of x.heads ++ more) (sym r.grown)
 
     moved_so_far : l0 ≡ prepend_known (bytes_of x.heads ++ grown) l2
-    moved_so_far = x.moved ∙ ap (prepend_known (bytes_of x.heads ++ bytes)) r.moved ∙ prepend_twice (bytes_of x.heads ++ bytes) r.bytes l2 ∙ ap (λ front. prepend_known front l2) read_so_far
+    moved_so_far = x.moved ∙ ap (prepend_known (bytes_of x.heads ++ bytes)) r.moved ∙ prepend_twice
+        (bytes_of x.heads ++ bytes) r.bytes l2 ∙ ap (λ front. prepend_known front l2) read_so_far
 
     took_so_far : t2 ≡ append_known t0 (bytes_of x.heads ++ grown)
-    took_so_far = r.took ∙ ap (λ known. append_known known r.bytes) x.took ∙ append_twice t0 (bytes_of x.heads ++ bytes) r.bytes ∙ ap (append_known t0) read_so_far
+    took_so_far = r.took ∙ ap (λ known. append_known known r.bytes) x.took ∙ append_twice t0 (bytes_of x.heads ++ bytes) r.bytes ∙ ap
+        (append_known t0) read_so_far
 
     cut_so_far : (more : List ℕ) → heads_of n ((bytes_of x.heads ++ grown) ++ more) ≡ x.heads ++ heads_of (n - i) (grown ++ more)
     cut_so_far more =
@@ -132,14 +137,16 @@ module _ (table : List AiRow) (links : List Link) (settings : Settings) where
   -- one head more was answered
   pub one_more_turn : (n i : ℕ) (bytes grown after : List ℕ) (l0 l1 l2 t0 t1 t2 h0 h1 h2 : Option (List ℕ)) (len : ℕ) → i < n
       → SoFar n i bytes l0 l1 t0 t1 h0 h1 → Reads bytes grown l1 l2 t1 t2 → length grown ≤ 12287 → head_end (take 8192 grown) ≡ Some len
-      → (reply : Reply) → IsReplyTo table links settings (Some (take len grown)) ((n - i) == 1) reply → reply.close ≡ false → h2 ≡ append_known h1 reply.bytes → after ≡ drop len grown
+      → (reply : Reply) → IsReplyTo table links settings (Some (take len grown)) ((n - i) == 1) reply → reply.close ≡ false
+      → h2 ≡ append_known h1 reply.bytes → after ≡ drop len grown
       → SoFar n (i + 1) after l0 l2 t0 t2 h0 h2
   one_more_turn n i bytes grown after l0 l1 l2 t0 t1 t2 h0 h1 h2 len low x r few ends reply is stays wrote gone =
       let head = take len grown in
       let split : head ++ after ≡ grown = ap (λ rest. head ++ rest) gone ∙ take-append-drop len grown in
       let all : bytes_of x.heads ++ grown ≡ bytes_of (x.heads ++ Some head ∷ []) ++ after =
       ap (λ rest. bytes_of x.heads ++ rest) (sym split) ∙ sym (append_assoc (bytes_of x.heads) head after)
-      ∙ ap (λ front. (bytes_of x.heads ++ front) ++ after) (sym (append-nil head)) ∙ ap (λ front. front ++ after) (sym (bytes_append x.heads (Some head ∷ []))) in
+      ∙ ap (λ front. (bytes_of x.heads ++ front) ++ after) (sym (append-nil head)) ∙ ap (λ front. front ++ after)
+      (sym (bytes_append x.heads (Some head ∷ []))) in
       let length_heads = length-append x.heads (Some head ∷ []) in
       let length_replies = length-append x.replies (reply ∷ []) in
       let count = x.count in
@@ -156,7 +163,8 @@ module _ (table : List AiRow) (links : List Link) (settings : Settings) where
         moved = moved_so_far n i bytes grown l0 l1 l2 t0 t1 t2 h0 h1 x r ∙ ap (λ front. prepend_known front l2) all;
         took = took_so_far n i bytes grown l0 l1 l2 t0 t1 t2 h0 h1 x r ∙ ap (append_known t0) all;
         wrote = wrote ∙ ap (λ known. append_known known reply.bytes) x.wrote ∙ append_twice h0 (all_bytes x.replies) reply.bytes
-            ∙ ap (λ more. append_known h0 (all_bytes x.replies ++ more)) (sym (append-nil reply.bytes)) ∙ ap (append_known h0) (sym (all_append x.replies (reply ∷ [])));
+            ∙ ap (λ more. append_known h0 (all_bytes x.replies ++ more)) (sym (append-nil reply.bytes)) ∙ ap (append_known h0)
+            (sym (all_append x.replies (reply ∷ [])));
         cut = λ more.
             let here = heads_headed n i grown more len low ends in
             ap (λ front. heads_of n (front ++ more)) (sym all) ∙ cut_so_far n i bytes grown l0 l1 l2 t0 t1 t2 h0 h1 x r more
@@ -182,7 +190,8 @@ module _ (table : List AiRow) (links : List Link) (settings : Settings) where
       let replied : replies_of (x.replies ++ tail) ≡ all_bytes x.replies ++ replies_of tail = replies_append x.replies tail x.stay in
       let answered : take i (x.replies ++ tail) ≡ x.replies = ap (λ k. take k (x.replies ++ tail)) (sym x.matched) ∙ take-append_seam x.replies tail in
       let taken_heads : take i (heads_of n (read ++ rest)) ≡ x.heads =
-      ap (take i) cut ∙ ap (λ k. take k (x.heads ++ heads_of (n - i) (grown ++ rest))) (sym x.count) ∙ take-append_seam x.heads (heads_of (n - i) (grown ++ rest)) in
+      ap (take i) cut ∙ ap (λ k. take k (x.heads ++ heads_of (n - i) (grown ++ rest))) (sym x.count) ∙ take-append_seam x.heads
+      (heads_of (n - i) (grown ++ rest)) in
       record {
         read = read;
         written = all_bytes x.replies ++ part;
@@ -212,7 +221,8 @@ module _ (table : List AiRow) (links : List Link) (settings : Settings) where
       done Memory a tail part replied stay h = tt
 
   -- the first reply to the bytes left was written, or a prefix of it
-  module _ (n i : ℕ) (bytes grown : List ℕ) (l0 l1 l2 t0 t1 t2 h0 h1 h2 : Option (List ℕ)) (x : SoFar n i bytes l0 l1 t0 t1 h0 h1) (r : Reads bytes grown l1 l2 t1 t2) (few : length grown ≤ 12287) where
+  module _ (n i : ℕ) (bytes grown : List ℕ) (l0 l1 l2 t0 t1 t2 h0 h1 h2 : Option (List ℕ)) (x : SoFar n i bytes l0 l1 t0 t1 h0 h1)
+      (r : Reads bytes grown l1 l2 t1 t2) (few : length grown ≤ 12287) where
     end_with : (head : Option (List ℕ)) (heads : List (Option (List ℕ))) → heads_of (n - i) (grown ++ rest_of l2) ≡ head ∷ heads
         → (reply : Reply) → IsReplyTo table links settings head ((n - i) == 1) reply → (served : Served) → Delivers (Over served) reply h1 h2
         → IsServed n table links settings served l0 l2 t0 t2 h0 h2
@@ -227,21 +237,27 @@ module _ (table : List AiRow) (links : List Link) (settings : Settings) where
             let behind = if reply.close then [] else replies_of others in
             (drop k reply.bytes ++ behind, ap (λ front. front ++ behind) (sym (take-append-drop k reply.bytes)) ∙ append_assoc (take k reply.bytes) (drop k reply.bytes) behind)
 
-        by : (served : Served) (others : List Reply) → AreReplies table links settings (n - i) (heads_of (n - i) (grown ++ rest_of l2)) (reply ∷ others) → Delivers (Over served) reply h1 h2
+        by : (served : Served) (others : List Reply)
+            → AreReplies table links settings (n - i) (heads_of (n - i) (grown ++ rest_of l2)) (reply ∷ others)
+            → Delivers (Over served) reply h1 h2
             → IsServed n table links settings served l0 l2 t0 t2 h0 h2
         by Done others are d =
             let whole : replies_of (reply ∷ others) ≡ reply.bytes ++ [] = rw d.1 refl in
             let closing : has_closing (reply ∷ others) ≡ true = rw d.1 refl in
-            finish n i bytes grown l0 l1 l2 t0 t1 t2 h0 h1 h2 Done x r few (reply ∷ others) are reply.bytes ([], whole) d.0 (sym (append-nil reply.bytes) ∙ sym whole, inr closing)
+            finish n i bytes grown l0 l1 l2 t0 t1 t2 h0 h1 h2 Done x r few (reply ∷ others) are reply.bytes ([], whole) d.0
+            (sym (append-nil reply.bytes) ∙ sym whole, inr closing)
         by ReadFault others are d = absurd d
-        by WriteFault others are d = finish n i bytes grown l0 l1 l2 t0 t1 t2 h0 h1 h2 WriteFault x r few (reply ∷ others) are (take d.0 reply.bytes) (front_of_reply others d.0) d.1 tt
-        by Memory others are d = finish n i bytes grown l0 l1 l2 t0 t1 t2 h0 h1 h2 Memory x r few (reply ∷ others) are (take d.0 reply.bytes) (front_of_reply others d.0) d.1 tt
+        by WriteFault others are d = finish n i bytes grown l0 l1 l2 t0 t1 t2 h0 h1 h2 WriteFault x r few (reply ∷ others) are
+            (take d.0 reply.bytes) (front_of_reply others d.0) d.1 tt
+        by Memory others are d = finish n i bytes grown l0 l1 l2 t0 t1 t2 h0 h1 h2 Memory x r few (reply ∷ others) are
+            (take d.0 reply.bytes) (front_of_reply others d.0) d.1 tt
 
     -- nothing was written, for an error or out of memory
     end_before : (served : Served) → OnDone served ⊥ → h2 ≡ h1 → IsServed n table links settings served l0 l2 t0 t2 h0 h2
     end_before served not_done same =
         let tail = some_replies table links settings (n - i) (heads_of (n - i) (grown ++ rest_of l2)) in
-        finish n i bytes grown l0 l1 l2 t0 t1 t2 h0 h1 h2 served x r few tail.0 tail.1 [] (replies_of tail.0, refl) (same ∙ sym (append_nothing h1)) (none ((([] ≡ replies_of tail.0) × ((rest_of l2 ≡ []) ⊎ (has_closing tail.0 ≡ true)))) served not_done)
+        finish n i bytes grown l0 l1 l2 t0 t1 t2 h0 h1 h2 served x r few tail.0 tail.1 [] (replies_of tail.0, refl)
+        (same ∙ sym (append_nothing h1)) (none ((([] ≡ replies_of tail.0) × ((rest_of l2 ≡ []) ⊎ (has_closing tail.0 ≡ true)))) served not_done)
       where
         none : (P : Type 0) (served : Served) → OnDone served ⊥ → OnDone served P
         none P Done h = absurd h
@@ -258,7 +274,8 @@ module _ (table : List AiRow) (links : List Link) (settings : Settings) where
         subst (λ (hs : List (Option (List ℕ))). AreReplies table links settings (n - i) hs []) (sym (heads_ended n i (grown ++ rest_of l2) low stream)) tt in
         finish n i bytes grown l0 l1 l2 t0 t1 t2 h0 h1 h2 Done x r few [] are [] ([], refl) (same ∙ sym (append_nothing h1)) (refl, inl rest)
 
-    over_by : i < n → (served : Served) (after : List ℕ) (front : Filled) → Begins front grown l2 → Outcome front table links settings (Over served) ((n - i) == 1) grown after h1 h2
+    over_by : i < n → (served : Served) (after : List ℕ) (front : Filled) → Begins front grown l2
+        → Outcome front table links settings (Over served) ((n - i) == 1) grown after h1 h2
         → IsServed n table links settings served l0 l2 t0 t2 h0 h2
     over_by low served after filled.Ended begins o =
         let is : served ≡ Done = (let e = o.0 in cc) in
@@ -272,7 +289,8 @@ module _ (table : List AiRow) (links : List Link) (settings : Settings) where
     over_by low served after filled.Headless begins o =
         end_with None [] (heads_headless n i grown l2 low begins) o.reply o.is_reply served o.delivers
     over_by low served after (filled.Head len) begins o =
-        end_with (Some (take len grown)) (heads_of (n - (i + 1)) (drop len grown ++ rest_of l2)) (heads_headed n i grown (rest_of l2) len low begins) o.0.reply o.0.is_reply served o.0.delivers
+        end_with (Some (take len grown)) (heads_of (n - (i + 1)) (drop len grown ++ rest_of l2))
+        (heads_headed n i grown (rest_of l2) len low begins) o.0.reply o.0.is_reply served o.0.delivers
 
     stays_by : i < n → (after : List ℕ) (front : Filled) → Begins front grown l2 → Outcome front table links settings Stays ((n - i) == 1) grown after h1 h2
         → SoFar n (i + 1) after l0 l2 t0 t2 h0 h2
@@ -295,7 +313,8 @@ module _ (table : List AiRow) (links : List Link) (settings : Settings) where
   goes_on n i bytes after l0 l1 l2 t0 t1 t2 h0 h1 h2 low x turn =
       stays_by n i bytes turn.grown l0 l1 l2 t0 t1 t2 h0 h1 h2 x turn.reads turn.few low after turn.front turn.begins turn.outcome
 
-  outcome_last : (front : Filled) (last : Bool) (grown after : List ℕ) (held held' : Option (List ℕ)) → Outcome front table links settings Stays last grown after held held' → last ≡ false
+  outcome_last : (front : Filled) (last : Bool) (grown after : List ℕ) (held held' : Option (List ℕ))
+      → Outcome front table links settings Stays last grown after held held' → last ≡ false
   outcome_last filled.Ended last grown after held held' o = absurd (let e = o.0 in cc)
   outcome_last filled.Failed last grown after held held' o = absurd (let e = o.0 in cc)
   outcome_last filled.Memory last grown after held held' o = absurd (let e = o.0 in cc)
@@ -303,7 +322,8 @@ module _ (table : List AiRow) (links : List Link) (settings : Settings) where
   outcome_last (filled.Head len) last grown after held held' o = stays_before_last (take len grown) last o.0.reply o.0.is_reply o.0.delivers.1
 
   -- after the last reply that may come the connection does not stay
-  pub not_last : (last : Bool) (bytes after : List ℕ) (l1 l2 t1 t2 h1 h2 : Option (List ℕ)) → Turned table links settings Stays last bytes after l1 l2 t1 t2 h1 h2 → last ≡ false
+  pub not_last : (last : Bool) (bytes after : List ℕ) (l1 l2 t1 t2 h1 h2 : Option (List ℕ))
+      → Turned table links settings Stays last bytes after l1 l2 t1 t2 h1 h2 → last ≡ false
   not_last last bytes after l1 l2 t1 t2 h1 h2 turn = outcome_last turn.front last turn.grown after h1 h2 turn.outcome
 
   -- nothing was done, out of memory

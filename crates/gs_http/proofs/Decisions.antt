@@ -17,7 +17,8 @@ abbrev pub Decided : {A : Type 0} → Piece A → List ℕ → Type 0
 Decided G text = Begins G text ⊎ (Begins G text → ⊥)
 
 -- one piece and then another
-pub decide_then : {A B : Type 0} {G : Piece A} {H : Piece B} → IsDeterministic G → (text : List ℕ) → Decided G text → ((middle : List ℕ) → Decided H middle) → Decided (Then G H) text
+pub decide_then : {A B : Type 0} {G : Piece A} {H : Piece B} → IsDeterministic G → (text : List ℕ) → Decided G text
+    → ((middle : List ℕ) → Decided H middle) → Decided (Then G H) text
 decide_then {G} {H} det text first next = elim first [
   | inr none ↦ inr (λ x. none (x.0.0, x.2.0, x.2.1))
   | inl g ↦ elim (next g.1) [
@@ -47,7 +48,8 @@ front_decided (a ∷ front) (c ∷ text) = elim (equal_or_not c a) [
   ]
 ]
 
-no_end : (text : List ℕ) → ((rest : List ℕ) → text ≡ print_end crlf ++ rest → ⊥) → ((rest : List ℕ) → text ≡ print_end lf ++ rest → ⊥) → (end : LineEnd) (rest : List ℕ) → text ≡ print_end end ++ rest → ⊥
+no_end : (text : List ℕ) → ((rest : List ℕ) → text ≡ print_end crlf ++ rest → ⊥) → ((rest : List ℕ) → text ≡ print_end lf ++ rest → ⊥)
+    → (end : LineEnd) (rest : List ℕ) → text ≡ print_end end ++ rest → ⊥
 no_end text a b crlf rest e = a rest e
 no_end text a b lf rest e = b rest e
 
@@ -81,7 +83,8 @@ blank_here (c ∷ text) none = elim (true_or_false (is_newline c)) [
 ]
 
 -- after a line end, the empty lines are one more
-blank_behind : (end : LineEnd) (text middle : List ℕ) → text ≡ print_end end ++ middle → (ends : List LineEnd) (rest : List ℕ) → Blank ends text rest → Begins Blank middle
+blank_behind : (end : LineEnd) (text middle : List ℕ) → text ≡ print_end end ++ middle → (ends : List LineEnd) (rest : List ℕ)
+    → Blank ends text rest → Begins Blank middle
 blank_behind end text middle e [] rest x = absurd (newline_not_stopped end middle rest (sym e ∙ x.0) x.1)
 blank_behind end text middle e (other ∷ ends) rest x =
     let same = print_end_unique end other middle (print_blank ends ++ rest) (sym e ∙ x.0 ∙ append_assoc (print_end other) (print_blank ends) rest) in
@@ -163,7 +166,8 @@ target_decided text = elim (word_decided is_uri_byte 32 refl text) [
   ]
 ]
 
-no_version : (text : List ℕ) → ((rest : List ℕ) → text ≡ print_version 0 ++ rest → ⊥) → ((rest : List ℕ) → text ≡ print_version 1 ++ rest → ⊥) → (minor : ℕ) (rest : List ℕ) → Version minor text rest → ⊥
+no_version : (text : List ℕ) → ((rest : List ℕ) → text ≡ print_version 0 ++ rest → ⊥)
+    → ((rest : List ℕ) → text ≡ print_version 1 ++ rest → ⊥) → (minor : ℕ) (rest : List ℕ) → Version minor text rest → ⊥
 no_version text a b zero rest x = a rest x.1
 no_version text a b (suc zero) rest x = b rest x.1
 no_version text a b (suc (suc minor)) rest x = let small = x.0 in omega arith
@@ -184,13 +188,15 @@ no_text [] crlf rest e = cc
 no_text [] lf rest e = cc
 no_text (b ∷ raw) end rest e = cc
 
-text_here : (c : ℕ) (text : List ℕ) → is_value_byte c ≡ false → (raw : List ℕ) (end : LineEnd) (rest : List ℕ) → AllPass is_value_byte raw → c ∷ text ≡ raw ++ (print_end end ++ rest) → Begins Newline (c ∷ text)
+text_here : (c : ℕ) (text : List ℕ) → is_value_byte c ≡ false → (raw : List ℕ) (end : LineEnd) (rest : List ℕ) → AllPass is_value_byte raw
+    → c ∷ text ≡ raw ++ (print_end end ++ rest) → Begins Newline (c ∷ text)
 text_here c text fails_here [] end rest all e = (end, rest, e)
 text_here c text fails_here (b ∷ raw) end rest all e =
     let same : c ≡ b = cc in
     absurd (false≢true (sym fails_here ∙ ap is_value_byte same ∙ All-head (λ v. is_value_byte v ≡ true) b raw all))
 
-text_behind : (c : ℕ) (text : List ℕ) → is_value_byte c ≡ true → (raw : List ℕ) (end : LineEnd) (rest : List ℕ) → AllPass is_value_byte raw → c ∷ text ≡ raw ++ (print_end end ++ rest) → Begins Text text
+text_behind : (c : ℕ) (text : List ℕ) → is_value_byte c ≡ true → (raw : List ℕ) (end : LineEnd) (rest : List ℕ) → AllPass is_value_byte raw
+    → c ∷ text ≡ raw ++ (print_end end ++ rest) → Begins Text text
 text_behind c text passes [] end rest all e =
     let stops : is_value_byte c ≡ false = subst (Stops is_value_byte) (sym e) (Stops_value end rest) in
     absurd (false≢true (sym stops ∙ passes))

@@ -98,7 +98,8 @@ take_both (suc n) (x ∷ xs) ys =
     rw e (ap (λ zs. x ∷ zs) (take_both n xs ys))
 
 stable_front : (n : ℕ) (held more : List ℕ) (p : ℕ) → head_end (take n held) ≡ Some p → head_end (take n (held ++ more)) ≡ Some p
-stable_front n held more p e = subst (λ (text : List ℕ). head_end text ≡ Some p) (sym (take_both n held more)) (stable (take n held) (take (n - length held) more) p e)
+stable_front n held more p e = subst (λ (text : List ℕ). head_end text ≡ Some p) (sym (take_both n held more))
+    (stable (take n held) (take (n - length held) more) p e)
 
 pub within : (n : ℕ) (held : List ℕ) (p : ℕ) → head_end (take n held) ≡ Some p → p ≤ length held
 within n held p e =

@@ -6,7 +6,8 @@ use Rattle.gs_port.specs.Connections.{Aside}
 use Rattle.gs_http.specs.ConnectedSupport.{Reads}
 use Rattle.gs_http.specs.Untouched.{IsUnread, IsUnwritten, StaysOpen}
 
-pub reads_none : (held held' : List ℕ) (left left' taken taken' : Option (List ℕ)) → held' ≡ held → left' ≡ left → taken' ≡ taken → Reads held held' left left' taken taken'
+pub reads_none : (held held' : List ℕ) (left left' taken taken' : Option (List ℕ)) → held' ≡ held → left' ≡ left → taken' ≡ taken
+    → Reads held held' left left' taken taken'
 reads_none held held' left left' taken taken' h l t = record {
   bytes = [];
   grown = h ∙ sym (append-nil held);
@@ -14,7 +15,8 @@ reads_none held held' left left' taken taken' h l t = record {
   took = t ∙ sym (append_nothing taken);
 }
 
-pub reads_some : (held held' bytes : List ℕ) (left left' taken taken' : Option (List ℕ)) → held' ≡ held ++ bytes → left ≡ prepend_known bytes left' → taken' ≡ append_known taken bytes → Reads held held' left left' taken taken'
+pub reads_some : (held held' bytes : List ℕ) (left left' taken taken' : Option (List ℕ)) → held' ≡ held ++ bytes
+    → left ≡ prepend_known bytes left' → taken' ≡ append_known taken bytes → Reads held held' left left' taken taken'
 reads_some held held' bytes left left' taken taken' h l t = record { bytes = bytes; grown = h; moved = l; took = t }
 
 pub reads_further : (a b c : List ℕ) (la lb lc ta tb tc : Option (List ℕ)) → Reads a b la lb ta tb → Reads b c lb lc tb tc → Reads a c la lc ta tc
@@ -28,7 +30,8 @@ reads_further a b c la lb lc ta tb tc x y = record {
 -- ---- the state that two calls in a row preserve
 
 module _ {S : Type 0} (a b c : S) where
-  pub opens_on : (is_open : S → Bool) (aside : S → Aside) (ends : S → Option (GName × GName)) → StaysOpen is_open aside ends a b → StaysOpen is_open aside ends b c → StaysOpen is_open aside ends a c
+  pub opens_on : (is_open : S → Bool) (aside : S → Aside) (ends : S → Option (GName × GName)) → StaysOpen is_open aside ends a b
+      → StaysOpen is_open aside ends b c → StaysOpen is_open aside ends a c
   opens_on is_open aside ends x y = record { open_now = y.open_now; same_aside = y.same_aside ∙ x.same_aside; same_ends = y.same_ends ∙ x.same_ends }
 
   pub unread_on : (left taken : S → Option (List ℕ)) → IsUnread left taken a b → IsUnread left taken b c → IsUnread left taken a c

@@ -59,7 +59,8 @@ module _ (head : List ℕ) (field : HeaderSpan) (rest : List HeaderSpan) where
   passed [] other = rw other refl
   passed (first ∷ old) other = refl
 
-  all_within : (old : List HeaderSpan) → All (IsHeaderWithin (length head)) old → All (IsHeaderWithin (length head)) (field ∷ rest) → All (IsHeaderWithin (length head)) (or_fields old (field ∷ rest))
+  all_within : (old : List HeaderSpan) → All (IsHeaderWithin (length head)) old → All (IsHeaderWithin (length head)) (field ∷ rest)
+      → All (IsHeaderWithin (length head)) (or_fields old (field ∷ rest))
   all_within [] within left = left
   all_within (first ∷ old) within left = within
 
@@ -70,7 +71,8 @@ module _ (head : List ℕ) (field : HeaderSpan) (rest : List HeaderSpan) where
   next_languages old new all so_far within left added = elim (true_or_false (is_word (codes "accept-language") (header_bytes head field).0)) [
     | inl named ↦
         let now : new ≡ or_fields old (field ∷ rest) = rw named at added in (
-          so_far ∙ ap (λ (fields : List HeaderSpan). language_values (map (header_bytes head) fields)) (sym (ap (λ (first : List HeaderSpan). or_fields first rest) now ∙ from_first old)),
+          so_far ∙ ap (λ (fields : List HeaderSpan). language_values (map (header_bytes head) fields))
+              (sym (ap (λ (first : List HeaderSpan). or_fields first rest) now ∙ from_first old)),
           subst (All (IsHeaderWithin (length head))) (sym now) (all_within old within left),
         )
     | inr other ↦
@@ -81,7 +83,8 @@ module _ (head : List ℕ) (field : HeaderSpan) (rest : List HeaderSpan) where
   ]
 
   -- one field more
-  pub says_next : (old new : Said) (all : List HeaderSpan) → SaysSoFar old head all (field ∷ rest) → Adds old new (header_bytes head field) (field ∷ rest) → SaysSoFar new head all rest
+  pub says_next : (old new : Said) (all : List HeaderSpan) → SaysSoFar old head all (field ∷ rest)
+      → Adds old new (header_bytes head field) (field ∷ rest) → SaysSoFar new head all rest
   says_next old new all s a =
       let here = header_bytes head field in
       let more = map (header_bytes head) rest in
@@ -90,7 +93,8 @@ module _ (head : List ℕ) (field : HeaderSpan) (rest : List HeaderSpan) where
         encoded = s.encoded ∙ or_next old.encoded (shows Encoded here) (is_shown Encoded more) ∙ ap (λ b. b || is_shown Encoded more) (sym a.encoded);
         sized = s.sized ∙ or_next old.sized (shows Sized here) (is_shown Sized more) ∙ ap (λ b. b || is_shown Sized more) (sym a.sized);
         closes = s.closes ∙ or_next old.closes (shows Closes here) (is_shown Closes more) ∙ ap (λ b. b || is_shown Closes more) (sym a.closes);
-        form = s.form ∙ ap (or_form old.form) (first_joined (field_forms here) (flat_map field_forms more)) ∙ or_form_next old.form (first_form (field_forms here)) (accepted_form more)
+        form = s.form ∙ ap (or_form old.form) (first_joined (field_forms here) (flat_map field_forms more)) ∙ or_form_next old.form
+            (first_form (field_forms here)) (accepted_form more)
             ∙ ap (λ form. or_form form (accepted_form more)) (sym a.form);
         languages = language.0;
         within = language.1;
@@ -99,7 +103,8 @@ module _ (head : List ℕ) (field : HeaderSpan) (rest : List HeaderSpan) where
 
 -- the first of the fields that are left
 pub says_step : (head : List ℕ) (fields all others : List HeaderSpan) (field : HeaderSpan) (old new : Said) (name value : List ℕ) → fields ≡ field ∷ others
-    → name ≡ (header_bytes head field).0 → value ≡ (header_bytes head field).1 → SaysSoFar old head all fields → Adds old new (name, value) fields → SaysSoFar new head all others
+    → name ≡ (header_bytes head field).0 → value ≡ (header_bytes head field).1 → SaysSoFar old head all fields → Adds old new
+    (name, value) fields → SaysSoFar new head all others
 says_step head fields all others field old new name value first n v s a = says_next head field others old new all (rw first at s) (rw (n, v, first) at a)
 
 -- no field is left

@@ -18,7 +18,8 @@ none_left (x ∷ xs) zero h = absurd (omega arith)
 none_left (x ∷ xs) (suc i) h = none_left xs i (omega arith)
 
 pub bare_step : (head : List ℕ) (i before : ℕ) → i < length head → is_bare_line_feed (before, get_or head i 0) ≡ false
-    → list_any is_bare_line_feed (zip (before ∷ drop i head) (drop i head)) ≡ list_any is_bare_line_feed (zip (get_or head i 0 ∷ drop (i + 1) head) (drop (i + 1) head))
+    → list_any is_bare_line_feed (zip (before ∷ drop i head) (drop i head)) ≡ list_any is_bare_line_feed
+    (zip (get_or head i 0 ∷ drop (i + 1) head) (drop (i + 1) head))
 bare_step head i before low fails = rw (left_at head i 0 low, fails) refl
 
 pub bare_here : (head : List ℕ) (i before : ℕ) → i < length head → is_bare_line_feed (before, get_or head i 0) ≡ true
@@ -30,7 +31,8 @@ bare_end head i before high = rw (none_left head i high) refl
 
 -- ---- parts
 
-pub split_goes : (p : ℕ → Bool) (text : List ℕ) (n : ℕ) → n ≡ position_or_len p text → n < length text → slice_split p text ≡ take n text ∷ slice_split p (drop (n + 1) text)
+pub split_goes : (p : ℕ → Bool) (text : List ℕ) (n : ℕ) → n ≡ position_or_len p text → n < length text
+    → slice_split p text ≡ take n text ∷ slice_split p (drop (n + 1) text)
 split_goes p [] n e low = absurd (omega arith)
 split_goes p (c ∷ text) n e low = elim (true_or_false (p c)) [
   | inl h ↦ let z : n ≡ 0 = rw h at e in rw (z, h) refl

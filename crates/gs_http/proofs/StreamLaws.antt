@@ -17,10 +17,12 @@ module _ (table : List AiRow) (links : List Link) (settings : Settings) where
       let says = some_asked head in
       (reply_of table links settings says.0 last, record { asked = says.0; is_asked = says.1; is_reply = refl })
 
-  pub one_reply_to : (head : Option (List ℕ)) (last : Bool) (a b : Reply) → IsReplyTo table links settings head last a → IsReplyTo table links settings head last b → a ≡ b
+  pub one_reply_to : (head : Option (List ℕ)) (last : Bool) (a b : Reply) → IsReplyTo table links settings head last a
+      → IsReplyTo table links settings head last b → a ≡ b
   one_reply_to None last a b x y = x ∙ sym y
   one_reply_to (Some head) last a b x y =
-      x.is_reply ∙ ap (λ (asked : Option Asked). reply_of table links settings asked last) (one_asked head x.asked y.asked x.is_asked y.is_asked) ∙ sym y.is_reply
+      x.is_reply ∙ ap (λ (asked : Option Asked). reply_of table links settings asked last)
+      (one_asked head x.asked y.asked x.is_asked y.is_asked) ∙ sym y.is_reply
 
   pub some_replies : (n : ℕ) (heads : List (Option (List ℕ))) → (replies : List Reply) × AreReplies table links settings n heads replies
   some_replies n [] = ([], tt)
@@ -29,7 +31,8 @@ module _ (table : List AiRow) (links : List Link) (settings : Settings) where
       let rest = some_replies (n - 1) heads in
       (first.0 ∷ rest.0, (first.1, rest.1))
 
-  pub one_replies : (n : ℕ) (heads : List (Option (List ℕ))) (a b : List Reply) → AreReplies table links settings n heads a → AreReplies table links settings n heads b → a ≡ b
+  pub one_replies : (n : ℕ) (heads : List (Option (List ℕ))) (a b : List Reply) → AreReplies table links settings n heads a
+      → AreReplies table links settings n heads b → a ≡ b
   one_replies n [] [] [] x y = refl
   one_replies n [] [] (s ∷ b) x y = absurd y
   one_replies n [] (r ∷ a) b x y = absurd x
@@ -40,7 +43,8 @@ module _ (table : List AiRow) (links : List Link) (settings : Settings) where
       let rest = one_replies (n - 1) heads a b x.1 y.1 in
       cc
 
-  pub are_append : (n : ℕ) (heads more : List (Option (List ℕ))) (a b : List Reply) → AreReplies table links settings n heads a → AreReplies table links settings (n - length heads) more b → AreReplies table links settings n (heads ++ more) (a ++ b)
+  pub are_append : (n : ℕ) (heads more : List (Option (List ℕ))) (a b : List Reply) → AreReplies table links settings n heads a
+      → AreReplies table links settings (n - length heads) more b → AreReplies table links settings n (heads ++ more) (a ++ b)
   are_append n [] more [] b x y = let e : n - 0 ≡ n = omega arith in subst (λ (m : ℕ). AreReplies table links settings m more b) e y
   are_append n [] more (r ∷ a) b x y = absurd x
   are_append n (head ∷ heads) more [] b x y = absurd x

@@ -28,22 +28,22 @@ use Rattle.gs_http.specs.Heads.{Asked}
 use Rattle.gs_http.specs.LanguageRanges.{accepted_ranges}
 use Rattle.gs_http.specs.Wishes.{Wish, for_linkset, for_relation, wish_of}
 
--- trusted, RFC 9110, section 15: The answer to a request: the resolver description file; a linkset; several links to choose from;
--- one link to redirect to; or that the request is bad, that nothing is found, or that the method is not allowed.
+-- trusted, RFC 9110, section 15: The answer to a request: the resolver description file, a linkset, several links to choose
+-- from, or one link to redirect to. Or it is that the request is bad, that nothing is found, or that the method is not allowed.
 pub data Answer : Type 0 where
   linkset : Rendered → Answer
   described choices redirect : List ℕ → Answer
   bad_request not_found not_allowed : Answer
 
--- trusted, RFC 9110, section 9.3.1: the method is GET
+-- trusted, RFC 9110, section 9.3.1: holds if `method` is GET
 abbrev pub is_get : List ℕ → Bool
 is_get method = bytes_eq method (codes "GET")
 
--- trusted, RFC 9110, section 9.3.2: the method is HEAD
+-- trusted, RFC 9110, section 9.3.2: holds if `method` is HEAD
 abbrev pub is_head : List ℕ → Bool
 is_head method = bytes_eq method (codes "HEAD")
 
--- trusted, GS1-Conformant Resolver: the path of the resolver description file
+-- trusted, GS1-Conformant Resolver: holds if the path of `target` is that of the resolver description file
 abbrev pub is_description : List ℕ → Bool
 is_description target = bytes_eq (path_of target) (codes "/.well-known/gs1resolver")
 
@@ -72,8 +72,8 @@ by_relation templates identity (link ∷ other ∷ links) = choices (written (se
 abbrev pub of_relation : List ℕ → Want
 of_relation name = RelationOf (record { ref_ptr = (0, 0); now = name })
 
--- trusted, own: by the links that are chosen for the identity: for a linkset all of them, and for a relation those in the
--- first accepted language that one of them has
+-- trusted, own: the answer by the links chosen for `identity`: for a linkset all, for a relation those in the first accepted
+-- language that one has
 abbrev pub by_elements : Bool → List Link → List (List ℕ) → Elements → Wish → Answer
 by_elements templates links ranges identity (for_linkset form) = by_linkset templates form identity (linked links (chosen links identity All))
 by_elements templates links ranges identity (for_relation name) =
@@ -84,7 +84,7 @@ abbrev pub by_identity : Bool → List Link → List (List ℕ) → Wish → Res
 by_identity templates links ranges wish (Ok identity) = by_elements templates links ranges identity wish
 by_identity templates links ranges wish (Err error) = bad_request
 
--- trusted, own: by the pairs that the target names
+-- trusted, own: the answer by the pairs that the target names
 abbrev pub by_pairs : List AiRow → Bool → List Link → List (List ℕ) → Wish → Result (List Pair) LinkFault → Answer
 by_pairs table templates links ranges wish (Ok pairs) = by_identity templates links ranges wish (identity_of_pairs table pairs)
 by_pairs table templates links ranges wish (Err NoKeyPath) = not_found

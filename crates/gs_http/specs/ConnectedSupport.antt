@@ -10,7 +10,7 @@ use Rattle.gs_http.specs.declared.connection.Sent.TheVariants as sent
 use Rattle.gs_http.specs.Streams.{head_end}
 use Rattle.gs_port.specs.Counts.{counted}
 
--- bytes were read and follow those that were held
+-- holds if bytes were read and follow those that were held
 pub record Reads (held held' : List ℕ) (left left' taken taken' : Option (List ℕ)) : Type 0 where
   pub bytes : List ℕ
   pub grown : held' ≡ held ++ bytes
@@ -21,7 +21,7 @@ pub record Reads (held held' : List ℕ) (left left' taken taken' : Option (List
 abbrev pub NothingLeft : Option (List ℕ) → Type 0
 NothingLeft left = IfSome left (λ bytes. bytes ≡ [])
 
--- the result of one read: bytes, the end, or nothing for an error or out of memory
+-- holds if this is the result of one read: bytes, the end, or nothing for an error or out of memory
 abbrev pub Comes : More → List ℕ → List ℕ → Option (List ℕ) → Type 0
 Comes Got held held' left = length held < length held'
 Comes End held held' left = (held' ≡ held) × NothingLeft left
@@ -35,7 +35,7 @@ reads_with End count = count
 reads_with NotRead count = counted count
 reads_with NoRoom count = count
 
--- the start of the held bytes
+-- holds if this is the start of the held bytes
 abbrev pub Begins : Filled → List ℕ → Option (List ℕ) → Type 0
 Begins Ended held left = (held ≡ []) × NothingLeft left
 Begins (Head len) held left = head_end (take 8192 held) ≡ Some len

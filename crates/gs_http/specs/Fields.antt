@@ -6,32 +6,32 @@ use Rattle.httparse.specs.Grammar.{trim_ows}
 use Rattle.gs_http.specs.declared.fields.Sign.{Sign}
 use Rattle.gs_http.specs.declared.fields.Sign.TheVariants.{Encoded, Sized, Closes}
 
--- trusted, RFC 9110, section 5.1: the text is the word, which has no capital letters, case-insensitively
+-- trusted, RFC 9110, section 5.1: holds if `text` is `word`, which has no capital letters, case-insensitively
 abbrev pub is_word : List ℕ → List ℕ → Bool
 is_word word text = bytes_eq (map to_ascii_lowercase text) word
 
--- trusted, RFC 9110, section 5.6.1: the byte is a comma, which ends a member of a list
+-- trusted, RFC 9110, section 5.6.1: holds if the byte `c` is a comma, which ends a member of a list
 abbrev pub is_comma : ℕ → Bool
 is_comma c = c == 44
 
--- trusted, RFC 9110, section 5.6.6: the byte is a semicolon, which begins a parameter
+-- trusted, RFC 9110, section 5.6.6: holds if the byte `c` is a semicolon, which begins a parameter
 abbrev pub is_semicolon : ℕ → Bool
 is_semicolon c = c == 59
 
--- trusted, RFC 9110, section 7.6.1: a part of a value is the word `close`
+-- trusted, RFC 9110, section 7.6.1: holds if `part`, without the white space around it, is the word `close`
 abbrev pub is_close : List ℕ → Bool
 is_close part = is_word (codes "close") (trim_ows part)
 
--- trusted, RFC 9110, section 5.6.1: one of the parts between commas is the word `close`
+-- trusted, RFC 9110, section 5.6.1: holds if one of the parts of `value` between commas is the word `close`
 abbrev pub has_close : List ℕ → Bool
 has_close value = list_any is_close (slice_split is_comma value)
 
--- trusted, own: the field, a name and a value without the white space around it, shows the sign
+-- trusted, own: holds if `field`, a name and a value without the white space around it, shows the sign
 abbrev pub shows : Sign → List ℕ × List ℕ → Bool
 shows Encoded field = is_word (codes "transfer-encoding") field.0
 shows Sized field = is_word (codes "content-length") field.0 && not (bytes_eq field.1 (codes "0"))
 shows Closes field = is_word (codes "connection") field.0 && has_close field.1
 
--- trusted, own: some field shows the sign
+-- trusted, own: holds if one of `fields` shows `sign`
 abbrev pub is_shown : Sign → List (List ℕ × List ℕ) → Bool
 is_shown sign fields = list_any (shows sign) fields

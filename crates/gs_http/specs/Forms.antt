@@ -9,7 +9,7 @@ use Rattle.gs_http.specs.declared.documents.LinksetForm.{LinksetForm}
 use Rattle.gs_http.specs.declared.documents.LinksetForm.TheVariants.{Json, Text}
 use Rattle.gs_http.specs.declared.documents.Rendered.{Rendered}
 
--- trusted, RFC 9264, section 4.2: a document as JSON
+-- trusted, RFC 9264, section 4.2: the JSON form of a document
 abbrev pub in_json : List Context → Rendered
 in_json contexts = record { form = Json; text = written contexts }
 

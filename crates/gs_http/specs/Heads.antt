@@ -23,31 +23,31 @@ asked_of h = record { method = h.method; target = h.target; minor = h.minor; fie
 abbrev pub most_fields : ℕ
 most_fields = 64
 
--- trusted, own: the bytes are this head and nothing else, with at most 64 fields
+-- trusted, own: holds if the bytes `head` are the head `h` and nothing else, with at most 64 fields
 pub record IsWhole (head : List ℕ) (h : RequestHead) : Type 0 where
   pub reads : ReadsRequest head h []
   pub few : length h.fields ≤ most_fields
 
--- trusted, RFC 9112, section 2.2: a byte, with the one before it, is a line feed without a carriage return before it
+-- trusted, RFC 9112, section 2.2: holds if the second byte of `pair` is a line feed, and the first is not a carriage return
 abbrev pub is_bare_line_feed : ℕ × ℕ → Bool
 is_bare_line_feed pair = pair.1 == 10 && not (pair.0 == 13)
 
--- trusted, RFC 9112, section 2.2: holds if some line feed has no carriage return before it
+-- trusted, RFC 9112, section 2.2: holds if some line feed of `head` has no carriage return before it
 abbrev pub has_bare_line_feed : List ℕ → Bool
 has_bare_line_feed head = list_any is_bare_line_feed (zip (0 ∷ head) head)
 
--- trusted, own: the reasons not to answer a whole head: a bare line feed, or a message body
+-- trusted, own: holds if the whole head is not answered: it has a bare line feed, or `fields` show a message body
 unfoldable pub is_rejected : List ℕ → List (List ℕ × List ℕ) → Bool
 is_rejected head fields = has_bare_line_feed head || (is_shown Encoded fields || is_shown Sized fields)
 
--- trusted, own: the bytes are the head of a request that is answered, and it says this
+-- trusted, own: holds if `head` is that of a request that is answered, and `asked` is its contents
 pub record IsAskedBy (head : List ℕ) (asked : Asked) : Type 0 where
   pub h : RequestHead
   pub whole : IsWhole head h
   pub says : asked ≡ asked_of h
   pub taken : is_rejected head asked.fields ≡ false
 
--- trusted, own: the contents of the head, or nothing if and only if it is not that of a request that is answered
+-- trusted, own: holds if the answer is the contents of `head`, or nothing if it is not that of a request that is answered
 abbrev pub IsAsked : List ℕ → Option Asked → Type 0
 IsAsked head (Some asked) = IsAskedBy head asked
 IsAsked head None = (asked : Asked) → ¬ (IsAskedBy head asked)

@@ -22,7 +22,7 @@ use Rattle.gs_http.specs.References.{reference_of}
 abbrev pub asked_by : Request → Asked
 asked_by r = record { method = r.method.now; target = r.target.now; minor = r.minor; fields = map (header_bytes r.head.now) r.fields.now }
 
--- the request has the contents of a head of the grammar whose parts are at these spans
+-- holds if the request has the contents of a head of the grammar whose parts are at these spans
 abbrev pub SaysHead : Request → List ℕ → List HeaderSpan → RequestSpans → Type 0
 SaysHead request head spans parts = (h : RequestHead) → IsRequestAt head spans parts h → asked_by request ≡ asked_of h
 
@@ -36,14 +36,14 @@ said BadRequest = bad_request
 said NotFound = not_found
 said NotAllowed = not_allowed
 
--- the answer is that to a request with this fault; any, if memory ran out
+-- holds if the answer is that to a request with this fault; any, if memory ran out
 abbrev pub Refuses : RequestFault → Answer → Type 0
 Refuses fault.BadRequest answer = answer ≡ bad_request
 Refuses fault.NotFound answer = answer ≡ not_found
 Refuses fault.NotAllowed answer = answer ≡ not_allowed
 Refuses fault.Memory answer = ⊤
 
--- the result has this answer
+-- holds if the result has this answer
 abbrev pub Gives : Result Lent RequestFault → Answer → Type 0
 Gives (Ok lent) answer = said lent ≡ answer
 Gives (Err refused) answer = Refuses refused answer

@@ -18,15 +18,15 @@ reference_of (Lent bytes) = bytes.now
 abbrev pub reference_for : Bool → Elements → List ℕ → List ℕ
 reference_for templates identity href = if templates then filled href identity else href
 
--- trusted, RFC 6570, section 3.2.2, and own: a target for an identity: its reference is filled, and its attributes stay
+-- trusted, RFC 6570, section 3.2.2, and own: the target for `identity`: its reference is filled, and its attributes stay
 abbrev pub target_for : Elements → Target → Target
 target_for identity target = record { href = filled target.href identity; attrs = target.attrs }
 
--- trusted, own: a relation for an identity, target by target
+-- trusted, own: the relation for `identity`, target by target
 abbrev pub relation_for : Elements → Relation → Relation
 relation_for identity relation = record { name = relation.name; targets = map (target_for identity) relation.targets }
 
--- trusted, own: a context for an identity, relation by relation
+-- trusted, own: the context for `identity`, relation by relation
 abbrev pub context_for : Elements → Context → Context
 context_for identity context = record { anchor = context.anchor; relations = map (relation_for identity) context.relations }
 

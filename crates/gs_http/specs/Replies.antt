@@ -12,7 +12,7 @@ use Rattle.gs_http.specs.Answers.{Answer, described, linkset, choices, redirect,
 use Rattle.gs_http.specs.Fields.{is_shown}
 use Rattle.gs_http.specs.Heads.{Asked, IsAsked}
 
--- trusted, RFC 9112, section 2.1: a line with its end
+-- trusted, RFC 9112, section 2.1: the line of `text` with its end
 abbrev pub line : List ℕ → List ℕ
 line text = text ++ 13 ∷ 10 ∷ []
 
@@ -52,7 +52,7 @@ body_of bad_request = []
 body_of not_found = []
 body_of not_allowed = []
 
--- trusted, RFC 9110, section 8.6: the field that says how many bytes the body has
+-- trusted, RFC 9110, section 8.6: the field of the number of bytes of the body
 abbrev pub length_field : ℕ → List ℕ
 length_field len = line (codes "Content-Length: " ++ decimal len)
 
@@ -70,7 +70,8 @@ reply_bytes head_only close answer =
     ++ line []
     ++ (if head_only then [] else body_of answer)
 
--- trusted, RFC 9112, section 9.3: the connection ends with the reply
+-- trusted, RFC 9112, section 9.3: holds if the connection ends with the reply: it is the last, the request is of HTTP/1.0, or a
+-- field asks for it
 abbrev pub closes : Bool → Asked → Bool
 closes last asked = last || ((asked.minor == 0) || is_shown Closes asked.fields)
 
@@ -83,7 +84,7 @@ reply_of table links settings (Some asked) last = record {
   close = closes last asked;
 }
 
--- trusted, own: the reply to a head
+-- trusted, own: holds if `reply` is the reply to `head`
 pub record IsReply (table : List AiRow) (links : List Link) (settings : Settings) (head : List ℕ) (last : Bool) (reply : Reply) : Type 0 where
   pub asked : Option Asked
   pub is_asked : IsAsked head asked

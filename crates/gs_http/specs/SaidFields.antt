@@ -31,7 +31,7 @@ abbrev pub or_fields : List HeaderSpan → List HeaderSpan → List HeaderSpan
 or_fields [] fields = fields
 or_fields (field ∷ first) fields = field ∷ first
 
--- a field was added, with which the last list begins
+-- holds if a field was added, with which the last list begins
 pub record Adds (old new : Said) (field : List ℕ × List ℕ) (from : List HeaderSpan) : Type 0 where
   pub encoded : new.encoded ≡ (old.encoded || shows Encoded field)
   pub sized : new.sized ≡ (old.sized || shows Sized field)
@@ -39,7 +39,7 @@ pub record Adds (old new : Said) (field : List ℕ × List ℕ) (from : List Hea
   pub form : new.form ≡ or_form old.form (first_form (field_forms field))
   pub languages : new.languages.now ≡ (if is_word (codes "accept-language") field.0 then or_fields old.languages.now from else old.languages.now)
 
--- each is the value that its definition gives for the fields of the head
+-- holds if each is the value that its definition gives for the fields of the head
 pub record Says (said : Said) (head : List ℕ) (fields : List HeaderSpan) : Type 0 where
   pub encoded : said.encoded ≡ is_shown Encoded (map (header_bytes head) fields)
   pub sized : said.sized ≡ is_shown Sized (map (header_bytes head) fields)

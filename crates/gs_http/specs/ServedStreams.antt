@@ -29,7 +29,7 @@ writes_when Memory count = count
 
 -- ---- a whole connection
 
--- trusted, own: a fact for a connection that was served whole
+-- trusted, own: holds if the connection was not served whole, or `fact` holds
 abbrev pub OnDone : Served → Type 0 → Type 0
 OnDone Done fact = fact
 OnDone ReadFault fact = ⊤
@@ -50,8 +50,8 @@ pub record IsServed (most : ℕ) (table : List AiRow) (links : List Link) (setti
   pub is_rest : IfSome left' (λ bytes. bytes ≡ rest)
   -- the replies are those of the stream, however it was cut
   pub are_replies : AreReplies table links settings most (heads_of most (read ++ rest)) replies
-  -- the written bytes are a prefix of the replies up to the first that ends the connection; they are all of them if the call is
-  -- done: then nothing is left to read, or one of them ends the connection
+  -- The written bytes are a prefix of the replies up to the first that ends the connection. If the call is done, they are all,
+  -- and nothing is left to read or one ends the connection.
   pub begun : BeginsWith (replies_of replies) written
   pub whole : OnDone served ((written ≡ replies_of replies) × ((rest ≡ []) ⊎ (has_closing replies ≡ true)))
   -- of that many heads the replies were written, and at most 12,288 bytes were read beyond these heads

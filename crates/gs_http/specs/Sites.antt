@@ -10,6 +10,6 @@ pub record SiteData : Type 0 where
   pub links : List Link
   pub settings : Settings
 
--- trusted, own: answering needs room for two numbers a link
+-- trusted, own: the room that answering needs: two numbers a link
 abbrev pub room_for : List Link → ℕ
 room_for links = length links + length links

@@ -30,7 +30,7 @@ abbrev pub cut_at : List ℕ → Option ℕ → Front
 cut_at stream None = headless
 cut_at stream (Some place) = headed (take place stream) (drop place stream)
 
--- trusted, own: a head ends within the first 8,192 bytes
+-- trusted, own: the start of a stream, in which a head ends within the first 8,192 bytes
 unfoldable pub front_of : List ℕ → Front
 front_of [] = ended
 front_of (c ∷ stream) = cut_at (c ∷ stream) (head_end (take 8192 (c ∷ stream)))
@@ -54,12 +54,13 @@ bytes_of (Some head ∷ heads) = head ++ bytes_of heads
 
 -- ---- replies
 
--- trusted, own: the reply to a head, or to bytes that are not a head; `last` says that the connection ends with it anyway
+-- trusted, own: Holds if `reply` is the reply to a head, or to bytes that are not a head. The connection ends with it anyway if
+-- `last` is true.
 abbrev pub IsReplyTo : List AiRow → List Link → Settings → Option (List ℕ) → Bool → Reply → Type 0
 IsReplyTo table links settings (Some head) last reply = IsReply table links settings head last reply
 IsReplyTo table links settings None last reply = reply ≡ reply_of table links settings None last
 
--- trusted, own: the replies to heads, one each, up to a number of them; the last one allowed ends the connection
+-- trusted, own: holds if the replies are those to the heads, one each, and the connection ends with the one of number `n`
 abbrev pub AreReplies : List AiRow → List Link → Settings → ℕ → List (Option (List ℕ)) → List Reply → Type 0
 AreReplies table links settings n [] [] = ⊤
 AreReplies table links settings n [] (reply ∷ replies) = ⊥
@@ -67,7 +68,7 @@ AreReplies table links settings n (head ∷ heads) [] = ⊥
 AreReplies table links settings n (head ∷ heads) (reply ∷ replies) =
     IsReplyTo table links settings head (n == 1) reply × AreReplies table links settings (n - 1) heads replies
 
--- trusted, own: a reply ends the connection
+-- trusted, own: holds if one of `replies` ends the connection
 abbrev pub has_closing : List Reply → Bool
 has_closing replies = list_any (λ (reply : Reply). reply.close) replies
 
@@ -80,8 +81,8 @@ replies_of (reply ∷ replies) = reply.bytes ++ (if reply.close then [] else rep
 abbrev pub all_bytes : List Reply → List ℕ
 all_bytes replies = flat_map (λ (reply : Reply). reply.bytes) replies
 
--- trusted, own: the bytes are the replies of a stream: of its heads, at most that many, up to and including the first that ends
--- the connection.
+-- trusted, own: holds if `output` is the replies to the heads of `stream`, at most `most`, up to and including the first that
+-- ends the connection
 pub record IsReplies (table : List AiRow) (links : List Link) (settings : Settings) (most : ℕ) (stream output : List ℕ) : Type 0 where
   pub replies : List Reply
   pub are_replies : AreReplies table links settings most (heads_of most stream) replies

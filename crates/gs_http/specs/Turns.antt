@@ -19,7 +19,7 @@ abbrev pub reads_at : Turn → ℕ → ℕ
 reads_at Stays count = count
 reads_at (Over served) count = reads_when served count
 
--- the same of the writes
+-- the same for the writes
 abbrev pub writes_at : Turn → ℕ → ℕ
 writes_at Stays count = count
 writes_at (Over served) count = writes_when served count
@@ -52,7 +52,7 @@ Outcome filled.Headless table links settings turn last bytes bytes' held held' =
 Outcome (filled.Head len) table links settings turn last bytes bytes' held held' =
     Answered table links settings turn (Some (take len bytes)) last held held' × LetsGo turn len bytes bytes'
 
--- bytes were read up to the end of a head, or until none came, and their start was answered
+-- holds if bytes were read up to the end of a head, or until none came, and their start was answered
 pub record Turned (table : List AiRow) (links : List Link) (settings : Settings) (turn : Turn) (last : Bool) (bytes bytes' : List ℕ) (left left' taken taken' held held' : Option (List ℕ)) : Type 0 where
   pub grown : List ℕ
   pub front : Filled

@@ -29,8 +29,8 @@ abbrev pub form_or_json : Option LinksetForm → LinksetForm
 form_or_json None = Json
 form_or_json (Some form) = form
 
--- trusted, GS1-Conformant Resolver: the wish of a link type: `linkset` and `all` ask for a linkset, in the accepted form, and
--- any other for the relation of its name
+-- trusted, GS1-Conformant Resolver: The wish of a link type. The types `linkset` and `all` ask for a linkset in the accepted
+-- form, and any other for the relation of its name.
 abbrev pub wish_named : List ℕ → Option LinksetForm → List ℕ → Wish
 wish_named voc accepted value =
     if bytes_eq value (codes "linkset") || bytes_eq value (codes "all") then for_linkset (form_or_json accepted)

@@ -72,7 +72,7 @@ fn drop_front(bytes: &mut Vec<u8>, len: usize)
 #[derive(Drop)]
 pub(crate) struct Buffer {
     bytes: Vec<u8>,
-    /// How many bytes at the start were let go of.
+    /// The number of bytes at the start that were dropped.
     gone: usize,
 }
 

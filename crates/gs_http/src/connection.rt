@@ -210,10 +210,10 @@ pub fn serve_with<C: Conn>(
     unreachable!()
 }
 
-/// Answers the heads of the current connection in order, up to the end of the stream or to the first reply that ends it; the
-/// 1,000th does. Bytes without a head within 8,192 bytes or before the end of the stream get one such reply. The connection
-/// stays open. `Done`: all replies were written, and nothing else. After the other results a prefix of them was written.
-/// Returns `ReadFault` or `WriteFault` only if a read or a write failed and was counted.
+/// Answers the heads of the current connection in order, up to the end of the stream or to the first reply that ends it. The
+/// 1,000th reply does. Bytes without a head within 8,192 bytes or before the end of the stream get one such reply. The
+/// connection stays open. `Done`: all replies were written, and nothing else. After the other results a prefix of them was
+/// written. Returns `ReadFault` or `WriteFault` only if a read or a write failed and was counted.
 pub fn serve_one<C: Conn>(
     alloc: Global,
     conn: &mut C,

@@ -80,11 +80,20 @@ pub fn reply_with(
     reply_to(alloc, resolver, room, &request, last)
 }
 
-/// Returns the reply to the head of a request (RFC 9112, section 2.1), whose bytes are all of `head`. The first case that applies
-/// decides. 400 that closes the connection: the bytes are not a head of the grammar with at most 64 fields, or have a bare line
-/// feed, or announce a message body. 405: the method is neither `GET` nor `HEAD`. 400: the target does not begin with a slash.
-/// The resolver description file, or 404 without one. 404: the path names no key. 400: any other error of the target. Otherwise
-/// the chosen links: a linkset if it is requested, 404 without a link, 307 to the only one, and 300 with the document of several.
+/// Returns the reply to the head of a request (RFC 9112, section 2.1), whose bytes are all of `head`. The first case that
+/// applies decides:
+///
+/// - 400 that closes the connection: the bytes are not a head of at most 64 fields, have a bare line feed, or announce a body.
+/// - 405: the method is neither `GET` nor `HEAD`.
+/// - 400: the target does not begin with a slash.
+/// - The resolver description file, or 404 without one: its path is the target's.
+/// - 404: the path names no key.
+/// - 400: any other error of the target.
+/// - 404: no link is chosen.
+/// - A linkset of the chosen links: the request asks for one.
+/// - 307: one link is chosen.
+/// - 300 with their document: several links are chosen.
+///
 /// `last` says that the connection ends with this reply. Fails only with `Memory`.
 pub fn reply(
     alloc: Global,

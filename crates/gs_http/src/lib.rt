@@ -1,18 +1,18 @@
-//! Replies to requests of HTTP/1 (RFC 9110, RFC 9112) by the links of a store, like those of a GS1-conformant resolver.
+//! Replies to requests of HTTP/1 (RFC 9110, RFC 9112) by the links of a store, in the manner of GS1's resolver standard.
 //!
 //! - `reply` answers one head: with a redirect, several links to choose from, a linkset, the resolver description file, or only a
 //!   status.
 //! - `serve_one` answers the heads of one connection in order, however their bytes come, and says how that ended.
 //! - `Resolver` has the data that both make of a `Site` once for many requests; `reply_with` and `serve_with` borrow it.
-//! - `reference_for` returns the target URI of one link for an identity, and `document_for` the document of many: if target URIs
-//!   are templates, the identity's values fill their places (gs_template).
+//! - `reference_for` returns the target URI of one link for an identity, and `document_for` the document of many. If target
+//!   URIs are templates, the identity's values fill their places (gs_template).
 //! - `render` returns a document in the requested form (RFC 9264). `LinksetForm` names the forms, and `Rendered` has the bytes and
 //!   their form.
 //!
 //! # Example
 //!
-//! A lot that has its own link. The gate runs this case, for which crates/vectors_resolver/src/heads.rt makes the call; the head
-//! of crates/vectors_cases/src/lib.rt describes how bytes are written, and `lots` is a linkset of that file.
+//! A lot that has its own link. The gate runs this case, for which crates/vectors_resolver/src/heads.rt makes the call. The
+//! head of crates/vectors_cases/src/lib.rt describes how bytes are written, and `lots` is a linkset of that file.
 //!
 //! ```text
 //! gs_http::reply lots - - GET\x20/01/09506000134352/10/ABC/21/X1\x20HTTP/1.1\x0D\x0AHost:\x20r\x0D\x0A\x0D\x0A

@@ -6,12 +6,12 @@ use Rattle.gs_ai.specs.declared.pair.Pair.{Pair}
 use Rattle.gs_ai.specs.declared.row.AiRow.{AiRow}
 use Rattle.gs_ai.specs.Tables.{is_key_of}
 use Rattle.gs_chars.proofs.TruthsAndLists.{equal_bytes, same_bytes, get_of_take}
-use Rattle.gs_ai.proofs.Searches.{none_any}
 use Rattle.gs_ident.specs.declared.errors.IdentFault.TheVariants.{Repeat, NoKey, TwoKeys}
 use Rattle.gs_ident.specs.Elements.{Elements, pairs_of}
 use Rattle.gs_ident.specs.Identities.{pair_with, stands_for_none, counted, contradicts, contradiction, first_key, other_key, listed, is_other, ascending, elements_of, by_contradiction, by_key, by_other_key, identity_of_counted, identity_of_pairs, IsInOrder, IsMadeWith}
 use Rattle.gs_ident.proofs.CodeOrder.{own_ascending, own_by_code, pair_with_filter, place_ascending, same_ascending}
 use Rattle.gs_ident.proofs.PairLemmas.{two_ways, is_contradiction, Each, each_append, each_cons, each_filter_map, each_from_all, all_from_each, found_passes, found_each, found_sharper, not_found, find_nothing, find_by_cases, place_of_code, place_right, place_left, same_filter_map, filter_all, place_absent}
+use Rattle.gs_chars.proofs.Searches.{none_any}
 
 -- ---- the answers
 
@@ -24,11 +24,14 @@ module _ (table : List AiRow) (pairs : List Pair) where
   unfolding identity_of_counted
   no_key_answer e f = let g = sym e in let h = sym f in ap (by_contradiction table pairs) g ∙ ap (by_key table pairs) h
 
-  pub two_keys_answer : (key other : Pair) (code : List ℕ) → None ≡ contradiction pairs → Some key ≡ first_key table pairs → Some other ≡ other_key table pairs key → code ≡ other.code → identity_of_counted table pairs ≡ Err (TwoKeys code)
+  pub two_keys_answer : (key other : Pair) (code : List ℕ) → None ≡ contradiction pairs → Some key ≡ first_key table pairs
+      → Some other ≡ other_key table pairs key → code ≡ other.code → identity_of_counted table pairs ≡ Err (TwoKeys code)
   unfolding identity_of_counted
-  two_keys_answer key other code e f g h = ap (by_contradiction table pairs) (sym e) ∙ ap (by_key table pairs) (sym f) ∙ ap (by_other_key table pairs key) (sym g) ∙ ap (λ (c : List ℕ). Err (TwoKeys c)) (sym h)
+  two_keys_answer key other code e f g h = ap (by_contradiction table pairs) (sym e) ∙ ap (by_key table pairs) (sym f) ∙ ap
+      (by_other_key table pairs key) (sym g) ∙ ap (λ (c : List ℕ). Err (TwoKeys c)) (sym h)
 
-  pub made_answer : (key : Pair) → None ≡ contradiction pairs → Some key ≡ first_key table pairs → None ≡ other_key table pairs key → identity_of_counted table pairs ≡ Ok (elements_of table pairs key)
+  pub made_answer : (key : Pair) → None ≡ contradiction pairs → Some key ≡ first_key table pairs → None ≡ other_key table pairs key
+      → identity_of_counted table pairs ≡ Ok (elements_of table pairs key)
   unfolding identity_of_counted
   made_answer key e f g = ap (by_contradiction table pairs) (sym e) ∙ ap (by_key table pairs) (sym f) ∙ ap (by_other_key table pairs key) (sym g)
 
@@ -40,15 +43,19 @@ pub record Made (table : List AiRow) (pairs : List Pair) (identity : Elements) :
   pub only : other_key table pairs key ≡ None
   pub elements : identity ≡ elements_of table pairs key
 
-made_by_other : (table : List AiRow) (pairs : List Pair) (identity : Elements) (key : Pair) (r : Option Pair) → other_key table pairs key ≡ r → first_key table pairs ≡ Some key → by_other_key table pairs key r ≡ Ok identity → Made table pairs identity
+made_by_other : (table : List AiRow) (pairs : List Pair) (identity : Elements) (key : Pair) (r : Option Pair)
+    → other_key table pairs key ≡ r → first_key table pairs ≡ Some key → by_other_key table pairs key r ≡ Ok identity
+    → Made table pairs identity
 made_by_other table pairs identity key (Some other) o f e = absurd (let g : Err (TwoKeys other.code) ≡ Ok identity = e in cc)
 made_by_other table pairs identity key None o f e = record { key = key; first = f; only = o; elements = let g : Ok (elements_of table pairs key) ≡ Ok identity = e in cc }
 
-made_by_key : (table : List AiRow) (pairs : List Pair) (identity : Elements) (r : Option Pair) → first_key table pairs ≡ r → by_key table pairs r ≡ Ok identity → Made table pairs identity
+made_by_key : (table : List AiRow) (pairs : List Pair) (identity : Elements) (r : Option Pair) → first_key table pairs ≡ r
+    → by_key table pairs r ≡ Ok identity → Made table pairs identity
 made_by_key table pairs identity None f e = absurd (let g : Err NoKey ≡ Ok identity = e in cc)
 made_by_key table pairs identity (Some key) f e = made_by_other table pairs identity key (other_key table pairs key) refl f e
 
-made_by : (table : List AiRow) (pairs : List Pair) (identity : Elements) (r : Option Pair) → by_contradiction table pairs r ≡ Ok identity → Made table pairs identity
+made_by : (table : List AiRow) (pairs : List Pair) (identity : Elements) (r : Option Pair) → by_contradiction table pairs r ≡ Ok identity
+    → Made table pairs identity
 made_by table pairs identity (Some pair) e = absurd (let g : Err (Repeat pair.code) ≡ Ok identity = e in cc)
 made_by table pairs identity None e = made_by_key table pairs identity (first_key table pairs) refl e
 
@@ -65,7 +72,8 @@ IsOwn pairs pair = pair_with pairs pair.code ≡ Some pair
 own_key : (table : List AiRow) (pairs : List Pair) (key : Pair) → first_key table pairs ≡ Some key → IsOwn pairs key
 own_key table pairs key e =
     let is_key = found_passes (λ pair. is_key_of table pair.code) pairs key e in
-    found_sharper (λ pair. bytes_eq key.code pair.code) (λ pair. is_key_of table pair.code) pairs key e (λ pair same. let f = equal_bytes key.code pair.code same in rw (← f) is_key) (same_bytes key.code)
+    found_sharper (λ pair. bytes_eq key.code pair.code) (λ pair. is_key_of table pair.code) pairs key e
+    (λ pair same. let f = equal_bytes key.code pair.code same in rw (← f) is_key) (same_bytes key.code)
 
 -- the first with its code among the pairs whose codes pass a test
 own_other : (t : List ℕ → Bool) (pairs : List Pair) (pair : Pair) → pair_with (filter (λ p. t p.code) pairs) pair.code ≡ Some pair → IsOwn pairs pair
@@ -98,7 +106,8 @@ module _ (table : List AiRow) (pairs : List Pair) (key : Pair) (first : first_ke
   out_each P a j pair at = found_each P (λ other. bytes_eq pair.code other.code) pairs pair (out_own j pair at) a
 
   -- the look-up by a code gives the same, if the identity has the pair
-  same_look_up : (code : List ℕ) → ((pair : Pair) → pair_with pairs code ≡ Some pair → (j : ℕ) × (slice_get out j ≡ Some pair)) → pair_with out code ≡ pair_with pairs code
+  same_look_up : (code : List ℕ) → ((pair : Pair) → pair_with pairs code ≡ Some pair → (j : ℕ) × (slice_get out j ≡ Some pair))
+      → pair_with out code ≡ pair_with pairs code
   same_look_up code there = elim (find_by_cases (λ pair. bytes_eq code pair.code) out) [
     | inl found ↦
         let own = found_each (IsOwn pairs) (λ pair. bytes_eq code pair.code) out found.0 found.1 out_own in
@@ -118,7 +127,8 @@ module _ (table : List AiRow) (pairs : List Pair) (key : Pair) (first : first_ke
       let place = place_of_code (pair_with pairs) (listed table key) i code pair at e in
       (suc place.0, place_left qualified others place.0 pair place.1))
 
-  look_up_again : (code : List ℕ) → pair_with (filter (is_other (listed table key) key) out) code ≡ pair_with (filter (is_other (listed table key) key) pairs) code
+  look_up_again : (code : List ℕ)
+      → pair_with (filter (is_other (listed table key) key) out) code ≡ pair_with (filter (is_other (listed table key) key) pairs) code
   look_up_again code = pair_with_filter other code out ∙ elim (two_ways (other code)) [
     | inl h ↦ rw h (same_look_up code (λ pair e.
         let f = sym (pair_with_filter other code pairs) in
@@ -141,7 +151,8 @@ module _ (table : List AiRow) (pairs : List Pair) (key : Pair) (first : first_ke
   first_again = rw (found_passes (λ pair. is_key_of table pair.code) pairs key first) refl
 
   only_again : other_key table out key ≡ None
-  only_again = find_nothing (λ pair. is_key_of table pair.code && not (bytes_eq key.code pair.code)) out (out_each (λ pair. (is_key_of table pair.code && not (bytes_eq key.code pair.code)) ≡ false) (not_found (λ pair. is_key_of table pair.code && not (bytes_eq key.code pair.code)) pairs only))
+  only_again = find_nothing (λ pair. is_key_of table pair.code && not (bytes_eq key.code pair.code)) out
+      (out_each (λ pair. (is_key_of table pair.code && not (bytes_eq key.code pair.code)) ≡ false) (not_found (λ pair. is_key_of table pair.code && not (bytes_eq key.code pair.code)) pairs only))
 
   agrees : (i : ℕ) (pair : Pair) → slice_get out i ≡ Some pair → contradicts (take i out) pair ≡ false
   agrees i pair at = none_any (λ other. bytes_eq other.code pair.code && not (bytes_eq other.value pair.value)) (take i out) (λ j other there.
@@ -169,11 +180,13 @@ module _ (table : List AiRow) (pairs : List Pair) (key : Pair) (first : first_ke
 
 -- ---- the table that an identity was made with
 
-out_is : (table : List AiRow) (pairs : List Pair) (key : Pair) → pairs_of (elements_of table pairs key) ≡ key ∷ (filter_map (pair_with pairs) (listed table key) ++ ascending (filter (is_other (listed table key) key) pairs))
+out_is : (table : List AiRow) (pairs : List Pair) (key : Pair)
+    → pairs_of (elements_of table pairs key) ≡ key ∷ (filter_map (pair_with pairs) (listed table key) ++ ascending (filter (is_other (listed table key) key) pairs))
 unfolding elements_of
 out_is table pairs key = refl
 
-pub made_with : (table : List AiRow) (given : List Pair) (identity : Elements) → All (IsInOrder table) given → identity_of_counted table (counted table given) ≡ Ok identity → IsMadeWith table identity
+pub made_with : (table : List AiRow) (given : List Pair) (identity : Elements) → All (IsInOrder table) given
+    → identity_of_counted table (counted table given) ≡ Ok identity → IsMadeWith table identity
 made_with table given identity valid e =
     let pairs = counted table given in
     let made = made_facts table pairs identity e in
@@ -183,6 +196,8 @@ made_with table given identity valid e =
     let again = answer_again table pairs made.key made.first made.only in
     let valid_here = each_from_all (IsInOrder table) pairs (All-filter (λ pair. not (stands_for_none table pair)) (IsInOrder table) given valid) in
     record {
-      in_order = subst (λ (ps : List Pair). All (IsInOrder table) ps) (sym shape) (all_from_each (IsInOrder table) (out table pairs made.key made.first made.only) (out_each table pairs made.key made.first made.only (IsInOrder table) valid_here));
-      given_back = subst (λ (ps : List Pair). identity_of_pairs table ps ≡ Ok identity) (sym shape) (ap (λ (ps : List Pair). identity_of_counted table ps) counts ∙ again ∙ ap (λ (e : Elements). Ok e) (sym made.elements));
+      in_order = subst (λ (ps : List Pair). All (IsInOrder table) ps) (sym shape)
+          (all_from_each (IsInOrder table) (out table pairs made.key made.first made.only) (out_each table pairs made.key made.first made.only (IsInOrder table) valid_here));
+      given_back = subst (λ (ps : List Pair). identity_of_pairs table ps ≡ Ok identity) (sym shape)
+          (ap (λ (ps : List Pair). identity_of_counted table ps) counts ∙ again ∙ ap (λ (e : Elements). Ok e) (sym made.elements));
     }

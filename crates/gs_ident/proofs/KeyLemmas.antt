@@ -9,8 +9,7 @@ use Rattle.gs_ai.specs.declared.row.AiRow.{AiRow}
 use Rattle.gs_ai.specs.Tables.{is_key_of, KeepsRules}
 use Rattle.gs_ai.specs.Values.{has_code}
 use Rattle.gs_ai.proofs.TableLemmas.{no_key}
-use Rattle.gs_ai.proofs.Searches.{find_none, find_read, position_some}
-use Rattle.gs_chars.proofs.TruthsAndLists.{equal_bytes, false_from, not_false, place_left, same_at, same_bytes}
+use Rattle.gs_chars.proofs.TruthsAndLists.{equal_bytes, place_left, same_at, same_bytes}
 use Rattle.gs_ident.specs.declared.maker.KeyPlace.{KeyPlace}
 use Rattle.gs_ident.specs.declared.maker.Keys.{Keys}
 use Rattle.gs_ident.specs.Identities.{counted, first_key, stands_for_none}
@@ -18,6 +17,8 @@ use Rattle.gs_ident.specs.Keys.{AreKeys, IsFirstKey, IsOtherKey, IsRowOf}
 use Rattle.gs_ident.specs.KeysSupport.{is_none_text}
 use Rattle.gs_ident.proofs.PairLemmas.{filter_all, find_by_cases, find_nothing, not_found}
 use Rattle.gs_ident.proofs.MovedPairs.{any_at}
+use Rattle.gs_chars.proofs.Searches.{find_none, find_read, position_some}
+use Rattle.std.proofs.lemmas.Bool.{not_from_false, false_from_ne_true}
 
 -- ---- one item more after a list
 
@@ -47,13 +48,14 @@ one_row table a b i j at_a at_b same =
     equal_bytes a.code there.0.code there.2 ∙ ap (λ (r : AiRow). r.code) row ∙ sym (equal_bytes b.code other.0.code other.2)
 
 other_row : (table : List AiRow) (a b : Pair) (i j : ℕ) → IsRowOf table a i → IsRowOf table b j → (i ≡ j → ⊥) → bytes_eq a.code b.code ≡ false
-other_row table a b i j at_a at_b apart = false_from (bytes_eq a.code b.code) (λ h.
+other_row table a b i j at_a at_b apart = false_from_ne_true (bytes_eq a.code b.code) (λ h.
     let same = equal_bytes a.code b.code h in
     let e : Some i ≡ Some j = sym at_a ∙ ap (λ (code : List ℕ). position (has_code code) table) same ∙ at_b in
     apart (let f : i ≡ j = cc in f))
 
 -- whether the value means none, by the row
-pub by_row : (table : List AiRow) (pair : Pair) (i : ℕ) (row : AiRow) → IsRowOf table pair i → row ≡ get_or table i row → stands_for_none table pair ≡ is_none_text row pair.value
+pub by_row : (table : List AiRow) (pair : Pair) (i : ℕ) (row : AiRow) → IsRowOf table pair i → row ≡ get_or table i row
+    → stands_for_none table pair ≡ is_none_text row pair.value
 by_row table pair i row at read = let found = find_read (has_code pair.code) table i row at read in rw found refl
 
 pub by_no_row : (table : List AiRow) (pair : Pair) → None ≡ position (has_code pair.code) table → stands_for_none table pair ≡ false
@@ -111,7 +113,8 @@ module _ (table : List AiRow) (before : List Pair) (pair : Pair) where
   -- ---- all of them
 
   -- a pair of no key
-  pub with_no_key : (keys : Keys) (t n : Bool) → of_key pair ≡ false → stands_for_none table pair ≡ t → n ≡ (keys.with_none || t) → AreKeys table before keys → AreKeys table more (record { with_none = n; first = keys.first; other = keys.other })
+  pub with_no_key : (keys : Keys) (t n : Bool) → of_key pair ≡ false → stands_for_none table pair ≡ t → n ≡ (keys.with_none || t)
+      → AreKeys table before keys → AreKeys table more (record { with_none = n; first = keys.first; other = keys.other })
   with_no_key keys t n fails s e a = record {
     none = e ∙ none_more keys.with_none t a.none s;
     first = first_stays keys.first fails a.first;
@@ -125,7 +128,9 @@ module _ (table : List AiRow) (before : List Pair) (pair : Pair) where
   }
 
   -- the first pair of a key
-  pub with_first_key : (keys : Keys) (t n : Bool) (place row : ℕ) → keys.first ≡ None → of_key pair ≡ true → length before ≡ place → IsRowOf table pair row → stands_for_none table pair ≡ t → n ≡ (keys.with_none || t) → AreKeys table before keys → AreKeys table more (record { with_none = n; first = Some (record { pair = place; row = row }); other = None })
+  pub with_first_key : (keys : Keys) (t n : Bool) (place row : ℕ) → keys.first ≡ None → of_key pair ≡ true → length before ≡ place
+      → IsRowOf table pair row → stands_for_none table pair ≡ t → n ≡ (keys.with_none || t) → AreKeys table before keys → AreKeys table more
+      (record { with_none = n; first = Some (record { pair = place; row = row }); other = None })
   with_first_key keys t n place row first is_key at of_row s e a =
       let lacks : IsFirstKey table before None = rw first at a.first in
       record {
@@ -140,7 +145,9 @@ module _ (table : List AiRow) (before : List Pair) (pair : Pair) where
       }
 
   -- a pair of the first key's code once more
-  pub with_same_key : (keys : Keys) (first : KeyPlace) (t n : Bool) (row : ℕ) → keys.first ≡ Some first → first.row ≡ row → IsRowOf table pair row → stands_for_none table pair ≡ t → n ≡ (keys.with_none || t) → AreKeys table before keys → AreKeys table more (record { with_none = n; first = keys.first; other = keys.other })
+  pub with_same_key : (keys : Keys) (first : KeyPlace) (t n : Bool) (row : ℕ) → keys.first ≡ Some first → first.row ≡ row
+      → IsRowOf table pair row → stands_for_none table pair ≡ t → n ≡ (keys.with_none || t) → AreKeys table before keys → AreKeys table more
+      (record { with_none = n; first = keys.first; other = keys.other })
   with_same_key keys first t n row is same of_row s e a =
       let known : IsFirstKey table before (Some first) = rw is at a.first in
       record {
@@ -158,7 +165,9 @@ module _ (table : List AiRow) (before : List Pair) (pair : Pair) where
       and_false false = refl
 
   -- a pair after that of another key
-  pub with_known_keys : (keys : Keys) (first : KeyPlace) (place : ℕ) (t n : Bool) → keys.first ≡ Some first → keys.other ≡ Some place → stands_for_none table pair ≡ t → n ≡ (keys.with_none || t) → AreKeys table before keys → AreKeys table more (record { with_none = n; first = keys.first; other = keys.other })
+  pub with_known_keys : (keys : Keys) (first : KeyPlace) (place : ℕ) (t n : Bool) → keys.first ≡ Some first → keys.other ≡ Some place
+      → stands_for_none table pair ≡ t → n ≡ (keys.with_none || t) → AreKeys table before keys → AreKeys table more
+      (record { with_none = n; first = keys.first; other = keys.other })
   with_known_keys keys first place t n is known_other s e a =
       let known : IsFirstKey table before (Some first) = rw is at a.first in
       record {
@@ -171,7 +180,10 @@ module _ (table : List AiRow) (before : List Pair) (pair : Pair) where
       }
 
   -- the first pair of another key
-  pub with_other_key : (keys : Keys) (first : KeyPlace) (t n : Bool) (place row : ℕ) → keys.first ≡ Some first → keys.other ≡ None → (first.row ≡ row → ⊥) → of_key pair ≡ true → length before ≡ place → IsRowOf table pair row → stands_for_none table pair ≡ t → n ≡ (keys.with_none || t) → AreKeys table before keys → AreKeys table more (record { with_none = n; first = keys.first; other = Some place })
+  pub with_other_key : (keys : Keys) (first : KeyPlace) (t n : Bool) (place row : ℕ) → keys.first ≡ Some first → keys.other ≡ None
+      → (first.row ≡ row → ⊥) → of_key pair ≡ true → length before ≡ place → IsRowOf table pair row → stands_for_none table pair ≡ t
+      → n ≡ (keys.with_none || t) → AreKeys table before keys → AreKeys table more
+      (record { with_none = n; first = keys.first; other = Some place })
   with_other_key keys first t n place row is none apart is_key at of_row s e a =
       let known : IsFirstKey table before (Some first) = rw is at a.first in
       record {
@@ -188,7 +200,8 @@ module _ (table : List AiRow) (before : List Pair) (pair : Pair) where
 -- ---- pairs whose values do not mean none
 
 pub all_counted : (table : List AiRow) (pairs : List Pair) → list_any (stands_for_none table) pairs ≡ false → counted table pairs ≡ pairs
-all_counted table pairs none = filter_all (λ pair. not (stands_for_none table pair)) pairs (λ j pair at. not_false (stands_for_none table pair) (false_from (stands_for_none table pair) (λ h. true≢false (sym (any_at (stands_for_none table) pairs j pair at h) ∙ none))))
+all_counted table pairs none = filter_all (λ pair. not (stands_for_none table pair)) pairs
+    (λ j pair at. not_from_false (stands_for_none table pair) (false_from_ne_true (stands_for_none table pair) (λ h. true≢false (sym (any_at (stands_for_none table) pairs j pair at h) ∙ none))))
 
 -- ---- the keys of the first pairs of a list
 
@@ -198,12 +211,17 @@ no_keys_yet table = record { none = refl; first = refl; other = λ key f. absurd
 pub one_more : (pairs : List Pair) (i : ℕ) (pair : Pair) → i < length pairs → pair ≡ get_or pairs i pair → take (i + 1) pairs ≡ take i pairs ++ pair ∷ []
 one_more pairs i pair low read = take_more pairs i pair low ∙ ap (λ (x : Pair). take i pairs ++ x ∷ []) (sym read)
 
-pub with_next : (table : List AiRow) (pairs : List Pair) (i : ℕ) (pair : Pair) (keys next : Keys) → i < length pairs → pair ≡ get_or pairs i pair → ((before : List Pair) → length before ≡ i → AreKeys table before keys → AreKeys table (before ++ pair ∷ []) next) → AreKeys table (take i pairs) keys → AreKeys table (take (i + 1) pairs) next
+pub with_next : (table : List AiRow) (pairs : List Pair) (i : ℕ) (pair : Pair) (keys next : Keys) → i < length pairs
+    → pair ≡ get_or pairs i pair
+    → ((before : List Pair) → length before ≡ i → AreKeys table before keys → AreKeys table (before ++ pair ∷ []) next)
+    → AreKeys table (take i pairs) keys → AreKeys table (take (i + 1) pairs) next
 with_next table pairs i pair keys next low read step a =
     rw (one_more pairs i pair low read) (step (take i pairs) (length-take-le i pairs (omega arith)) a)
 
 -- a pair whose code no row has
-pub with_unknown : (table : List AiRow) (pairs : List Pair) (i : ℕ) (pair : Pair) (keys : Keys) → KeepsRules table → i < length pairs → pair ≡ get_or pairs i pair → None ≡ position (has_code pair.code) table → AreKeys table (take i pairs) keys → AreKeys table (take (i + 1) pairs) keys
+pub with_unknown : (table : List AiRow) (pairs : List Pair) (i : ℕ) (pair : Pair) (keys : Keys) → KeepsRules table → i < length pairs
+    → pair ≡ get_or pairs i pair → None ≡ position (has_code pair.code) table → AreKeys table (take i pairs) keys
+    → AreKeys table (take (i + 1) pairs) keys
 with_unknown table pairs i pair keys rules low read none a =
     let no_row = find_none (has_code pair.code) table (sym none) in
     let text = by_no_row table pair none in

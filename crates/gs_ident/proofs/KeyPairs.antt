@@ -2,7 +2,7 @@
 use Rattle.std.proofs.Common.{◌≡◌, ℕ, ◌||◌, Bool, true, false, List, [], ◌∷◌, Option, Some, None, Ok, bytes_eq, find, slice_get, suc, refl, sym, ap, ◌∙◌, inl, inr, true≢false}
 use Rattle.std.proofs.lemmas.List.Elements.{All-head}
 use Rattle.std.specs.List.{filter_map, list_any}
-use Rattle.gs_chars.proofs.TruthsAndLists.{false_from_not}
+use Rattle.gs_chars.proofs.TruthsAndLists.{equal_bytes, same_bytes, or_first, or_second}
 use Rattle.gs_ai.specs.declared.pair.Pair.{Pair}
 use Rattle.gs_ai.specs.declared.part.Role.{Role}
 use Rattle.gs_ai.specs.declared.part.Role.TheVariants as role
@@ -10,7 +10,6 @@ use Rattle.gs_ai.specs.declared.row.AiRow.{AiRow}
 use Rattle.gs_ai.specs.Tables.{KeepsRules, are_distinct, is_empty, is_key, is_key_of, is_row, keeps_role}
 use Rattle.gs_ai.specs.Values.{has_code}
 use Rattle.gs_ai.proofs.RowLemmas.{and_left, and_right}
-use Rattle.gs_ai.proofs.Searches.{equal_bytes, false_from, same_bytes}
 use Rattle.gs_ai.proofs.TableLemmas.{key_by_row}
 use Rattle.gs_ident.specs.Elements.{Elements}
 use Rattle.gs_ident.specs.Identities.{IsMadeWith, contradiction, counted, elements_of, first_key, identity_of_counted, identity_of_pairs, listed, other_key, pair_with, stands_for_none}
@@ -19,29 +18,22 @@ use Rattle.gs_ident.proofs.IdentityLemmas.{made_answer, made_with}
 use Rattle.gs_chars.proofs.TruthsAndLists.{true_or_false}
 use Rattle.gs_ident.specs.QualifiedKeys.{IsQualifiedKey, pairs_in}
 use Rattle.gs_ident.proofs.MovedPairs.{row_distinct, differs as other_way}
+use Rattle.std.proofs.lemmas.Bool.{not-true, false_from_ne_true}
 
 -- ---- codes in a list
-
-or_left : (a b : Bool) → (a || b) ≡ false → a ≡ false
-or_left true b h = h
-or_left false b h = refl
-
-or_right : (a b : Bool) → (a || b) ≡ false → b ≡ false
-or_right true b h = absurd (let e : true ≡ false = h in cc)
-or_right false b h = h
 
 -- a code that passes the test is not in a list without passing codes
 pub absent : (p : List ℕ → Bool) (code : List ℕ) (codes : List (List ℕ)) → p code ≡ true → list_any p codes ≡ false → list_any (bytes_eq code) codes ≡ false
 absent p code [] passes none = refl
 absent p code (other ∷ codes) passes none =
-    let differs : bytes_eq code other ≡ false = false_from (bytes_eq code other) (λ same.
+    let differs : bytes_eq code other ≡ false = false_from_ne_true (bytes_eq code other) (λ same.
     let e = equal_bytes code other same in
-    true≢false (sym passes ∙ ap p e ∙ or_left (p other) (list_any p codes) none)) in
-    rw differs (absent p code codes passes (or_right (p other) (list_any p codes) none))
+    true≢false (sym passes ∙ ap p e ∙ or_first (p other) (list_any p codes) none)) in
+    rw differs (absent p code codes passes (or_second (p other) (list_any p codes) none))
 
 -- a code in a list without passing codes does not pass
 fails : (p : List ℕ → Bool) (code : List ℕ) (codes : List (List ℕ)) → list_any (bytes_eq code) codes ≡ true → list_any p codes ≡ false → p code ≡ false
-fails p code codes there none = false_from (p code) (λ passes. true≢false (sym there ∙ absent p code codes passes none))
+fails p code codes there none = false_from_ne_true (p code) (λ passes. true≢false (sym there ∙ absent p code codes passes none))
 
 -- ---- the pairs of a list of codes
 
@@ -49,26 +41,28 @@ fails p code codes there none = false_from (p code) (λ passes. true≢false (sy
 none_of_key : (key : Pair) (codes : List (List ℕ)) → list_any (bytes_eq key.code) codes ≡ false → filter_map (pair_with (key ∷ [])) codes ≡ []
 none_of_key key [] none = refl
 none_of_key key (code ∷ codes) none =
-    let differs = other_way key.code code (or_left _ _ none) in
-    rw differs (none_of_key key codes (or_right (bytes_eq key.code code) (list_any (bytes_eq key.code) codes) none))
+    let differs = other_way key.code code (or_first _ _ none) in
+    rw differs (none_of_key key codes (or_second (bytes_eq key.code code) (list_any (bytes_eq key.code) codes) none))
 
-none_of_both : (key serial : Pair) (codes : List (List ℕ)) → list_any (bytes_eq key.code) codes ≡ false → list_any (bytes_eq serial.code) codes ≡ false → filter_map (pair_with (key ∷ serial ∷ [])) codes ≡ []
+none_of_both : (key serial : Pair) (codes : List (List ℕ)) → list_any (bytes_eq key.code) codes ≡ false
+    → list_any (bytes_eq serial.code) codes ≡ false → filter_map (pair_with (key ∷ serial ∷ [])) codes ≡ []
 none_of_both key serial [] no_key no_serial = refl
 none_of_both key serial (code ∷ codes) no_key no_serial =
-    let first = other_way key.code code (or_left (bytes_eq key.code code) (list_any (bytes_eq key.code) codes) no_key) in
-    let second = other_way serial.code code (or_left (bytes_eq serial.code code) (list_any (bytes_eq serial.code) codes) no_serial) in
-    rw (first, second) (none_of_both key serial codes (or_right (bytes_eq key.code code) (list_any (bytes_eq key.code) codes) no_key) (or_right (bytes_eq serial.code code) (list_any (bytes_eq serial.code) codes) no_serial))
+    let first = other_way key.code code (or_first (bytes_eq key.code code) (list_any (bytes_eq key.code) codes) no_key) in
+    let second = other_way serial.code code (or_first (bytes_eq serial.code code) (list_any (bytes_eq serial.code) codes) no_serial) in
+    rw (first, second) (none_of_both key serial codes (or_second (bytes_eq key.code code) (list_any (bytes_eq key.code) codes) no_key) (or_second (bytes_eq serial.code code) (list_any (bytes_eq serial.code) codes) no_serial))
 
 -- the serial's code is one of distinct codes, and the key's is not
-serial_alone : (key serial : Pair) (codes : List (List ℕ)) → list_any (bytes_eq key.code) codes ≡ false → are_distinct codes ≡ true → list_any (bytes_eq serial.code) codes ≡ true → filter_map (pair_with (key ∷ serial ∷ [])) codes ≡ serial ∷ []
+serial_alone : (key serial : Pair) (codes : List (List ℕ)) → list_any (bytes_eq key.code) codes ≡ false → are_distinct codes ≡ true
+    → list_any (bytes_eq serial.code) codes ≡ true → filter_map (pair_with (key ∷ serial ∷ [])) codes ≡ serial ∷ []
 serial_alone key serial [] no_key distinct there = absurd (let e : false ≡ true = there in cc)
 serial_alone key serial (code ∷ codes) no_key distinct there =
-    let first = other_way key.code code (or_left (bytes_eq key.code code) (list_any (bytes_eq key.code) codes) no_key) in
-    let later = or_right (bytes_eq key.code code) (list_any (bytes_eq key.code) codes) no_key in
+    let first = other_way key.code code (or_first (bytes_eq key.code code) (list_any (bytes_eq key.code) codes) no_key) in
+    let later = or_second (bytes_eq key.code code) (list_any (bytes_eq key.code) codes) no_key in
     elim (true_or_false (bytes_eq serial.code code)) [
       | inl same ↦
           let e = equal_bytes serial.code code same in
-          let once : list_any (bytes_eq serial.code) codes ≡ false = rw e (false_from_not (list_any (bytes_eq code) codes) (and_left _ _ distinct)) in
+          let once : list_any (bytes_eq serial.code) codes ≡ false = rw e (not-true (list_any (bytes_eq code) codes) (and_left _ _ distinct)) in
           let here : bytes_eq code serial.code ≡ true = rw e (same_bytes code) in
           rw (first, here, none_of_both key serial codes later once) refl
       | inr differs ↦
@@ -114,7 +108,7 @@ module _ (table : List AiRow) (codes : List (List ℕ)) (key : Pair) (is : IsKey
     serial_is_no_key = fails (is_key_of table) serial.code codes there is.no_key
 
     codes_differ : bytes_eq key.code serial.code ≡ false
-    codes_differ = false_from (bytes_eq key.code serial.code) (λ same.
+    codes_differ = false_from_ne_true (bytes_eq key.code serial.code) (λ same.
         let e = equal_bytes key.code serial.code same in
         true≢false (sym is.of_key ∙ ap (is_key_of table) e ∙ serial_is_no_key))
 
@@ -167,7 +161,8 @@ row_role row h = and_right _ _ (and_left _ _ (and_left _ _ (and_left _ _ h)))
 no_none : (row : AiRow) → is_row row ≡ true → is_key row.role ≡ true → is_empty row.none ≡ true
 no_none row in_order key = let e = role_of_key row.role key in rw e at (row_role row in_order)
 
-pub is_key_pair : (ais : List AiRow) (row : AiRow) (key : Pair) → KeepsRules ais → find (has_code key.code) ais ≡ Some row → is_key row.role ≡ true → IsKeyPair ais row.qualifiers key
+pub is_key_pair : (ais : List AiRow) (row : AiRow) (key : Pair) → KeepsRules ais → find (has_code key.code) ais ≡ Some row
+    → is_key row.role ≡ true → IsKeyPair ais row.qualifiers key
 is_key_pair ais row key rules found role =
     let place = found_place (has_code key.code) ais row found in
     let in_order = (rules.rows_in_order place.0 row place.1).0 in
@@ -189,7 +184,8 @@ qualified_made table key (Some pair) rules is =
     (All-head (λ (p : Pair). list_any (bytes_eq p.code) is.row.qualifiers ≡ true) pair [] is.lists)
 
 module _ (table : List AiRow) (key : Pair) (qualifier : Option Pair) (rules : KeepsRules table) (is : IsQualifiedKey table key qualifier)
-    (identity : Elements) (pairs : List Pair) (counts : pairs ≡ counted table (pairs_in qualifier)) (e : identity ≡ record { key = key; qualifiers = pairs; attributes = [] }) where
+    (identity : Elements) (pairs : List Pair) (counts : pairs ≡ counted table (pairs_in qualifier))
+    (e : identity ≡ record { key = key; qualifiers = pairs; attributes = [] }) where
   pub key_made : identity_of_pairs table (key ∷ pairs_in qualifier) ≡ Ok identity
   key_made = rw (e, counts) (qualified_made table key qualifier rules is)
 

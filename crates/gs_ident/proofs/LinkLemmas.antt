@@ -10,12 +10,13 @@ use Rattle.gs_ai.specs.declared.row.AiRow.{AiRow}
 use Rattle.gs_ai.specs.declared.errors.ValueFault.TheVariants.{Unknown}
 use Rattle.gs_ai.specs.Tables.{is_row, KeepsRules}
 use Rattle.gs_ai.specs.Values.{has_code}
-use Rattle.gs_chars.proofs.TruthsAndLists.{and_first, and_second, and_true, equal_bytes, false_from, not_false}
+use Rattle.gs_chars.proofs.TruthsAndLists.{and_first, and_second, equal_bytes}
 use Rattle.gs_ai.proofs.RowLemmas.{row_code, code_digits}
 use Rattle.gs_ident.specs.Elements.{Elements, pairs_of}
 use Rattle.gs_ident.specs.Identities.{IsInOrder, IsMadeWith}
 use Rattle.gs_ident.specs.Links.{is_unescaped, escaped_byte, percent_encoded, path_step, query_part, query_of, spelled, canonical_stem, canonical_link}
 use Rattle.gs_ident.proofs.PairLemmas.{two_ways, Each, each_from_all, found_passes, found_each, find_by_cases, place_left, place_right, pair_same}
+use Rattle.std.proofs.lemmas.Bool.{and_from, not_from_false, false_from_ne_true}
 
 -- ---- the four bytes that separate the pieces of a link
 
@@ -51,7 +52,7 @@ digit_free c h = grind (arith, nat_tests)
 
 digits_free : (text : List ℕ) → are_digits text ≡ true → is_free text ≡ true
 digits_free [] h = refl
-digits_free (c ∷ text) h = and_true _ _ (not_false _ (digit_free c (and_first _ _ h))) (digits_free text (and_second _ _ h))
+digits_free (c ∷ text) h = and_from _ _ (not_from_false _ (digit_free c (and_first _ _ h))) (digits_free text (and_second _ _ h))
 
 four : (c : ℕ) → separates c ≡ true → (c ≡ 47) ⊎ ((c ≡ 63) ⊎ ((c ≡ 38) ⊎ (c ≡ 61)))
 four c h = elim (two_ways (c == 47)) [
@@ -69,7 +70,7 @@ escaped_separators : (is_unescaped 47 ≡ false) × (is_unescaped 63 ≡ false) 
 unfolding is_unescaped
 escaped_separators = (refl, refl, refl, refl)
 
-escaped_percent : is_unescaped 37 ≡ false
+pub escaped_percent : is_unescaped 37 ≡ false
 unfolding is_unescaped
 escaped_percent = refl
 
@@ -83,7 +84,7 @@ escaped_if c h = elim (four c h) [
 ]
 
 unescaped_free : (c : ℕ) → is_unescaped c ≡ true → separates c ≡ false
-unescaped_free c h = false_from (separates c) (λ s. true≢false (sym h ∙ escaped_if c s))
+unescaped_free c h = false_from_ne_true (separates c) (λ s. true≢false (sym h ∙ escaped_if c s))
 
 hex_free : (n : ℕ) → separates (hex_digit n) ≡ false
 hex_free n = elim (two_ways (nat_lt n 10)) [
@@ -93,13 +94,13 @@ hex_free n = elim (two_ways (nat_lt n 10)) [
 
 byte_free : (c : ℕ) → is_free (escaped_byte c) ≡ true
 byte_free c = elim (two_ways (is_unescaped c)) [
-  | inl h ↦ rw h (and_true _ _ (not_false _ (unescaped_free c h)) refl)
-  | inr h ↦ rw h (and_true _ _ (not_false _ (hex_free (c / 16))) (and_true _ _ (not_false _ (hex_free (c % 16))) refl))
+  | inl h ↦ rw h (and_from _ _ (not_from_false _ (unescaped_free c h)) refl)
+  | inr h ↦ rw h (and_from _ _ (not_from_false _ (hex_free (c / 16))) (and_from _ _ (not_from_false _ (hex_free (c % 16))) refl))
 ]
 
 free_append : (a b : List ℕ) → is_free a ≡ true → is_free b ≡ true → is_free (a ++ b) ≡ true
 free_append [] b fa fb = fb
-free_append (c ∷ a) b fa fb = and_true _ _ (and_first _ _ fa) (free_append a b (and_second _ _ fa) fb)
+free_append (c ∷ a) b fa fb = and_from _ _ (and_first _ _ fa) (free_append a b (and_second _ _ fa) fb)
 
 encoded_free : (value : List ℕ) → is_free (percent_encoded value) ≡ true
 unfolding percent_encoded
@@ -164,7 +165,8 @@ value_known (c ∷ a) (d ∷ b) e =
 abbrev unit : ℕ → Pair → List ℕ
 unit s p = p.code ++ s ∷ percent_encoded p.value
 
-unit_known : (s : ℕ) (p q : Pair) (x y : List ℕ) → separates s ≡ true → is_free p.code ≡ true → is_free q.code ≡ true → is_cut x ≡ true → is_cut y ≡ true → unit s p ++ x ≡ unit s q ++ y → (p ≡ q) × (x ≡ y)
+unit_known : (s : ℕ) (p q : Pair) (x y : List ℕ) → separates s ≡ true → is_free p.code ≡ true → is_free q.code ≡ true → is_cut x ≡ true
+    → is_cut y ≡ true → unit s p ++ x ≡ unit s q ++ y → (p ≡ q) × (x ≡ y)
 unit_known s p q x y sep fp fq cx cy e =
     let left : unit s p ++ x ≡ p.code ++ s ∷ (percent_encoded p.value ++ x) = append_assoc p.code (s ∷ percent_encoded p.value) x in
     let right : unit s q ++ y ≡ q.code ++ s ∷ (percent_encoded q.value ++ y) = append_assoc q.code (s ∷ percent_encoded q.value) y in
@@ -251,7 +253,8 @@ in_shape stem a =
 elements_same : (a b : Elements) → a.key ≡ b.key → a.qualifiers ≡ b.qualifiers → a.attributes ≡ b.attributes → a ≡ b
 elements_same a b e f g = λ i. record { key = e i; qualifiers = f i; attributes = g i }
 
-link_known : (stem : List ℕ) (a b : Elements) → AllFree (a.key ∷ a.qualifiers) → AllFree (b.key ∷ b.qualifiers) → AllFree a.attributes → AllFree b.attributes → spelled stem a ≡ spelled stem b → a ≡ b
+link_known : (stem : List ℕ) (a b : Elements) → AllFree (a.key ∷ a.qualifiers) → AllFree (b.key ∷ b.qualifiers) → AllFree a.attributes
+    → AllFree b.attributes → spelled stem a ≡ spelled stem b → a ≡ b
 link_known stem a b pa pb qa qb e =
     let body = append_cancel_left stem _ _ (sym (in_shape stem a) ∙ e ∙ in_shape stem b) in
     let known = path_known (a.key ∷ a.qualifiers) (b.key ∷ b.qualifiers) a.attributes b.attributes pa pb body in

@@ -6,15 +6,17 @@ use Rattle.std.proofs.lemmas.List.{take_all}
 use Rattle.std.proofs.lemmas.List.Elements.{All-cons, All-head, All-nil, All-tail}
 use Rattle.gs_ai.specs.declared.pair.Pair.{Pair}
 pub use Rattle.gs_chars.proofs.TruthsAndLists.{true_or_false as two_ways, place_left, place_right}
-use Rattle.gs_chars.proofs.TruthsAndLists.{false_from, read_at}
+use Rattle.gs_chars.proofs.TruthsAndLists.{read_at}
 use Rattle.gs_ident.specs.Identities.{contradicts, contradiction}
+use Rattle.std.proofs.lemmas.Bool.{false_from_ne_true}
 
 pub pair_same : (p q : Pair) → p.code ≡ q.code → p.value ≡ q.value → p ≡ q
 pair_same p q e f = λ i. record { code = e i; value = f i }
 
 -- ---- the first place at which a test passes
 
-place_at : {X : Type 0} (p : ℕ × X → Bool) (n : ℕ) (xs : List X) (i : ℕ) (x : X) → slice_get xs i ≡ Some x → find p (enumerate_from n (take i xs)) ≡ None → p (n + i, x) ≡ true → find p (enumerate_from n xs) ≡ Some (n + i, x)
+place_at : {X : Type 0} (p : ℕ × X → Bool) (n : ℕ) (xs : List X) (i : ℕ) (x : X) → slice_get xs i ≡ Some x
+    → find p (enumerate_from n (take i xs)) ≡ None → p (n + i, x) ≡ true → find p (enumerate_from n xs) ≡ Some (n + i, x)
 place_at p n [] i x at none h = absurd (let g : None ≡ Some x = at in cc)
 place_at p n (y ∷ ys) zero x at none h =
     let same : y ≡ x = cc in
@@ -30,7 +32,8 @@ place_at p n (y ∷ ys) (suc i) x at none h = elim (two_ways (p (n, y))) [
       rw (t, here) (place_at p (n + 1) ys i x at f h')
 ]
 
-place_none : {X : Type 0} (p : ℕ × X → Bool) (n : ℕ) (xs : List X) (i : ℕ) (x : X) → slice_get xs i ≡ Some x → find p (enumerate_from n (take i xs)) ≡ None → p (n + i, x) ≡ false → find p (enumerate_from n (take (suc i) xs)) ≡ None
+place_none : {X : Type 0} (p : ℕ × X → Bool) (n : ℕ) (xs : List X) (i : ℕ) (x : X) → slice_get xs i ≡ Some x
+    → find p (enumerate_from n (take i xs)) ≡ None → p (n + i, x) ≡ false → find p (enumerate_from n (take (suc i) xs)) ≡ None
 place_none p n [] i x at none h = absurd (let g : None ≡ Some x = at in cc)
 place_none p n (y ∷ ys) zero x at none h =
     let same : y ≡ x = cc in
@@ -51,21 +54,26 @@ place_none p n (y ∷ ys) (suc i) x at none h = elim (two_ways (p (n, y))) [
 abbrev pub is_contradiction : List Pair → ℕ × Pair → Bool
 is_contradiction pairs place = contradicts (take place.0 pairs) place.1
 
-pub first_place : (pairs : List Pair) (i : ℕ) (pair : Pair) → i < length pairs → pair ≡ get_or pairs i pair → find (is_contradiction pairs) (enumerate_from 0 (take i pairs)) ≡ None → contradicts (take i pairs) pair ≡ true → Some pair ≡ contradiction pairs
+pub first_place : (pairs : List Pair) (i : ℕ) (pair : Pair) → i < length pairs → pair ≡ get_or pairs i pair
+    → find (is_contradiction pairs) (enumerate_from 0 (take i pairs)) ≡ None → contradicts (take i pairs) pair ≡ true
+    → Some pair ≡ contradiction pairs
 unfolding contradiction
 first_place pairs i pair low read none h =
     let at = read_at pairs i pair low read in
     let zero_plus : i ≡ 0 + i = omega arith in
     rw (place_at (is_contradiction pairs) 0 pairs i pair at none (rw zero_plus at h)) refl
 
-pub no_more : (pairs : List Pair) (i : ℕ) (pair : Pair) → i < length pairs → pair ≡ get_or pairs i pair → find (is_contradiction pairs) (enumerate_from 0 (take i pairs)) ≡ None → contradicts (take i pairs) pair ≡ false → find (is_contradiction pairs) (enumerate_from 0 (take (i + 1) pairs)) ≡ None
+pub no_more : (pairs : List Pair) (i : ℕ) (pair : Pair) → i < length pairs → pair ≡ get_or pairs i pair
+    → find (is_contradiction pairs) (enumerate_from 0 (take i pairs)) ≡ None → contradicts (take i pairs) pair ≡ false
+    → find (is_contradiction pairs) (enumerate_from 0 (take (i + 1) pairs)) ≡ None
 no_more pairs i pair low read none h =
     let at = read_at pairs i pair low read in
     let zero_plus : i ≡ 0 + i = omega arith in
     let next : i + 1 ≡ suc i = omega arith in
     rw next (place_none (is_contradiction pairs) 0 pairs i pair at none (rw zero_plus at h))
 
-pub none_found : (pairs : List Pair) (i : ℕ) → length pairs ≤ i → find (is_contradiction pairs) (enumerate_from 0 (take i pairs)) ≡ None → None ≡ contradiction pairs
+pub none_found : (pairs : List Pair) (i : ℕ) → length pairs ≤ i → find (is_contradiction pairs) (enumerate_from 0 (take i pairs)) ≡ None
+    → None ≡ contradiction pairs
 unfolding contradiction
 none_found pairs i past h = let all = rw (take_all i pairs past) at h in rw all refl
 
@@ -79,12 +87,14 @@ front_option : {X : Type 0} (r : Option X) (xs ys : List X) → cons_option r (x
 front_option None xs ys = refl
 front_option (Some x) xs ys = refl
 
-taken : {A X : Type 0} (h : A → Option X) (cs : List A) (i : ℕ) (c : A) → slice_get cs i ≡ Some c → filter_map h (take (suc i) cs) ≡ filter_map h (take i cs) ++ option_to_list (h c)
+taken : {A X : Type 0} (h : A → Option X) (cs : List A) (i : ℕ) (c : A) → slice_get cs i ≡ Some c
+    → filter_map h (take (suc i) cs) ≡ filter_map h (take i cs) ++ option_to_list (h c)
 taken h [] i c at = absurd (let g : None ≡ Some c = at in cc)
 taken h (d ∷ cs) zero c at = let same : d ≡ c = cc in rw same (one_option (h c))
 taken h (d ∷ cs) (suc i) c at = rw (taken h cs i c at) (front_option (h d) (filter_map h (take i cs)) (option_to_list (h c)))
 
-pub filter_map_more : {A X : Type 0} (h : A → Option X) (cs : List A) (i : ℕ) (c : A) (done new : List X) → i < length cs → c ≡ get_or cs i c → done ≡ filter_map h (take i cs) → new ≡ done ++ option_to_list (h c) → new ≡ filter_map h (take (i + 1) cs)
+pub filter_map_more : {A X : Type 0} (h : A → Option X) (cs : List A) (i : ℕ) (c : A) (done new : List X) → i < length cs
+    → c ≡ get_or cs i c → done ≡ filter_map h (take i cs) → new ≡ done ++ option_to_list (h c) → new ≡ filter_map h (take (i + 1) cs)
 filter_map_more h cs i c done new low read d n =
     let next : i + 1 ≡ suc i = omega arith in
     let more = taken h cs i c (read_at cs i c low read) in
@@ -137,13 +147,14 @@ found_each P t (y ∷ xs) x e a = elim (two_ways (t y)) [
 ]
 
 -- a sharper test that the found element passes finds it too
-pub found_sharper : {X : Type 0} (t p : X → Bool) (xs : List X) (x : X) → find p xs ≡ Some x → ((y : X) → t y ≡ true → p y ≡ true) → t x ≡ true → find t xs ≡ Some x
+pub found_sharper : {X : Type 0} (t p : X → Bool) (xs : List X) (x : X) → find p xs ≡ Some x → ((y : X) → t y ≡ true → p y ≡ true)
+    → t x ≡ true → find t xs ≡ Some x
 found_sharper t p [] x e sharper h = absurd (let g : None ≡ Some x = e in cc)
 found_sharper t p (y ∷ xs) x e sharper h = elim (two_ways (p y)) [
   | inl q ↦ let f = rw q at e in let same : y ≡ x = cc in let ty : t y ≡ true = rw same h in rw ty (ap Some same)
   | inr q ↦
       let f = rw q at e in
-      let ty : t y ≡ false = false_from (t y) (λ k. true≢false (sym (sharper y k) ∙ q)) in
+      let ty : t y ≡ false = false_from_ne_true (t y) (λ k. true≢false (sym (sharper y k) ∙ q)) in
       rw ty (found_sharper t p xs x f sharper h)
 ]
 
@@ -170,7 +181,8 @@ cons_place : {X : Type 0} (r : Option X) (xs : List X) (j : ℕ) (x : X) → sli
 cons_place None xs j x at = (j, at)
 cons_place (Some y) xs j x at = (suc j, at)
 
-pub place_of_code : {A X : Type 0} (h : A → Option X) (cs : List A) (i : ℕ) (c : A) (x : X) → slice_get cs i ≡ Some c → h c ≡ Some x → (j : ℕ) × (slice_get (filter_map h cs) j ≡ Some x)
+pub place_of_code : {A X : Type 0} (h : A → Option X) (cs : List A) (i : ℕ) (c : A) (x : X) → slice_get cs i ≡ Some c → h c ≡ Some x
+    → (j : ℕ) × (slice_get (filter_map h cs) j ≡ Some x)
 place_of_code h [] i c x at e = absurd (let g : None ≡ Some c = at in cc)
 place_of_code h (d ∷ cs) zero c x at e = let same : d ≡ c = cc in let f : h d ≡ Some x = rw same e in rw f (zero, refl)
 place_of_code h (d ∷ cs) (suc i) c x at e = let rest = place_of_code h cs i c x at e in cons_place (h d) (filter_map h cs) rest.0 x rest.1
@@ -183,7 +195,8 @@ pub filter_all : {X : Type 0} (t : X → Bool) (xs : List X) → Each (λ x. t x
 filter_all t [] a = refl
 filter_all t (x ∷ xs) a = rw (a zero x refl, filter_all t xs (λ j y at. a (suc j) y at)) refl
 
-pub place_absent : {X : Type 0} (p : ℕ × X → Bool) (n : ℕ) (xs : List X) → ((i : ℕ) (x : X) → slice_get xs i ≡ Some x → p (n + i, x) ≡ false) → find p (enumerate_from n xs) ≡ None
+pub place_absent : {X : Type 0} (p : ℕ × X → Bool) (n : ℕ) (xs : List X)
+    → ((i : ℕ) (x : X) → slice_get xs i ≡ Some x → p (n + i, x) ≡ false) → find p (enumerate_from n xs) ≡ None
 place_absent p n [] a = refl
 place_absent p n (x ∷ xs) a =
     let zero_plus : n ≡ n + 0 = omega arith in

@@ -13,7 +13,8 @@ pub record Elements : Type 0 where
 abbrev pub elements_with : Pair → List Pair → List Pair → Elements
 elements_with key qualifiers attributes = record { key = key; qualifiers = qualifiers; attributes = attributes }
 
--- trusted, GS1 General Specifications, section 3; GS1 Digital Link URI Syntax, section 3: all pairs in order
+-- trusted, GS1 General Specifications, section 3; GS1 Digital Link URI Syntax, section 3: the list of all pairs of `identity`
+-- in order
 abbrev pub pairs_of : Elements → List Pair
 pairs_of identity = identity.key ∷ (identity.qualifiers ++ identity.attributes)
 
@@ -26,7 +27,7 @@ first_qualifiers k identity = record { key = identity.key; qualifiers = take k i
 abbrev pub key_alone : Elements → Elements
 key_alone identity = record { key = identity.key; qualifiers = []; attributes = [] }
 
--- trusted, own: the pair has the code
+-- trusted, own: holds if the code of `pair` is `code`
 abbrev pub is_coded : List ℕ → Pair → Bool
 is_coded code pair = bytes_eq code pair.code
 

@@ -1,5 +1,6 @@
--- The identity of a list of elements: GS1 Digital Link URI Syntax, section 3 (keys, qualifiers and attributes), and GS1 General
--- Specifications, section 4.14 (elements used together). The treatment of repeated elements is this project's own.
+-- The identity of a list of elements. The rules are those of GS1 Digital Link URI Syntax, section 3 (keys, qualifiers and
+-- attributes), and GS1 General Specifications, section 4.14 (elements used together). The treatment of repeated elements is
+-- this project's own.
 use Rattle.std.specs.Prelude.{◌≡◌, ℕ, Bool, false, not, ◌&&◌, List, [], All, take, map, filter, find, Option, Some, None, Result, Ok, Err, bytes_eq}
 use Rattle.std.specs.Cmp.Lexicographic.{slice_cmp}
 use Rattle.std.specs.FinMap.{from_entries, values}
@@ -18,7 +19,7 @@ use Rattle.gs_ident.specs.Elements.{Elements, pairs_of}
 abbrev pub pair_with : List Pair → List ℕ → Option Pair
 pair_with pairs code = find (λ pair. bytes_eq code pair.code) pairs
 
--- trusted, own: holds if the value is the text that means none in the row of its code
+-- trusted, own: holds if the value of `pair` is the text that means none in the row of its code
 abbrev pub stands_for_none : List AiRow → Pair → Bool
 stands_for_none table pair =
     option_map_or (λ row. not (is_empty row.none) && bytes_eq row.none pair.value) (find (has_code pair.code) table) false
@@ -27,7 +28,7 @@ stands_for_none table pair =
 abbrev pub counted : List AiRow → List Pair → List Pair
 counted table pairs = filter (λ pair. not (stands_for_none table pair)) pairs
 
--- trusted, own: an earlier pair has the code and another value
+-- trusted, own: holds if a pair of `earlier` has the code of `pair` and another value
 abbrev pub contradicts : List Pair → Pair → Bool
 contradicts earlier pair = list_any (λ other. bytes_eq other.code pair.code && not (bytes_eq other.value pair.value)) earlier
 
@@ -48,11 +49,11 @@ other_key table pairs key = find (λ pair. is_key_of table pair.code && not (byt
 abbrev pub listed : List AiRow → Pair → List (List ℕ)
 listed table key = option_map_or (λ row. row.qualifiers) (find (has_code key.code) table) []
 
--- trusted, own: the pair's code is neither the key's nor listed
+-- trusted, own: holds if the code of `pair` is neither that of `key` nor in `codes`
 abbrev pub is_other : List (List ℕ) → Pair → Pair → Bool
 is_other codes key pair = not (bytes_eq key.code pair.code) && not (list_any (bytes_eq pair.code) codes)
 
--- trusted, own: each pair with its code
+-- trusted, own: the list of each pair with its code
 abbrev pub keyed : List Pair → List (List ℕ × Pair)
 keyed pairs = map (λ pair. (pair.code, pair)) pairs
 
@@ -60,8 +61,8 @@ keyed pairs = map (λ pair. (pair.code, pair)) pairs
 unfoldable pub ascending : List Pair → List Pair
 ascending pairs = values (from_entries {R = slice_cmp nat_cmp} (keyed pairs))
 
--- trusted, GS1 Digital Link URI Syntax, section 3; the order of the attributes is own: The key, the pairs of the listed
--- codes in the order of the list, and all other pairs in ascending order of their codes: each code once.
+-- trusted, GS1 Digital Link URI Syntax, section 3; the order of the attributes is own: The key, the pairs of the listed codes
+-- in the order of the list, and all other pairs in ascending order of their codes. Each code occurs once.
 unfoldable pub elements_of : List AiRow → List Pair → Pair → Elements
 elements_of table pairs key = record {
   key = key;
@@ -92,11 +93,11 @@ identity_of_counted table pairs = by_contradiction table pairs (contradiction pa
 abbrev pub identity_of_pairs : List AiRow → List Pair → Result Elements IdentFault
 identity_of_pairs table pairs = identity_of_counted table (counted table pairs)
 
--- trusted, own: The value is one of its code's.
+-- trusted, own: holds if the value of `pair` is valid for its code
 pub record IsInOrder (table : List AiRow) (pair : Pair) : Type 0 where
   pub fits : value_error table pair.code pair.value ≡ None
 
--- trusted, own: The identity was made with the table: each of its pairs is valid, and its pairs have this identity.
+-- trusted, own: holds if each pair of `identity` is valid by `table`, and `identity` is that of its pairs
 pub record IsMadeWith (table : List AiRow) (identity : Elements) : Type 0 where
   pub in_order : All (IsInOrder table) (pairs_of identity)
   pub given_back : identity_of_pairs table (pairs_of identity) ≡ Ok identity

@@ -6,16 +6,16 @@ use Rattle.gs_chars.specs.Escapes.{hex_digit}
 use Rattle.gs_ai.specs.declared.pair.Pair.{Pair}
 use Rattle.gs_ident.specs.Elements.{Elements}
 
--- trusted, own: the ASCII letters
+-- trusted, own: holds if `c` is an ASCII letter
 abbrev pub is_letter : ℕ → Bool
 is_letter c = (nat_le 65 c && nat_le c 90) || (nat_le 97 c && nat_le c 122)
 
--- trusted, RFC 3986, sections 2.1 and 2.3: A byte that stands for itself in a value: RFC 3986, section 2.3, without the
--- tilde, which no value has.
+-- trusted, RFC 3986, sections 2.1 and 2.3: holds if `c` is an unreserved character of RFC 3986, section 2.3, other than the
+-- tilde, which no value has
 unfoldable pub is_unescaped : ℕ → Bool
 is_unescaped c = is_letter c || is_digit c || list_any (λ x. x == c) (codes "-._")
 
--- trusted, own: a percent sign and the byte in two upper-case hexadecimal digits: RFC 3986, section 2.1
+-- trusted, own: the percent sign and the byte `c` in two upper-case hexadecimal digits: RFC 3986, section 2.1
 abbrev pub percent_escape : ℕ → List ℕ
 percent_escape c = 37 ∷ hex_digit (c / 16) ∷ hex_digit (c % 16) ∷ []
 
@@ -27,15 +27,15 @@ escaped_byte c = if is_unescaped c then c ∷ [] else percent_escape c
 unfoldable pub percent_encoded : List ℕ → List ℕ
 percent_encoded value = flat_map escaped_byte value
 
--- trusted, own: `/code/value`
+-- trusted, own: the path segments `/code/value` of `pair`
 abbrev pub path_step : Pair → List ℕ
 path_step pair = 47 ∷ (pair.code ++ 47 ∷ percent_encoded pair.value)
 
--- trusted, own: `code=value`
+-- trusted, own: the query parameter `code=value` of `pair`
 abbrev pub query_part : Pair → List ℕ
 query_part pair = pair.code ++ 61 ∷ percent_encoded pair.value
 
--- trusted, own: nothing, or `?code=value` and then `&code=value` for each further pair
+-- trusted, own: the query of the pairs: nothing, or `?code=value` and then `&code=value` for each further pair
 abbrev pub query_of : List Pair → List ℕ
 query_of [] = []
 query_of (pair ∷ pairs) = 63 ∷ (query_part pair ++ flat_map (λ p. 38 ∷ query_part p) pairs)

@@ -12,8 +12,8 @@ abbrev pub pairs_in : Option Pair → List Pair
 pairs_in None = []
 pairs_in (Some pair) = pair ∷ []
 
--- trusted, GS1 Digital Link URI Syntax, section 3: Holds if both pairs are valid, and the row of the first is that of a key. If
--- there is a second pair, the row lists its code among the qualifiers.
+-- trusted, GS1 Digital Link URI Syntax, section 3: Holds if both pairs are valid, and the row of `key` is that of a key. If
+-- there is a `qualifier`, the row lists its code among the qualifiers.
 pub record IsQualifiedKey (table : List AiRow) (key : Pair) (qualifier : Option Pair) : Type 0 where
   pub in_order : All (IsInOrder table) (key ∷ pairs_in qualifier)
   pub row : AiRow

@@ -1,4 +1,4 @@
--- How many bytes the pairs of an identity have. This is the project's own.
+-- The number of bytes of the pairs of an identity. This is the project's own.
 use Rattle.std.specs.Prelude.{ℕ, ◌+◌, List, length}
 use Rattle.std.specs.List.{sum_by}
 use Rattle.gs_ai.specs.declared.pair.Pair.{Pair}
@@ -7,6 +7,6 @@ use Rattle.gs_ai.specs.declared.pair.Pair.{Pair}
 abbrev pub room_of_pair : Pair → ℕ
 room_of_pair pair = length pair.code + length pair.value + 2
 
--- trusted, own: those of all pairs
+-- trusted, own: the room of all pairs
 abbrev pub room_of_pairs : List Pair → ℕ
 room_of_pairs pairs = sum_by room_of_pair pairs

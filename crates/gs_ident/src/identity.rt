@@ -74,8 +74,8 @@ impl<'a> Identity<'a> {
         Ok(Identity::from_pairs(key, qualifiers, Vec::new(alloc)))
     }
 
-    /// Returns the identity of the key and the first `k` qualifiers, which lends none. Fails only with `Memory`. `k`, how many
-    /// qualifiers are kept, is at most their number.
+    /// Returns the identity of the key and the first `k` qualifiers, which lends none. Fails only with `Memory`. `k`, the
+    /// number of qualifiers that are kept, is at most theirs.
     pub fn prefix(&self, alloc: Global, k: usize) -> Result<Identity<'static>, Memory>
         requires { k ≤ length self.now.qualifiers }
         ensures { IfOk result (λ identity. identity ≡ first_qualifiers k self.now) }
@@ -214,8 +214,8 @@ fn add_room(before: usize, pairs: &[Pair<'_>]) -> usize
 }
 
 impl Identity<'_> {
-    /// Returns the number of bytes of the codes and values of the pairs, with two more for each pair: the memory that is taken
-    /// for a text of them. It is 2 to the 64 less 1 if they are more.
+    /// Returns the number of bytes of the codes and values of the pairs, with two more for each pair. This is the memory that
+    /// is taken for a text of them. It is 2 to the 64 less 1 if they are more.
     pub fn room(&self) -> usize
         ensures { result ≡ min (room_of_pairs (pairs_of self.now)) (2 ^ 64 - 1) }
     {

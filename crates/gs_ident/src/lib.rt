@@ -5,7 +5,7 @@
 //!
 //! # Example
 //!
-//! A trade item with a lot, a serial number, a variant and an expiry date: the qualifiers are in the order of the standard, the
+//! A trade item with a lot, a serial number, a variant and an expiry date. The qualifiers are in the order of the standard, the
 //! attribute in the query. The gate runs this case, for which crates/vectors_translation/src/identities.rt makes the calls.
 //!
 //! ```text

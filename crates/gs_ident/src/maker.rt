@@ -103,8 +103,8 @@ fn only_key(
 /// Makes the identity of the pairs. First drops pairs whose value means none; equal repeats count once. Each pair has a code of
 /// the table, and a value that its row allows.
 ///
-/// Returns the first error that applies: `Repeat` with the code of the first pair whose code occurred before with another value,
-/// `NoKey`, `TwoKeys` with the code of the second key. May return `Memory` instead.
+/// Returns the first error that applies: `Repeat`, `NoKey` or `TwoKeys`. `Repeat` has the code of the first pair whose code
+/// occurred before with another value, `TwoKeys` the code of the second key. May return `Memory` instead.
 pub fn make<'a>(
     alloc: Global,
     table: &AiTable,

@@ -46,8 +46,9 @@ fn append_pieces(out: &mut Vec<u8>, value: &[u8]) -> Result<(), Memory>
     Ok(())
 }
 
-/// Appends the written form of a value in a link: letters, digits, `-`, `.` and `_` unchanged, any other byte as `%` and two
-/// upper-case hexadecimal digits (RFC 3986, section 2.1). Fails only with `Memory`; `out` then begins with its old contents.
+/// Appends the written form of a value in a link (RFC 3986, section 2.1). Letters, digits, `-`, `.` and `_` are unchanged, any
+/// other byte becomes `%` and two upper-case hexadecimal digits. Fails only with `Memory`; `out` then begins with its old
+/// contents.
 pub fn append_escaped(out: &mut Vec<u8>, value: &[u8]) -> Result<(), Memory>
     ensures written { IfOk result (λ _. out.new.items ≡ out.old.items ++ percent_encoded value.now) }
     ensures begun { OnErr result (BeginsWith out.new.items out.old.items) }
@@ -135,8 +136,8 @@ pub fn append_link(out: &mut Vec<u8>, stem: &[u8], identity: &Identity<'_>) -> R
     write_query(out, identity.attributes())
 }
 
-/// Returns the link of the identity under the stem: the key's pair and those of the qualifiers as the path, the attributes as
-/// the query (GS1 Digital Link URI Syntax, section 4). Fails only with `Memory`.
+/// Returns the link of the identity under the stem (GS1 Digital Link URI Syntax, section 4). The path has the pairs of the key
+/// and the qualifiers, the query the attributes. Fails only with `Memory`.
 pub fn spell(alloc: Global, stem: &[u8], identity: &Identity<'_>) -> Result<Text, Memory>
     ensures { IfOk result (λ text. text ≡ spelled stem.now identity.now) }
 {

@@ -6,7 +6,8 @@ use Rattle.gs_json.specs.Places.{item_place}
 use Rattle.gs_json.specs.Shapes.{failing_from, first_error, items_errors, items_list}
 use Rattle.gs_json.specs.declared.error.JsonFault.TheVariants.{Kind}
 
-first_failing : (place : List ℕ) (failing : List ℕ) → first_error (map (λ i. Kind (item_place place i)) failing) ≡ fit_answer place (fit_but (slice_get failing 0))
+first_failing : (place : List ℕ) (failing : List ℕ)
+    → first_error (map (λ i. Kind (item_place place i)) failing) ≡ fit_answer place (fit_but (slice_get failing 0))
 first_failing place [] = refl
 first_failing place (i ∷ failing) = refl
 

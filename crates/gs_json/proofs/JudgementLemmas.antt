@@ -45,12 +45,14 @@ pub entries_end : (errors : Entry → List JsonFault) (plan : List Entry) (i : �
 entries_end errors plan i h = ap (flat_map errors) (drop_all i plan h)
 
 -- if no entry has an error, the first is that of the names
-pub names_only : (place : List ℕ) (plan : List Entry) (own : Members) (o : Option Members) (result : Result Unit JsonFault) → Some own ≡ o → flat_map (entry_errors place own) plan ≡ []
+pub names_only : (place : List ℕ) (plan : List Entry) (own : Members) (o : Option Members) (result : Result Unit JsonFault) → Some own ≡ o
+    → flat_map (entry_errors place own) plan ≡ []
     → IsFirst result (unknown_errors place plan own) → IsFirst result (members_errors place plan o)
 names_only place plan own o result found none h = rw (← found, none) h
 
 -- the first error of the first entry that has one is that of the object
-pub entry_first : (place : List ℕ) (plan : List Entry) (own : Members) (o : Option Members) (i : ℕ) (entry : Entry) (error : JsonFault) (result : Result Unit JsonFault) → Some own ≡ o
+pub entry_first : (place : List ℕ) (plan : List Entry) (own : Members) (o : Option Members) (i : ℕ) (entry : Entry) (error : JsonFault) (result : Result Unit JsonFault)
+    → Some own ≡ o
     → flat_map (entry_errors place own) plan ≡ flat_map (entry_errors place own) (drop i plan) → i < length plan → entry ≡ get_or plan i entry
     → result ≡ Err error → IsFirst (Err error) (entry_errors place own entry) → IsFirst result (members_errors place plan o)
 entry_first place plan own o i entry error result found so_far within here e h =

@@ -83,7 +83,8 @@ no_such_member (e ∷ entries) name h =
     no_such_member entries name h ∙ sym (member_later name e entries other)
 
 -- keys that ascend do so by their bytes
-ascend_behind : (key : String Global) (keys : List (String Global)) → AllByRecursion (λ k. string_cmp key k ≡ Less) keys → AllByRecursion (λ name. slice_cmp nat_cmp (string_bytes key) name ≡ Less) (map string_bytes keys)
+ascend_behind : (key : String Global) (keys : List (String Global)) → AllByRecursion (λ k. string_cmp key k ≡ Less) keys
+    → AllByRecursion (λ name. slice_cmp nat_cmp (string_bytes key) name ≡ Less) (map string_bytes keys)
 ascend_behind key [] h = tt
 ascend_behind key (k ∷ keys) h = (h.0, ascend_behind key keys h.1)
 
@@ -93,7 +94,9 @@ ascending_keys [] h = tt
 ascending_keys (key ∷ keys) h = (ascend_behind key keys h.0, ascending_keys keys h.1)
 
 -- the names of all keys
-pub ascending_names : (names : List (List ℕ)) (left start keys : List (String Global)) → names ++ map string_bytes left ≡ map string_bytes start → left ≡ [] → start ≡ keys → IsStrictlySortedBy string_cmp keys → AscendByBytes names
+pub ascending_names : (names : List (List ℕ)) (left start keys : List (String Global))
+    → names ++ map string_bytes left ≡ map string_bytes start → left ≡ [] → start ≡ keys → IsStrictlySortedBy string_cmp keys
+    → AscendByBytes names
 ascending_names names left start keys so_far none from ordered =
     let whole : names ++ [] ≡ map string_bytes start = rw none at so_far in
     let all : names ≡ map string_bytes keys = sym (append-nil names) ∙ whole ∙ ap (map string_bytes) from in

@@ -16,7 +16,8 @@ use Rattle.gs_json.specs.Places.{escaped, escaped_byte, item_place, member_place
 
 -- ---- a name, byte by byte
 
-pub escaped_more : (place name : List ℕ) (i other : ℕ) (old new : List ℕ) → i < length name → old ≡ member_place place (take i name) → new ≡ old ++ escaped_byte (get_or name i other) → new ≡ member_place place (take (i + 1) name)
+pub escaped_more : (place name : List ℕ) (i other : ℕ) (old new : List ℕ) → i < length name → old ≡ member_place place (take i name)
+    → new ≡ old ++ escaped_byte (get_or name i other) → new ≡ member_place place (take (i + 1) name)
 escaped_more place name i other old new low so_far e =
     rw (e, so_far, take_more name i other low, flat_map-append escaped_byte (take i name) (get_or name i other ∷ []), append-nil (escaped_byte (get_or name i other)))
     (append_assoc place (47 ∷ escaped (take i name)) (escaped_byte (get_or name i other)))
@@ -38,7 +39,8 @@ walk_end so_far (x ∷ rest) part d =
       | false ↦ walk_end (so_far ++ x ∷ []) rest part d
     ]
 
-found_at : (b : Bool) (o : Option Data) (d : Data) (w : Option Data) (more : Option Data) → cond b o None ≡ Some d → (o ≡ Some d → more ≡ w) → cond b more None ≡ w
+found_at : (b : Bool) (o : Option Data) (d : Data) (w : Option Data) (more : Option Data) → cond b o None ≡ Some d → (o ≡ Some d → more ≡ w)
+    → cond b more None ≡ w
 found_at true o d w more h k = k h
 found_at false o d w more h k = cc h
 
@@ -102,7 +104,8 @@ step_to_member (string s) e name h = cc h
 step_to_member (array items) e name h = cc h
 step_to_member (object members) e name h = ap (λ w. get_member w members) (unescape_escaped name) ∙ h
 
-pub member_pointed_to : (place name : List ℕ) (d part e : Data) → pointer place d ≡ Some part → get name part ≡ Some e → pointer (member_place place name) d ≡ Some e
+pub member_pointed_to : (place name : List ℕ) (d part e : Data) → pointer place d ≡ Some part → get name part ≡ Some e
+    → pointer (member_place place name) d ≡ Some e
 member_pointed_to place name d part e here found =
     pointer_end place (escaped name) d part here ∙ walk_last (escaped name) part (lacks_escaped name) ∙ step_to_member part e name found
 
@@ -149,7 +152,8 @@ step_to_item (string s) e i small h = cc h
 step_to_item (array items) e i small h = ap (option_and_then (λ k. get_item k items)) (index_of-decimal i small) ∙ h
 step_to_item (object members) e i small h = cc h
 
-pub item_pointed_to : (place : List ℕ) (i : ℕ) (d part e : Data) → i < 2 ^ 64 → pointer place d ≡ Some part → at i part ≡ Some e → pointer (item_place place i) d ≡ Some e
+pub item_pointed_to : (place : List ℕ) (i : ℕ) (d part e : Data) → i < 2 ^ 64 → pointer place d ≡ Some part → at i part ≡ Some e
+    → pointer (item_place place i) d ≡ Some e
 item_pointed_to place i d part e small here found =
     let digits = lacks_digits (decimal i) (decimal_is_IsNumeral i small).0.1 in
     pointer_end place (decimal i) d part here ∙ walk_last (decimal i) part digits ∙ step_to_item part e i small found

@@ -41,6 +41,6 @@ text_in name d = unwrap_or (option_and_then as_str (get name d)) []
 abbrev pub number_in : List ℕ → Data → ℕ
 number_in name d = unwrap_or (option_and_then as_u64 (option_and_then as_number (get name d))) 0
 
--- trusted, RFC 8259, 4: the truth value of the member `name`, or false if there is none
+-- trusted, RFC 8259, 4: holds if `d` has a member `name` with the value `true`
 abbrev pub truth_in : List ℕ → Data → Bool
 truth_in name d = unwrap_or (option_and_then as_bool (get name d)) false

@@ -24,20 +24,20 @@ items_list (item d items) = d ∷ items_list items
 abbrev pub failing_from : ℕ → (Data → Bool) → List Data → List ℕ
 failing_from k test items = map (λ e. e.0) (filter (λ e. not (test e.1)) (enumerate_from k items))
 
--- trusted, own: none if `fits` is true, otherwise `Kind place`
+-- trusted, own: the empty list if `fits` is true, otherwise the list of `Kind place`
 abbrev pub kind_errors : List ℕ → Bool → List JsonFault
 kind_errors place fits = if fits then [] else Kind place ∷ []
 
--- trusted, own: `Kind` for each item that fails `test`, or for `place` if there is no array
+-- trusted, own: the list of `Kind` for each item that fails `test`, or for `place` if there is no array
 abbrev pub items_errors : List ℕ → (Data → Bool) → Option Items → List JsonFault
 items_errors place test (Some items) = map (λ i. Kind (item_place place i)) (failing_from 0 test (items_list items))
 items_errors place test None = Kind place ∷ []
 
--- trusted, own: whether `d` is a text
+-- trusted, own: holds if `d` is a text
 abbrev pub is_text : Data → Bool
 is_text d = is_some (as_str d)
 
--- trusted, own: whether `d` is an array
+-- trusted, own: holds if `d` is an array
 abbrev pub is_array : Data → Bool
 is_array d = is_some (as_array d)
 
@@ -59,7 +59,7 @@ member_errors place entry (Some d) = sort_errors place entry.sort d
 abbrev pub entry_errors : List ℕ → Members → Entry → List JsonFault
 entry_errors place members entry = member_errors (member_place place entry.name) entry (get_member entry.name members)
 
--- trusted, own: whether `plan` has an entry of this name
+-- trusted, own: holds if `plan` has an entry of the name `name`
 abbrev pub is_named : List Entry → List ℕ → Bool
 is_named plan name = list_any (λ entry. bytes_eq entry.name name) plan
 
@@ -67,7 +67,7 @@ is_named plan name = list_any (λ entry. bytes_eq entry.name name) plan
 abbrev pub unknown_among : List Entry → List (List ℕ) → List (List ℕ)
 unknown_among plan names = filter (λ name. not (is_named plan name)) names
 
--- trusted, own: `Unknown` for each member without an entry in `plan`
+-- trusted, own: the list of `Unknown` for each of `members` without an entry in `plan`
 abbrev pub unknown_errors : List ℕ → List Entry → Members → List JsonFault
 unknown_errors place plan members = map (λ name. Unknown (member_place place name)) (unknown_among plan (names_of_members members))
 

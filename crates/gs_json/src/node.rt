@@ -168,11 +168,10 @@ impl<'a> Node<'a> {
 
     /// Checks an object against a plan and returns the first error in this order. May return `Memory` instead.
     ///
-    /// 1. `Kind` with this place, if this is not an object.
-    /// 2. For each entry of the plan: `Lacks` with the member's place, if a required member is missing; `Kind` with the
-    ///    member's place, if it is not of the entry's sort. An array of texts or arrays gives the place of its first item of
-    ///    another kind.
-    /// 3. `Unknown` with the place of the first member, in ascending order, that the plan does not name.
+    /// 1. `Kind` with this place, if this is not an object. 2. For each entry of the plan it is `Lacks` with the member's
+    /// place, if a required member is missing. It is `Kind` with the member's place, if the member is not of the entry's sort.
+    /// An array of texts or arrays gives the place of its first item of another kind. 3. `Unknown` with the place of the first
+    /// member, in ascending order, that the plan does not name.
     pub fn shaped(&self, alloc: Global, plan: &[Entry]) -> Result<(), JsonFault>
         ensures { IsFirst result (shape_errors self.now plan.now) }
     {

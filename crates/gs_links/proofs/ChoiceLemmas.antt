@@ -3,15 +3,16 @@ use Rattle.std.proofs.Common.{◌≡◌, ◌≤◌, ◌<◌, ℕ, zero, suc, ◌
 use Rattle.std.specs.Prelude.{bytes_eq}
 use Rattle.std.specs.List.{enumerate_from}
 use Rattle.std.proofs.Math.Nat.{le-max_left, le-max_right, max-le}
-use Rattle.std.proofs.lemmas.Bool.{eq-eqb, eqb-true}
+use Rattle.std.proofs.lemmas.Bool.{eq-eqb, eqb-true, and_from}
 use Rattle.std.proofs.lemmas.List.{length-append, length-take-le}
 use Rattle.gs_ai.specs.Tables.{is_empty}
 use Rattle.gs_ai.specs.declared.pair.Pair.{Pair}
-use Rattle.gs_chars.proofs.TruthsAndLists.{and_first, and_second, and_true, equal_bytes, same_bytes}
+use Rattle.gs_chars.proofs.TruthsAndLists.{and_first, and_second, equal_bytes, same_bytes}
 use Rattle.gs_ident.specs.Elements.{Elements, first_qualifiers}
 use Rattle.gs_links.specs.Choices.{are_first, chosen, chosen_depth, deepest, depth_of, is_candidate, is_chosen, is_prefix, is_same_pair, is_wanted, numbers_from, IsAmong}
 use Rattle.gs_links.specs.declared.link.Link.{Link}
 use Rattle.gs_links.specs.declared.link.Want.{Want}
+use Rattle.gs_ai.proofs.TableLemmas.{empty_from}
 
 -- ---- pairs before others
 
@@ -24,10 +25,12 @@ too_few (a ∷ first) (b ∷ pairs) h = none (is_same_pair a b) (are_first first
     none true t e = e
     none false t e = refl
 
-pub first_more : (first pairs : List Pair) (i : ℕ) (a b : Pair) → slice_get first i ≡ Some a → slice_get pairs i ≡ Some b → is_same_pair a b ≡ true → are_first (take i first) pairs ≡ true → are_first (take (i + 1) first) pairs ≡ true
+pub first_more : (first pairs : List Pair) (i : ℕ) (a b : Pair) → slice_get first i ≡ Some a → slice_get pairs i ≡ Some b
+    → is_same_pair a b ≡ true → are_first (take i first) pairs ≡ true → are_first (take (i + 1) first) pairs ≡ true
 first_more first pairs i a b at other same so_far = let next : i + 1 ≡ suc i = omega arith in rw next (more first pairs i a b at other same so_far)
   where
-    more : (first pairs : List Pair) (i : ℕ) (a b : Pair) → slice_get first i ≡ Some a → slice_get pairs i ≡ Some b → is_same_pair a b ≡ true → are_first (take i first) pairs ≡ true → are_first (take (suc i) first) pairs ≡ true
+    more : (first pairs : List Pair) (i : ℕ) (a b : Pair) → slice_get first i ≡ Some a → slice_get pairs i ≡ Some b
+        → is_same_pair a b ≡ true → are_first (take i first) pairs ≡ true → are_first (take (suc i) first) pairs ≡ true
     more [] pairs i a b at other same so_far = absurd (let g : None ≡ Some a = at in cc)
     more (x ∷ first) [] i a b at other same so_far = absurd (let g : None ≡ Some b = other in cc)
     more (x ∷ first) (y ∷ pairs) zero a b at other same so_far =
@@ -38,14 +41,16 @@ first_more first pairs i a b at other same so_far = let next : i + 1 ≡ suc i =
         let here = and_first (is_same_pair x y) (are_first (take i first) pairs) so_far in
         rw here (more first pairs i a b at other same (and_second (is_same_pair x y) (are_first (take i first) pairs) so_far))
 
-pub first_stops : (first pairs : List Pair) (i : ℕ) (a b : Pair) → slice_get first i ≡ Some a → slice_get pairs i ≡ Some b → is_same_pair a b ≡ false → false ≡ are_first first pairs
+pub first_stops : (first pairs : List Pair) (i : ℕ) (a b : Pair) → slice_get first i ≡ Some a → slice_get pairs i ≡ Some b
+    → is_same_pair a b ≡ false → false ≡ are_first first pairs
 first_stops [] pairs i a b at other differ = absurd (let g : None ≡ Some a = at in cc)
 first_stops (x ∷ first) [] i a b at other differ = refl
 first_stops (x ∷ first) (y ∷ pairs) zero a b at other differ =
     let one : x ≡ a = cc in
     let two : y ≡ b = cc in
     rw (one, two, differ) refl
-first_stops (x ∷ first) (y ∷ pairs) (suc i) a b at other differ = none (is_same_pair x y) (are_first first pairs) (first_stops first pairs i a b at other differ)
+first_stops (x ∷ first) (y ∷ pairs) (suc i) a b at other differ = none (is_same_pair x y) (are_first first pairs)
+    (first_stops first pairs i a b at other differ)
   where
     none : (s t : Bool) → false ≡ t → false ≡ (s && t)
     none true t e = e
@@ -82,11 +87,8 @@ first_taken zero (a ∷ pairs) = refl
 first_taken (suc k) [] = refl
 first_taken (suc k) (a ∷ pairs) = rw (same_itself a) (first_taken k pairs)
 
-empty_from : {X : Type 0} (xs : List X) → is_empty xs ≡ true → xs ≡ []
-empty_from [] h = refl
-empty_from (x ∷ xs) h = absurd (cc)
-
-pub prefix_is : (prefix identity : Elements) → is_prefix prefix identity ≡ true → (k : ℕ) × (k ≤ length identity.qualifiers) × (prefix ≡ first_qualifiers k identity)
+pub prefix_is : (prefix identity : Elements) → is_prefix prefix identity ≡ true
+    → (k : ℕ) × (k ≤ length identity.qualifiers) × (prefix ≡ first_qualifiers k identity)
 unfolding is_prefix
 prefix_is prefix identity h =
     let rest = and_second (is_empty prefix.attributes) _ h in
@@ -106,7 +108,8 @@ is_a_prefix prefix identity k e = rw (e, same_itself identity.key) (first_taken 
 
 -- ---- the key and the qualifiers decide
 
-pub same_candidate : (a b : Elements) (want : Want) (link : Link) → a.key ≡ b.key → a.qualifiers ≡ b.qualifiers → is_candidate a want link ≡ is_candidate b want link
+pub same_candidate : (a b : Elements) (want : Want) (link : Link) → a.key ≡ b.key → a.qualifiers ≡ b.qualifiers
+    → is_candidate a want link ≡ is_candidate b want link
 unfolding is_candidate is_prefix
 same_candidate a b want link key qualifiers = rw (key, qualifiers) refl
 
@@ -114,7 +117,8 @@ pub same_filter : {X : Type 0} (f g : X → Bool) → ((x : X) → f x ≡ g x) 
 same_filter f g each [] = refl
 same_filter f g each (x ∷ xs) = rw (each x, same_filter f g each xs) refl
 
-pub same_depth : (links : List Link) (a b : Elements) (want : Want) → a.key ≡ b.key → a.qualifiers ≡ b.qualifiers → chosen_depth links a want ≡ chosen_depth links b want
+pub same_depth : (links : List Link) (a b : Elements) (want : Want) → a.key ≡ b.key → a.qualifiers ≡ b.qualifiers
+    → chosen_depth links a want ≡ chosen_depth links b want
 same_depth links a b want key qualifiers = ap deepest (same_filter (is_candidate a want) (is_candidate b want) (λ link. same_candidate a b want link key qualifiers) links)
 
 pub same_chosen : (links : List Link) (a b : Elements) (want : Want) → a.key ≡ b.key → a.qualifiers ≡ b.qualifiers → chosen links a want ≡ chosen links b want
@@ -138,7 +142,8 @@ module _ (t : Link → Bool) where
       by true h = let more = le-max_right (depth_of x) (deepest (filter t links)) in omega (arith, h, more)
       by false h = h
 
-  pub depth_below : (links : List Link) (d : ℕ) → ((j : ℕ) (link : Link) → slice_get links j ≡ Some link → t link ≡ true → depth_of link ≤ d) → deepest (filter t links) ≤ d
+  pub depth_below : (links : List Link) (d : ℕ)
+      → ((j : ℕ) (link : Link) → slice_get links j ≡ Some link → t link ≡ true → depth_of link ≤ d) → deepest (filter t links) ≤ d
   depth_below [] d each = omega arith
   depth_below (x ∷ links) d each = by (t x) refl (depth_below links d (λ j link at own. each (suc j) link at own))
     where
@@ -148,7 +153,8 @@ module _ (t : Link → Bool) where
 
   -- ---- numbers
 
-  pub numbers_end : (n : ℕ) (links : List Link) (i : ℕ) (link : Link) → slice_get links i ≡ Some link → numbers_from n t (take (suc i) links) ≡ numbers_from n t (take i links) ++ (if t link then (n + i) ∷ [] else [])
+  pub numbers_end : (n : ℕ) (links : List Link) (i : ℕ) (link : Link) → slice_get links i ≡ Some link
+      → numbers_from n t (take (suc i) links) ≡ numbers_from n t (take i links) ++ (if t link then (n + i) ∷ [] else [])
   numbers_end n [] i link at = absurd (let g : None ≡ Some link = at in cc)
   numbers_end n (x ∷ links) zero link at =
       let same : x ≡ link = cc in
@@ -166,7 +172,8 @@ module _ (t : Link → Bool) where
       rows xs = filter (λ row. t row.1) (enumerate_from (n + 1) xs)
 
       by : (b : Bool) → map (λ row. row.0) (rows (take (suc i) links)) ≡ map (λ row. row.0) (rows (take i links)) ++ (if t link then (n + 1 + i) ∷ [] else [])
-          → map (λ row. row.0) (if b then (n, x) ∷ rows (take (suc i) links) else rows (take (suc i) links)) ≡ map (λ row. row.0) (if b then (n, x) ∷ rows (take i links) else rows (take i links)) ++ (if t link then (n + 1 + i) ∷ [] else [])
+          → map (λ row. row.0) (if b then (n, x) ∷ rows (take (suc i) links) else rows (take (suc i) links)) ≡ map (λ row. row.0)
+          (if b then (n, x) ∷ rows (take i links) else rows (take i links)) ++ (if t link then (n + 1 + i) ∷ [] else [])
       by true h = ap (λ ks. n ∷ ks) h
       by false h = h
 
@@ -199,7 +206,8 @@ module _ (t : Link → Bool) where
   found n [] m h = absurd (let g : None ≡ Some m = h.1 in cc)
   found n (x ∷ links) m h = by (t x) refl h (λ more. found_later n x links m (found (n + 1) links m more))
     where
-      by : (b : Bool) → t x ≡ b → IsAmong (map (λ row. row.0) (if b then (n, x) ∷ filter (λ row. t row.1) (enumerate_from (n + 1) links) else filter (λ row. t row.1) (enumerate_from (n + 1) links))) m
+      by : (b : Bool) → t x ≡ b
+          → IsAmong (map (λ row. row.0) (if b then (n, x) ∷ filter (λ row. t row.1) (enumerate_from (n + 1) links) else filter (λ row. t row.1) (enumerate_from (n + 1) links))) m
           → (IsAmong (numbers_from (n + 1) t links) m → Found n (x ∷ links) m) → Found n (x ∷ links) m
       by true e (zero, at) later =
           let same : n ≡ m = (let g : Some n ≡ Some m = at in cc) in
@@ -210,7 +218,8 @@ module _ (t : Link → Bool) where
 
 -- a candidate hides those with fewer qualifiers
 module _ (links : List Link) (identity : Elements) (want : Want) (i : ℕ) (link : Link) (at : slice_get links i ≡ Some link) where
-  pub deepest_from : IsAmong (chosen links identity want) i → (is_candidate identity want link ≡ true) × ((j : ℕ) (other : Link) → slice_get links j ≡ Some other → is_candidate identity want other ≡ true → depth_of other ≤ depth_of link)
+  pub deepest_from : IsAmong (chosen links identity want) i
+      → (is_candidate identity want link ≡ true) × ((j : ℕ) (other : Link) → slice_get links j ≡ Some other → is_candidate identity want other ≡ true → depth_of other ≤ depth_of link)
   deepest_from h =
       let depth = chosen_depth links identity want in
       let row = found (is_chosen identity want depth) 0 links i h in
@@ -221,7 +230,9 @@ module _ (links : List Link) (identity : Elements) (want : Want) (i : ℕ) (link
       let deep = eqb-true (depth_of link) depth (and_second (is_candidate identity want link) (depth_of link == depth) passed) in
       (candidate, λ j other there mine. (let most = depth_within (is_candidate identity want) links j other there mine in omega (arith, deep, most)))
 
-  pub deepest_is_chosen : is_candidate identity want link ≡ true → ((j : ℕ) (other : Link) → slice_get links j ≡ Some other → is_candidate identity want other ≡ true → depth_of other ≤ depth_of link) → IsAmong (chosen links identity want) i
+  pub deepest_is_chosen : is_candidate identity want link ≡ true
+      → ((j : ℕ) (other : Link) → slice_get links j ≡ Some other → is_candidate identity want other ≡ true → depth_of other ≤ depth_of link)
+      → IsAmong (chosen links identity want) i
   deepest_is_chosen own most =
       let depth = chosen_depth links identity want in
       let low = depth_below (is_candidate identity want) links (depth_of link) most in
@@ -229,7 +240,7 @@ module _ (links : List Link) (identity : Elements) (want : Want) (i : ℕ) (link
       let level : depth_of link ≡ depth = omega (arith, low, high) in
       let same = eq-eqb (depth_of link) depth level in
       let here : 0 + i ≡ i = omega arith in
-      rw here at (among (is_chosen identity want depth) 0 links i link at (and_true (is_candidate identity want link) (depth_of link == depth) own same))
+      rw here at (among (is_chosen identity want depth) 0 links i link at (and_from (is_candidate identity want link) (depth_of link == depth) own same))
 
 pub one_more : (xs ys : List ℕ) (n i : ℕ) → n ≡ length xs → ys ≡ xs ++ i ∷ [] → n + 1 ≡ length ys
 one_more xs ys n i size e = rw (e, length-append xs (i ∷ []), ← size) refl
@@ -238,14 +249,16 @@ candidate_is_prefix : (identity : Elements) (want : Want) (link : Link) → is_c
 unfolding is_candidate
 candidate_is_prefix identity want link h = and_first (is_prefix link.anchor identity) (is_wanted want link.relation) h
 
-by_prefix : (anchor identity : Elements) (depth : ℕ) → length anchor.qualifiers ≡ depth → (k : ℕ) × (k ≤ length identity.qualifiers) × (anchor ≡ first_qualifiers k identity) → anchor ≡ first_qualifiers depth identity
+by_prefix : (anchor identity : Elements) (depth : ℕ) → length anchor.qualifiers ≡ depth
+    → (k : ℕ) × (k ≤ length identity.qualifiers) × (anchor ≡ first_qualifiers k identity) → anchor ≡ first_qualifiers depth identity
 by_prefix anchor identity depth deep (k, few, is) =
     let taken : length anchor.qualifiers ≡ k = rw is (length-take-le k identity.qualifiers few) in
     let level : k ≡ depth = sym taken ∙ deep in
     is ∙ ap (λ n. first_qualifiers n identity) level
 
 -- the anchor of a candidate with that many qualifiers: the identity's key with its first
-pub chosen_anchor : (identity : Elements) (want : Want) (depth : ℕ) (link : Link) → is_chosen identity want depth link ≡ true → link.anchor ≡ first_qualifiers depth identity
+pub chosen_anchor : (identity : Elements) (want : Want) (depth : ℕ) (link : Link) → is_chosen identity want depth link ≡ true
+    → link.anchor ≡ first_qualifiers depth identity
 chosen_anchor identity want depth link passed =
     let candidate = and_first (is_candidate identity want link) (depth_of link == depth) passed in
     let deep = eqb-true (depth_of link) depth (and_second (is_candidate identity want link) (depth_of link == depth) passed) in
@@ -253,7 +266,8 @@ chosen_anchor identity want depth link passed =
 
 -- a candidate has no more qualifiers than the identity
 pub depth_whole : (links : List Link) (identity : Elements) (want : Want) → chosen_depth links identity want ≤ length identity.qualifiers
-depth_whole links identity want = depth_below (is_candidate identity want) links (length identity.qualifiers) (λ j link at own. few link (prefix_is link.anchor identity (candidate_is_prefix identity want link own)))
+depth_whole links identity want = depth_below (is_candidate identity want) links (length identity.qualifiers)
+    (λ j link at own. few link (prefix_is link.anchor identity (candidate_is_prefix identity want link own)))
   where
     few : (link : Link) → (k : ℕ) × (k ≤ length identity.qualifiers) × (link.anchor ≡ first_qualifiers k identity) → depth_of link ≤ length identity.qualifiers
     few link (k, low, is) =

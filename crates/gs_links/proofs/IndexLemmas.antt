@@ -3,10 +3,10 @@ use Rattle.std.proofs.Common.{◌≡◌, ◌≤◌, ◌<◌, ◌⊎◌, ℕ, suc
 use Rattle.std.specs.Prelude.{nat_lt}
 use Rattle.std.specs.List.{enumerate_from}
 use Rattle.std.specs.Option.{option_map_or}
-use Rattle.std.proofs.lemmas.Bool.{cases_lt, eq-eqb, eqb-true}
+use Rattle.std.proofs.lemmas.Bool.{cases_lt, eq-eqb, eqb-true, and_from}
 use Rattle.std.proofs.lemmas.List.{append-nil}
 use Rattle.std.proofs.lemmas.List.Elements.{filter-append}
-use Rattle.gs_chars.proofs.TruthsAndLists.{and_first, and_second, and_true, within, take_next}
+use Rattle.gs_chars.proofs.TruthsAndLists.{and_first, and_second, take_next}
 use Rattle.gs_ident.specs.Elements.{Elements, first_qualifiers}
 use Rattle.gs_links.specs.Choices.{IsAmong, chosen_depth, depth_of, is_candidate, is_chosen, numbers_from, passing}
 use Rattle.gs_links.specs.Index.{IsIndexOf, anchor_number, has_number, listed, with_last}
@@ -14,10 +14,12 @@ use Rattle.gs_links.specs.declared.index.Index.{Index}
 use Rattle.gs_links.specs.declared.link.Link.{Link}
 use Rattle.gs_links.specs.declared.link.Want.{Want}
 use Rattle.gs_links.proofs.ChoiceLemmas.{among, chosen_anchor, depth_below, depth_whole, depth_within, found, get_at, numbers_end, same_filter}
+use Rattle.std.proofs.lemmas.Option.{slice_get_within}
 
 -- ---- of numbers those of links that pass
 
-module _ (links : List Link) (t : Link → Bool) (numbers : List ℕ) (k i : ℕ) (link : Link) (at : slice_get numbers k ≡ Some i) (there : slice_get links i ≡ Some link) where
+module _ (links : List Link) (t : Link → Bool) (numbers : List ℕ) (k i : ℕ) (link : Link) (at : slice_get numbers k ≡ Some i)
+    (there : slice_get links i ≡ Some link) where
   pub passing_more : t link ≡ true → passing links t (take (k + 1) numbers) ≡ passing links t (take k numbers) ++ i ∷ []
   passing_more own = rw (take_next numbers k i at, filter-append (λ j. option_map_or t (slice_get links j) false) (take k numbers) (i ∷ []), there, own) refl
 
@@ -28,7 +30,8 @@ module _ (all : List Link) (t u : Link → Bool) where
   both : Link → Bool
   both link = u link && t link
 
-  passed_from : (links : List Link) (n : ℕ) → ((j : ℕ) → slice_get all (n + j) ≡ slice_get links j) → passing all t (numbers_from n u links) ≡ numbers_from n (λ link. u link && t link) links
+  passed_from : (links : List Link) (n : ℕ) → ((j : ℕ) → slice_get all (n + j) ≡ slice_get links j)
+      → passing all t (numbers_from n u links) ≡ numbers_from n (λ link. u link && t link) links
   passed_from [] n same = refl
   passed_from (x ∷ links) n same = by (u x) (passed_from links (n + 1) later)
     where
@@ -42,12 +45,14 @@ module _ (all : List Link) (t u : Link → Bool) where
       rows f = filter (λ row. f row.1) (enumerate_from (n + 1) links)
 
       kept : (b : Bool) → passing all t (map (λ row. row.0) (rows u)) ≡ map (λ row. row.0) (rows (λ link. u link && t link))
-          → (if b then n ∷ passing all t (map (λ row. row.0) (rows u)) else passing all t (map (λ row. row.0) (rows u))) ≡ map (λ row. row.0) (if b then (n, x) ∷ rows (λ link. u link && t link) else rows (λ link. u link && t link))
+          → (if b then n ∷ passing all t (map (λ row. row.0) (rows u)) else passing all t (map (λ row. row.0) (rows u))) ≡ map
+          (λ row. row.0) (if b then (n, x) ∷ rows (λ link. u link && t link) else rows (λ link. u link && t link))
       kept true rest = ap (λ ks. n ∷ ks) rest
       kept false rest = rest
 
       by : (b : Bool) → passing all t (map (λ row. row.0) (rows u)) ≡ map (λ row. row.0) (rows (λ link. u link && t link))
-          → passing all t (map (λ row. row.0) (if b then (n, x) ∷ rows u else rows u)) ≡ map (λ row. row.0) (if (b && t x) then (n, x) ∷ rows (λ link. u link && t link) else rows (λ link. u link && t link))
+          → passing all t (map (λ row. row.0) (if b then (n, x) ∷ rows u else rows u)) ≡ map (λ row. row.0)
+          (if (b && t x) then (n, x) ∷ rows (λ link. u link && t link) else rows (λ link. u link && t link))
       by false rest = rest
       by true rest = rw here (kept (t x) rest)
 
@@ -64,7 +69,7 @@ pub numbers_within : (t : Link → Bool) (links : List Link) → All (λ i. i < 
 numbers_within t links k d h =
     let row = found t 0 links (get_or (numbers_from 0 t links) k d) (k, get_at (numbers_from 0 t links) k d h) in
     let place = row.2 in
-    let low = within links row.0 row.1 row.3 in
+    let low = slice_get_within links row.0 row.1 row.3 in
     omega (arith, place, low)
 
 numbers_few : (t : Link → Bool) (n : ℕ) (links : List Link) → length (numbers_from n t links) ≤ length links
@@ -84,7 +89,8 @@ module _ (index : Index) (links : List Link) (own : IsIndexOf index links) (numb
   listed_few = rw (is, own number) (numbers_few (has_number number) 0 links)
 
   -- the chosen links with that many qualifiers are all at the number of the prefix with that many
-  pub listed_chosen : (identity : Elements) (want : Want) (depth : ℕ) → number ≡ anchor_number (first_qualifiers depth identity) → passing links (is_chosen identity want depth) numbers ≡ numbers_from 0 (is_chosen identity want depth) links
+  pub listed_chosen : (identity : Elements) (want : Want) (depth : ℕ) → number ≡ anchor_number (first_qualifiers depth identity)
+      → passing links (is_chosen identity want depth) numbers ≡ numbers_from 0 (is_chosen identity want depth) links
   listed_chosen identity want depth e =
       rw (is, own number) (passed links (is_chosen identity want depth) (has_number number) ∙ numbers_same (λ link. has_number number link && is_chosen identity want depth link) (is_chosen identity want depth) each links)
     where
@@ -103,7 +109,8 @@ module _ (index : Index) (links : List Link) (own : IsIndexOf index links) (numb
 
 module _ (links : List Link) (identity : Elements) (want : Want) where
   -- if no candidate has d + 1 qualifiers or more, none has more than d
-  pub no_deeper : (d : ℕ) → chosen_depth links identity want ≤ d + 1 → length (numbers_from 0 (is_chosen identity want (d + 1)) links) ≡ 0 → chosen_depth links identity want ≤ d
+  pub no_deeper : (d : ℕ) → chosen_depth links identity want ≤ d + 1 → length (numbers_from 0 (is_chosen identity want (d + 1)) links) ≡ 0
+      → chosen_depth links identity want ≤ d
   no_deeper d most none = depth_below (is_candidate identity want) links d each
     where
       never : (xs : List ℕ) (i : ℕ) → length xs ≡ 0 → IsAmong xs i → ⊥
@@ -115,20 +122,22 @@ module _ (links : List Link) (identity : Elements) (want : Want) where
         | inl over ↦
             let low = depth_within (is_candidate identity want) links j link at own in
             let level : depth_of link ≡ d + 1 = omega (arith, over, low, most) in
-            let passed = and_true (is_candidate identity want link) (depth_of link == d + 1) own (eq-eqb (depth_of link) (d + 1) level) in
+            let passed = and_from (is_candidate identity want link) (depth_of link == d + 1) own (eq-eqb (depth_of link) (d + 1) level) in
             absurd (never (numbers_from 0 (is_chosen identity want (d + 1)) links) (0 + j) none (among (is_chosen identity want (d + 1)) 0 links j link at passed))
         | inr few ↦ few
       ]
 
   -- the same, if m is the depth of the links chosen among those with more than d
-  pub none_deeper : (d m count : ℕ) → chosen_depth links identity want ≤ m → (m ≡ d + 1) ⊎ (0 < count) → count ≡ length (numbers_from 0 (is_chosen identity want m) links) → count ≤ 0 → chosen_depth links identity want ≤ d
+  pub none_deeper : (d m count : ℕ) → chosen_depth links identity want ≤ m → (m ≡ d + 1) ⊎ (0 < count)
+      → count ≡ length (numbers_from 0 (is_chosen identity want m) links) → count ≤ 0 → chosen_depth links identity want ≤ d
   none_deeper d m count most (inl e) size none =
       let nothing : count ≡ 0 = omega (arith, none) in
       no_deeper d (rw e at most) (sym (rw e at size) ∙ nothing)
   none_deeper d m count most (inr some) size none = absurd (omega (arith, some, none))
 
   -- the depth of the chosen links is the most
-  pub depth_is : (d count : ℕ) → chosen_depth links identity want ≤ d → (d ≡ 0) ⊎ (0 < count) → count ≡ length (numbers_from 0 (is_chosen identity want d) links) → d ≡ chosen_depth links identity want
+  pub depth_is : (d count : ℕ) → chosen_depth links identity want ≤ d → (d ≡ 0) ⊎ (0 < count)
+      → count ≡ length (numbers_from 0 (is_chosen identity want d) links) → d ≡ chosen_depth links identity want
   depth_is d count most (inl e) size = omega (arith, most, e)
   depth_is d count most (inr some) size =
       let numbers = numbers_from 0 (is_chosen identity want d) links in
@@ -140,7 +149,8 @@ module _ (links : List Link) (identity : Elements) (want : Want) where
       omega (arith, most, deep, low)
 
 -- no candidate has more qualifiers than the identity
-pub none_beyond : (links : List Link) (identity : Elements) (want : Want) (d : ℕ) → false ≡ nat_lt d (length identity.qualifiers) → chosen_depth links identity want ≤ d
+pub none_beyond : (links : List Link) (identity : Elements) (want : Want) (d : ℕ) → false ≡ nat_lt d (length identity.qualifiers)
+    → chosen_depth links identity want ≤ d
 none_beyond links identity want d h = elim (cases_lt d (length identity.qualifiers)) [
   | inl there ↦ absurd (let t = lt→ltb d (length identity.qualifiers) there in let g = rw (sym h) at t in g)
   | inr low ↦ let most = depth_whole links identity want in omega (arith, low, most)
@@ -148,7 +158,9 @@ none_beyond links identity want d h = elim (cases_lt d (length identity.qualifie
 
 -- ---- an index of more links
 
-pub index_more : (old new : Index) (links : List Link) (i : ℕ) (link : Link) (m : ℕ) → slice_get links i ≡ Some link → m ≡ anchor_number link.anchor → IsIndexOf old (take i links) → ((n : ℕ) → listed new n ≡ with_last (listed old n) m i n) → IsIndexOf new (take (i + 1) links)
+pub index_more : (old new : Index) (links : List Link) (i : ℕ) (link : Link) (m : ℕ) → slice_get links i ≡ Some link
+    → m ≡ anchor_number link.anchor → IsIndexOf old (take i links) → ((n : ℕ) → listed new n ≡ with_last (listed old n) m i n)
+    → IsIndexOf new (take (i + 1) links)
 index_more old new links i link m at e so_far own n =
     let next : i + 1 ≡ suc i = omega arith in
     rw (next, own n, so_far n, numbers_end (has_number n) 0 links i link at, ← e) (by (m == n) (numbers_from 0 (has_number n) (take i links)))

@@ -4,15 +4,16 @@ use Rattle.std.specs.Prelude.{bit_xor, bytes_eq, fold, slice_index}
 use Rattle.std.specs.Char.{to_ascii_lowercase}
 use Rattle.std.specs.List.{list_any}
 use Rattle.std.specs.Option.{option_map_or}
-use Rattle.std.proofs.lemmas.Bool.{cases_lt, eqb-true}
+use Rattle.std.proofs.lemmas.Bool.{cases_lt, eqb-true, false_from_ne_true}
 use Rattle.std.proofs.lemmas.List.{length-append, length-take-le, map-append, take_all, take_more}
-use Rattle.gs_chars.proofs.TruthsAndLists.{and_first, and_second, equal_bytes, false_from, get_of_take, within}
+use Rattle.gs_chars.proofs.TruthsAndLists.{and_first, and_second, equal_bytes, get_of_take}
 use Rattle.gs_links.specs.Choices.{passing}
 use Rattle.gs_links.specs.Index.{hash_with}
 use Rattle.gs_links.specs.Languages.{is_any, is_cut, is_in_range, lowered, matches, narrowed, some_or, tags_of, NoneBefore, SomeAt}
 use Rattle.gs_links.specs.Marks.{IsLeast, IsMarked, place_of}
 use Rattle.gs_links.specs.declared.link.Link.{Link}
 use Rattle.gs_links.proofs.IndexLemmas.{passing_less, passing_more}
+use Rattle.std.proofs.lemmas.Option.{slice_get_within}
 
 -- ---- hashes
 
@@ -20,7 +21,9 @@ fold_more : {S X : Type 0} (f : S → X → S) (s : S) (xs : List X) (x : X) →
 fold_more f s [] x = refl
 fold_more f s (y ∷ xs) x = fold_more f (f s y) xs x
 
-pub hash_more : (text : List ℕ) (i c hash new start : ℕ) → i < length text → c ≡ get_or text i 0 → hash ≡ hash_with start (lowered (take i text)) → new ≡ bit_xor hash (to_ascii_lowercase c) * 1099511628211 % 2 ^ 64 → new ≡ hash_with start (lowered (take (i + 1) text))
+pub hash_more : (text : List ℕ) (i c hash new start : ℕ) → i < length text → c ≡ get_or text i 0
+    → hash ≡ hash_with start (lowered (take i text)) → new ≡ bit_xor hash (to_ascii_lowercase c) * 1099511628211 % 2 ^ 64
+    → new ≡ hash_with start (lowered (take (i + 1) text))
 hash_more text i c hash new start h at so_far own =
     rw (own, so_far, at, take_more text i 0 h, map-append to_ascii_lowercase (take i text) (get_or text i 0 ∷ []))
     (sym (fold_more (λ h c. bit_xor h c * 1099511628211 % 2 ^ 64) start (lowered (take i text)) (to_ascii_lowercase (get_or text i 0))))
@@ -33,7 +36,9 @@ taken_at (y ∷ xs) zero j x h e = absurd (omega arith)
 taken_at (y ∷ xs) (suc i) zero x h e = e
 taken_at (y ∷ xs) (suc i) (suc j) x h e = taken_at xs i j x (omega arith) e
 
-pub marked_more : (old new : List ℕ) (ranges : List (List ℕ)) (k : ℕ) (range : List ℕ) → slice_get ranges k ≡ Some range → ((p : ℕ) → slice_index new p ≤ slice_index old p) → slice_index new (place_of range) ≤ k → IsMarked old (take k ranges) → IsMarked new (take (k + 1) ranges)
+pub marked_more : (old new : List ℕ) (ranges : List (List ℕ)) (k : ℕ) (range : List ℕ) → slice_get ranges k ≡ Some range
+    → ((p : ℕ) → slice_index new p ≤ slice_index old p) → slice_index new (place_of range) ≤ k → IsMarked old (take k ranges)
+    → IsMarked new (take (k + 1) ranges)
 marked_more old new ranges k range at lower put so_far j other there = elim (cases_lt j k) [
   | inl below ↦
       let own = get_of_take ranges (k + 1) j other there in
@@ -48,7 +53,8 @@ marked_more old new ranges k range at lower put so_far j other there = elim (cas
       rw one (omega (arith, put, over))
 ]
 
-pub put_place : (marks range : List ℕ) (hash k : ℕ) → hash ≡ hash_with 14695981039346656037 (lowered range) → slice_index marks (hash % 65536) ≤ k → slice_index marks (place_of range) ≤ k
+pub put_place : (marks range : List ℕ) (hash k : ℕ) → hash ≡ hash_with 14695981039346656037 (lowered range)
+    → slice_index marks (hash % 65536) ≤ k → slice_index marks (place_of range) ≤ k
 unfolding place_of
 put_place marks range hash k e h = rw e at h
 
@@ -61,7 +67,9 @@ cut_at [] i h e = absurd (omega arith)
 cut_at (c ∷ tag) zero h e = eqb-true c 45 e
 cut_at (c ∷ tag) (suc i) h e = cut_at tag i (omega arith) e
 
-pub least_more : (marks tag : List ℕ) (i c hash least less : ℕ) → i < length tag → c ≡ get_or tag i 0 → hash ≡ hash_with 14695981039346656037 (lowered (take i tag)) → less ≤ least → (c ≡ 45 → less ≤ slice_index marks (hash % 65536)) → IsLeastBefore marks tag i least → IsLeastBefore marks tag (i + 1) less
+pub least_more : (marks tag : List ℕ) (i c hash least less : ℕ) → i < length tag → c ≡ get_or tag i 0
+    → hash ≡ hash_with 14695981039346656037 (lowered (take i tag)) → less ≤ least → (c ≡ 45 → less ≤ slice_index marks (hash % 65536))
+    → IsLeastBefore marks tag i least → IsLeastBefore marks tag (i + 1) less
 unfolding place_of
 least_more marks tag i c hash least less h at hashed low hyphen so_far n within cut = elim (cases_lt n i) [
   | inl below ↦ let before = so_far n below cut in omega (arith, before, low)
@@ -72,7 +80,9 @@ least_more marks tag i c hash least less h at hashed low hyphen so_far n within 
       rw (same, ← hashed) mark
 ]
 
-pub least_whole : (marks tag : List ℕ) (i hash least less : ℕ) → length tag ≤ i → hash ≡ hash_with 14695981039346656037 (lowered (take i tag)) → less ≤ least → less ≤ slice_index marks (hash % 65536) → IsLeastBefore marks tag i least → IsLeast marks tag less
+pub least_whole : (marks tag : List ℕ) (i hash least less : ℕ) → length tag ≤ i
+    → hash ≡ hash_with 14695981039346656037 (lowered (take i tag)) → less ≤ least → less ≤ slice_index marks (hash % 65536)
+    → IsLeastBefore marks tag i least → IsLeast marks tag less
 unfolding place_of
 least_whole marks tag i hash least less all hashed low mark so_far n cut = elim (cases_lt n i) [
   | inl below ↦ let before = so_far n below cut in omega (arith, before, low)
@@ -81,7 +91,10 @@ least_whole marks tag i hash least less all hashed low mark so_far n cut = elim 
       rw (take_all n tag (omega (arith, over, all)), ← whole) mark
 ]
 
-pub least_of_more : (marks : List ℕ) (tags : List (List ℕ)) (i : ℕ) (tag : List ℕ) (least own less : ℕ) → slice_get tags i ≡ Some tag → less ≤ least → less ≤ own → IsLeast marks tag own → ((t : ℕ) (other : List ℕ) → slice_get (take i tags) t ≡ Some other → IsLeast marks other least) → (t : ℕ) (other : List ℕ) → slice_get (take (i + 1) tags) t ≡ Some other → IsLeast marks other less
+pub least_of_more : (marks : List ℕ) (tags : List (List ℕ)) (i : ℕ) (tag : List ℕ) (least own less : ℕ) → slice_get tags i ≡ Some tag
+    → less ≤ least → less ≤ own → IsLeast marks tag own
+    → ((t : ℕ) (other : List ℕ) → slice_get (take i tags) t ≡ Some other → IsLeast marks other least) → (t : ℕ) (other : List ℕ)
+    → slice_get (take (i + 1) tags) t ≡ Some other → IsLeast marks other less
 least_of_more marks tags i tag least own less at low lower mine so_far t other there n cut =
     let place = get_of_take tags (i + 1) t other there in
     elim (cases_lt t i) [
@@ -114,7 +127,8 @@ other_first : (a b : Bool) → a ≡ false → (a || b) ≡ true → b ≡ true
 other_first true b e h = absurd (let g : true ≡ false = e in cc)
 other_first false b e h = h
 
-module _ (marks : List ℕ) (ranges tags : List (List ℕ)) (link : Link) (from : ℕ) (marked : IsMarked marks ranges) (is : tags ≡ tags_of link) (least : (t : ℕ) (tag : List ℕ) → slice_get tags t ≡ Some tag → IsLeast marks tag from) where
+module _ (marks : List ℕ) (ranges tags : List (List ℕ)) (link : Link) (from : ℕ) (marked : IsMarked marks ranges) (is : tags ≡ tags_of link)
+    (least : (t : ℕ) (tag : List ℕ) → slice_get tags t ≡ Some tag → IsLeast marks tag from) where
   in_range_from : (k : ℕ) (range : List ℕ) → slice_get ranges k ≡ Some range → Passing (is_in_range range) tags → from ≤ k
   unfolding place_of
   in_range_from k range at (t, tag, there, own) =
@@ -130,7 +144,7 @@ module _ (marks : List ℕ) (ranges tags : List (List ℕ)) (link : Link) (from 
   -- the link does not match a range before the least
   pub none_before : (k : ℕ) (range : List ℕ) → is_any range ≡ false → slice_get ranges k ≡ Some range → k < from → matches range link ≡ false
   unfolding matches
-  none_before k range other at before = false_from (is_any range || list_any (is_in_range range) (tags_of link)) (λ h.
+  none_before k range other at before = false_from_ne_true (is_any range || list_any (is_in_range range) (tags_of link)) (λ h.
       (let some = other_first (is_any range) (list_any (is_in_range range) (tags_of link)) other h in
       let mine : list_any (is_in_range range) tags ≡ true = rw is some in
       let low = in_range_from k range at (some_passes (is_in_range range) tags mine) in
@@ -138,7 +152,10 @@ module _ (marks : List ℕ) (ranges tags : List (List ℕ)) (link : Link) (from 
 
 -- ---- the first range that a link of numbers matches
 
-module _ (links : List Link) (numbers : List ℕ) (i n : ℕ) (link : Link) (at : slice_get numbers i ≡ Some n) (there : slice_get links n ≡ Some link) (ranges : List (List ℕ)) (from first less : ℕ) (low : less ≤ first) (behind : (k : ℕ) (range : List ℕ) → from ≤ k → k < less → slice_get ranges k ≡ Some range → matches range link ≡ false) (ahead : (k : ℕ) (range : List ℕ) → slice_get ranges k ≡ Some range → k < from → matches range link ≡ false) where
+module _ (links : List Link) (numbers : List ℕ) (i n : ℕ) (link : Link) (at : slice_get numbers i ≡ Some n)
+    (there : slice_get links n ≡ Some link) (ranges : List (List ℕ)) (from first less : ℕ) (low : less ≤ first)
+    (behind : (k : ℕ) (range : List ℕ) → from ≤ k → k < less → slice_get ranges k ≡ Some range → matches range link ≡ false)
+    (ahead : (k : ℕ) (range : List ℕ) → slice_get ranges k ≡ Some range → k < from → matches range link ≡ false) where
   pub none_more : NoneBefore links (take i numbers) ranges first → NoneBefore links (take (i + 1) numbers) ranges less
   none_more so_far k range below own = passing_less links (matches range) numbers i n link at there (elim (cases_lt k from) [
     | inl front ↦ ahead k range own front
@@ -152,7 +169,8 @@ module _ (links : List Link) (numbers : List ℕ) (i n : ℕ) (link : Link) (at 
       by true e = rw (passing_more links (matches range) numbers i n link at there e, length-append (passing links (matches range) (take i numbers)) (n ∷ [])) (omega arith)
       by false e = rw (passing_less links (matches range) numbers i n link at there e) h
 
-  pub some_more : (less < first → (range : List ℕ) → slice_get ranges less ≡ Some range → matches range link ≡ true) → SomeAt links (take i numbers) ranges first → SomeAt links (take (i + 1) numbers) ranges less
+  pub some_more : (less < first → (range : List ℕ) → slice_get ranges less ≡ Some range → matches range link ≡ true)
+      → SomeAt links (take i numbers) ranges first → SomeAt links (take (i + 1) numbers) ranges less
   some_more found so_far range own = elim (cases_lt less first) [
     | inl lower ↦
         rw (passing_more links (matches range) numbers i n link at there (found lower range own), length-append (passing links (matches range) (take i numbers)) (n ∷ [])) (omega arith)
@@ -172,7 +190,8 @@ some_stay (n ∷ numbers) others h = omega arith
 -- of some numbers some stay
 pub narrowed_some : (links : List Link) (numbers : List ℕ) (ranges : List (List ℕ)) → 0 < length numbers → 0 < length (narrowed links numbers ranges)
 narrowed_some links numbers [] h = h
-narrowed_some links numbers (range ∷ ranges) h = some_stay (passing links (matches range) numbers) (narrowed links numbers ranges) (narrowed_some links numbers ranges h)
+narrowed_some links numbers (range ∷ ranges) h = some_stay (passing links (matches range) numbers) (narrowed links numbers ranges)
+    (narrowed_some links numbers ranges h)
 
 first_some : (numbers others : List ℕ) → 0 < length numbers → some_or numbers others ≡ numbers
 first_some [] others h = absurd (omega arith)
@@ -183,18 +202,23 @@ first_all links [] ranges = nothing_narrowed links ranges
 first_all links (n ∷ numbers) ranges = refl
 
 -- by the first range with a link
-pub narrowed_at : (links : List Link) (numbers : List ℕ) (ranges : List (List ℕ)) (first : ℕ) (range : List ℕ) → NoneBefore links numbers ranges first → slice_get ranges first ≡ Some range → (0 < length (passing links (matches range) numbers)) ⊎ (passing links (matches range) numbers ≡ numbers) → narrowed links numbers ranges ≡ passing links (matches range) numbers
+pub narrowed_at : (links : List Link) (numbers : List ℕ) (ranges : List (List ℕ)) (first : ℕ) (range : List ℕ)
+    → NoneBefore links numbers ranges first → slice_get ranges first ≡ Some range
+    → (0 < length (passing links (matches range) numbers)) ⊎ (passing links (matches range) numbers ≡ numbers)
+    → narrowed links numbers ranges ≡ passing links (matches range) numbers
 narrowed_at links numbers [] first range none at some = absurd (let g : None ≡ Some range = at in cc)
 narrowed_at links numbers (r ∷ ranges) zero range none at some = let same : r ≡ range = cc in rw same (by some)
   where
-    by : (0 < length (passing links (matches range) numbers)) ⊎ (passing links (matches range) numbers ≡ numbers) → some_or (passing links (matches range) numbers) (narrowed links numbers ranges) ≡ passing links (matches range) numbers
+    by : (0 < length (passing links (matches range) numbers)) ⊎ (passing links (matches range) numbers ≡ numbers)
+        → some_or (passing links (matches range) numbers) (narrowed links numbers ranges) ≡ passing links (matches range) numbers
     by (inl h) = first_some (passing links (matches range) numbers) (narrowed links numbers ranges) h
     by (inr e) = rw e (first_all links numbers ranges)
 narrowed_at links numbers (r ∷ ranges) (suc first) range none at some =
     rw (none 0 r (omega arith) refl) (narrowed_at links numbers ranges first range (λ k other below own. none (suc k) other (omega (arith, below)) own) at some)
 
 -- no range has a link
-pub narrowed_none : (links : List Link) (numbers : List ℕ) (ranges : List (List ℕ)) (first : ℕ) → NoneBefore links numbers ranges first → length ranges ≤ first → narrowed links numbers ranges ≡ numbers
+pub narrowed_none : (links : List Link) (numbers : List ℕ) (ranges : List (List ℕ)) (first : ℕ) → NoneBefore links numbers ranges first
+    → length ranges ≤ first → narrowed links numbers ranges ≡ numbers
 narrowed_none links numbers [] first none all = refl
 narrowed_none links numbers (r ∷ ranges) zero none all = absurd (omega arith)
 narrowed_none links numbers (r ∷ ranges) (suc first) none all =
@@ -205,7 +229,8 @@ unfolding matches
 any_matches range link any = rw any refl
 
 -- each link matches the range of every language
-pub any_passes : (links : List Link) (range : List ℕ) (numbers : List ℕ) → is_any range ≡ true → All (λ i. i < length links) numbers → passing links (matches range) numbers ≡ numbers
+pub any_passes : (links : List Link) (range : List ℕ) (numbers : List ℕ) → is_any range ≡ true → All (λ i. i < length links) numbers
+    → passing links (matches range) numbers ≡ numbers
 any_passes links range [] any each = refl
 any_passes links range (n ∷ numbers) any each =
     rw (passes (there links n (each 0 0 (omega arith)))) (ap (λ ns. n ∷ ns) (any_passes links range numbers any (λ k d h. each (suc k) d (omega (arith, h)))))
@@ -220,7 +245,10 @@ any_passes links range (n ∷ numbers) any each =
 
 -- ---- narrowed by the first range
 
-module _ (links : List Link) (numbers : List ℕ) (ranges : List (List ℕ)) (any first : ℕ) (most : any ≤ length ranges) (star : (range : List ℕ) → slice_get ranges any ≡ Some range → is_any range ≡ true) (low : first ≤ length (take any ranges)) (none : NoneBefore links numbers (take any ranges) first) (some : SomeAt links numbers (take any ranges) first) (each : All (λ i. i < length links) numbers) where
+module _ (links : List Link) (numbers : List ℕ) (ranges : List (List ℕ)) (any first : ℕ) (most : any ≤ length ranges)
+    (star : (range : List ℕ) → slice_get ranges any ≡ Some range → is_any range ≡ true) (low : first ≤ length (take any ranges))
+    (none : NoneBefore links numbers (take any ranges) first) (some : SomeAt links numbers (take any ranges) first)
+    (each : All (λ i. i < length links) numbers) where
   few : first ≤ any
   few = let size = length-take-le any ranges most in omega (arith, size, low)
 

@@ -32,11 +32,13 @@ module _ (table : List AiRow) (text : List ℕ) where
   unfolding anchor_answer
   no_link error h = rw h refl
 
-  pub identity_is : (pairs : List Pair) (identity : Elements) → pairs_answer table text ≡ Ok pairs → identity_of_pairs table pairs ≡ Ok identity → without_attributes identity ≡ anchor_answer table text
+  pub identity_is : (pairs : List Pair) (identity : Elements) → pairs_answer table text ≡ Ok pairs
+      → identity_of_pairs table pairs ≡ Ok identity → without_attributes identity ≡ anchor_answer table text
   unfolding anchor_answer
   identity_is pairs identity h made = rw (h, made) refl
 
-  pub no_identity : (pairs : List Pair) (error : IdentFault) → pairs_answer table text ≡ Ok pairs → identity_of_pairs table pairs ≡ Err error → Err (Ident error) ≡ anchor_answer table text
+  pub no_identity : (pairs : List Pair) (error : IdentFault) → pairs_answer table text ≡ Ok pairs
+      → identity_of_pairs table pairs ≡ Err error → Err (Ident error) ≡ anchor_answer table text
   unfolding anchor_answer
   no_identity pairs error h made = rw (h, made) refl
 
@@ -66,10 +68,12 @@ no_attributes table text anchor h = bare_pairs table (pairs_answer table text) a
 
 -- ---- the additions for each item of a list
 
-pub mapped_more : {X Y : Type 0} (f : X → Y) (first : List Y) (xs : List X) (x : X) (old new : List Y) (y : Y) → old ≡ first ++ map f xs → y ≡ f x → new ≡ old ++ y ∷ [] → new ≡ first ++ map f (xs ++ x ∷ [])
+pub mapped_more : {X Y : Type 0} (f : X → Y) (first : List Y) (xs : List X) (x : X) (old new : List Y) (y : Y) → old ≡ first ++ map f xs
+    → y ≡ f x → new ≡ old ++ y ∷ [] → new ≡ first ++ map f (xs ++ x ∷ [])
 mapped_more f first xs x old new y h own e = rw (e, h, own, map-append) (append_assoc first (map f xs) (f x ∷ []))
 
-pub flat_more : {X Y : Type 0} (f : X → List Y) (first : List Y) (xs : List X) (x : X) (old new : List Y) → old ≡ first ++ flat_map f xs → new ≡ old ++ f x → new ≡ first ++ flat_map f (xs ++ x ∷ [])
+pub flat_more : {X Y : Type 0} (f : X → List Y) (first : List Y) (xs : List X) (x : X) (old new : List Y) → old ≡ first ++ flat_map f xs
+    → new ≡ old ++ f x → new ≡ first ++ flat_map f (xs ++ x ∷ [])
 flat_more f first xs x old new h e = rw (e, h, flat_map-append f xs (x ∷ []), append-nil (f x)) (append_assoc first (flat_map f xs) (f x))
 
 -- ---- concatenated errors
@@ -82,7 +86,8 @@ module _ {A : Type 0} (errors : ℕ → A → List StoreFault) where
   abbrev pub NoneBefore : List A → ℕ → Type 0
   NoneBefore xs i = flat_map row_errors (enumerate_from 0 (take i xs)) ≡ []
 
-  rows_end : (n : ℕ) (xs : List A) (i : ℕ) (x : A) → slice_get xs i ≡ Some x → flat_map row_errors (enumerate_from n (take (suc i) xs)) ≡ flat_map row_errors (enumerate_from n (take i xs)) ++ errors (n + i) x
+  rows_end : (n : ℕ) (xs : List A) (i : ℕ) (x : A) → slice_get xs i ≡ Some x
+      → flat_map row_errors (enumerate_from n (take (suc i) xs)) ≡ flat_map row_errors (enumerate_from n (take i xs)) ++ errors (n + i) x
   rows_end n [] i x at = absurd (let g : None ≡ Some x = at in cc)
   rows_end n (y ∷ xs) zero x at =
       let same : y ≡ x = cc in
@@ -101,7 +106,8 @@ module _ {A : Type 0} (errors : ℕ → A → List StoreFault) where
   pub none_all : (xs : List A) (i : ℕ) → length xs ≤ i → NoneBefore xs i → flat_map row_errors (enumerate_from 0 xs) ≡ []
   none_all xs i all h = rw (take_all i xs all) at h
 
-  split : (n : ℕ) (xs : List A) (i : ℕ) (x : A) → slice_get xs i ≡ Some x → flat_map row_errors (enumerate_from n (take i xs)) ≡ [] → (rest : List StoreFault) × (flat_map row_errors (enumerate_from n xs) ≡ errors (n + i) x ++ rest)
+  split : (n : ℕ) (xs : List A) (i : ℕ) (x : A) → slice_get xs i ≡ Some x → flat_map row_errors (enumerate_from n (take i xs)) ≡ []
+      → (rest : List StoreFault) × (flat_map row_errors (enumerate_from n xs) ≡ errors (n + i) x ++ rest)
   split n [] i x at none = absurd (let g : None ≡ Some x = at in cc)
   split n (y ∷ xs) zero x at none =
       let same : y ≡ x = cc in
@@ -114,20 +120,23 @@ module _ {A : Type 0} (errors : ℕ → A → List StoreFault) where
       rw (parts.0, there) (rest.0, rest.1)
 
   -- the first error is that of an item
-  pub error_at : {X Y : Type 0} (xs : List A) (i : ℕ) (x : A) (a : X) (b : Y) (e : StoreFault) → slice_get xs i ≡ Some x → NoneBefore xs i → OrMemory (Err e) (first_or (errors i x) a) → OrMemory (Err e) (first_or (flat_map row_errors (enumerate_from 0 xs)) b)
+  pub error_at : {X Y : Type 0} (xs : List A) (i : ℕ) (x : A) (a : X) (b : Y) (e : StoreFault) → slice_get xs i ≡ Some x → NoneBefore xs i
+      → OrMemory (Err e) (first_or (errors i x) a) → OrMemory (Err e) (first_or (flat_map row_errors (enumerate_from 0 xs)) b)
   error_at xs i x a b e at none h =
       let parts = split 0 xs i x at none in
       let here : 0 + i ≡ i = omega arith in
       let whole = rw here at parts.1 in
       rw whole (in_front (errors i x) parts.0 a b e h)
     where
-      in_front : {X Y : Type 0} (own rest : List StoreFault) (a : X) (b : Y) (e : StoreFault) → OrMemory (Err e) (first_or own a) → OrMemory (Err e) (first_or (own ++ rest) b)
+      in_front : {X Y : Type 0} (own rest : List StoreFault) (a : X) (b : Y) (e : StoreFault) → OrMemory (Err e) (first_or own a)
+          → OrMemory (Err e) (first_or (own ++ rest) b)
       in_front own rest a b e (inl m) = inl (let same : e ≡ Memory = cc in ap Err same)
       in_front [] rest a b e (inr h) = absurd (let g : Err e ≡ Ok a = h in cc)
       in_front (f ∷ own) rest a b e (inr h) = inr (let same : e ≡ f = cc in ap Err same)
 
   -- the rejection of an item is the first
-  pub rejected_at : {X : Type 0} (xs : List A) (i : ℕ) (x : A) (f : StoreFault) (b : X) → slice_get xs i ≡ Some x → NoneBefore xs i → errors i x ≡ f ∷ [] → Err f ≡ first_or (flat_map row_errors (enumerate_from 0 xs)) b
+  pub rejected_at : {X : Type 0} (xs : List A) (i : ℕ) (x : A) (f : StoreFault) (b : X) → slice_get xs i ≡ Some x → NoneBefore xs i
+      → errors i x ≡ f ∷ [] → Err f ≡ first_or (flat_map row_errors (enumerate_from 0 xs)) b
   rejected_at xs i x f b at none own =
       let parts = split 0 xs i x at none in
       let here : 0 + i ≡ i = omega arith in
@@ -153,29 +162,36 @@ no_error (f ∷ errors) x y h = absurd (let g : Ok y ≡ Err f = h in cc)
 -- ---- a context
 
 module _ (table : List AiRow) (i : ℕ) (context : Context) where
-  pub bad_anchor : (why : AnchorWhy) → Err why ≡ anchor_answer table context.anchor → OrMemory {X = Unit {0}} (Err (BadAnchor i why)) (first_or (context_errors table i context) tt)
+  pub bad_anchor : (why : AnchorWhy) → Err why ≡ anchor_answer table context.anchor → OrMemory {X = Unit {0}} (Err (BadAnchor i why))
+      (first_or (context_errors table i context) tt)
   unfolding context_errors
   bad_anchor why h = rw (← h) (inr refl)
 
-  pub bad_relations : (anchor : Elements) (e : StoreFault) → Ok anchor ≡ anchor_answer table context.anchor → Err e ≡ first_or {X = Unit {0}} (relations_errors i context.relations) tt → OrMemory {X = Unit {0}} (Err e) (first_or (context_errors table i context) tt)
+  pub bad_relations : (anchor : Elements) (e : StoreFault) → Ok anchor ≡ anchor_answer table context.anchor
+      → Err e ≡ first_or {X = Unit {0}} (relations_errors i context.relations) tt → OrMemory {X = Unit {0}} (Err e)
+      (first_or (context_errors table i context) tt)
   unfolding context_errors
   bad_relations anchor e h own = rw (← h) (inr own)
 
-  pub good_context : (anchor : Elements) → Ok anchor ≡ anchor_answer table context.anchor → relations_errors i context.relations ≡ [] → OrMemory {X = Unit {0}} (Ok tt) (first_or (context_errors table i context) tt)
+  pub good_context : (anchor : Elements) → Ok anchor ≡ anchor_answer table context.anchor → relations_errors i context.relations ≡ []
+      → OrMemory {X = Unit {0}} (Ok tt) (first_or (context_errors table i context) tt)
   unfolding context_errors
   good_context anchor h none = rw (← h, none) (inr refl)
 
-pub links_are : (table : List AiRow) (voc : List ℕ) (context : Context) (anchor : Elements) → Ok anchor ≡ anchor_answer table context.anchor → context_links table voc context ≡ flat_map (relation_links voc anchor) context.relations
+pub links_are : (table : List AiRow) (voc : List ℕ) (context : Context) (anchor : Elements) → Ok anchor ≡ anchor_answer table context.anchor
+    → context_links table voc context ≡ flat_map (relation_links voc anchor) context.relations
 unfolding context_links
 links_are table voc context anchor h = rw (← h) refl
 
 -- ---- the store
 
-pub too_many : (table : List AiRow) (voc : List ℕ) (contexts : List Context) → true ≡ nat_lt 65536 (targets_count contexts) → OrMemory {X = List Link} (Err TooMany) (load_answer table voc contexts)
+pub too_many : (table : List AiRow) (voc : List ℕ) (contexts : List Context) → true ≡ nat_lt 65536 (targets_count contexts)
+    → OrMemory {X = List Link} (Err TooMany) (load_answer table voc contexts)
 unfolding load_answer store_errors
 too_many table voc contexts over = rw (← over) (inr refl)
 
-relations_links : (voc : List ℕ) (anchor : Elements) (relations : List Relation) → length (flat_map (relation_links voc anchor) relations) ≡ relations_count relations
+relations_links : (voc : List ℕ) (anchor : Elements) (relations : List Relation)
+    → length (flat_map (relation_links voc anchor) relations) ≡ relations_count relations
 relations_links voc anchor [] = refl
 relations_links voc anchor (relation ∷ relations) =
     let own = length-map relation.targets (link_with anchor (expanded voc relation.name)) in
@@ -185,7 +201,8 @@ relations_links voc anchor (relation ∷ relations) =
     ∙ ap (λ n. length relation.targets + n) rest
     ∙ sym (length-append relation.targets (flat_map (λ (r : Relation). r.targets) relations))
 
-links_by_few : (voc : List ℕ) (relations : List Relation) (answer : Result Elements AnchorWhy) → length (links_by voc relations answer) ≤ relations_count relations
+links_by_few : (voc : List ℕ) (relations : List Relation) (answer : Result Elements AnchorWhy)
+    → length (links_by voc relations answer) ≤ relations_count relations
 links_by_few voc relations (Ok anchor) = let same = relations_links voc anchor relations in omega (arith, same)
 links_by_few voc relations (Err why) = omega arith
 
@@ -219,7 +236,9 @@ module _ (table : List AiRow) (voc : List ℕ) (contexts : List Context) (i : �
     pub none : NoneBefore (context_errors table) contexts i
     pub made : links ≡ flat_map (context_links table voc) (take i contexts)
 
-  pub contexts_rejected : (links : List Link) (context : Context) (e : StoreFault) → Loaded links → slice_get contexts i ≡ Some context → OrMemory {X = Unit {0}} (Err e) (first_or (context_errors table i context) tt) → OrMemory {X = List Link} (Err e) (by_contexts table voc contexts)
+  pub contexts_rejected : (links : List Link) (context : Context) (e : StoreFault) → Loaded links → slice_get contexts i ≡ Some context
+      → OrMemory {X = Unit {0}} (Err e) (first_or (context_errors table i context) tt) → OrMemory {X = List Link} (Err e)
+      (by_contexts table voc contexts)
   contexts_rejected links context e so_far at h = error_at (context_errors table) contexts i context tt (links_of table voc contexts) e at so_far.none h
 
   pub contexts_made : (links : List Link) → Loaded links → length contexts ≤ i → OrMemory {X = List Link} (Ok links) (by_contexts table voc contexts)
@@ -253,7 +272,10 @@ module _ (table : List AiRow) (voc : List ℕ) (contexts : List Context) (few : 
       let high = not_over (targets_count contexts) few in
       rw made (omega (arith, low, high))
 
-pub loaded_more : (table : List AiRow) (voc : List ℕ) (contexts : List Context) (i : ℕ) (links more : List Link) (context : Context) → Loaded table voc contexts i links → slice_get contexts i ≡ Some context → OrMemory {X = Unit {0}} (Ok tt) (first_or (context_errors table i context) tt) → more ≡ links ++ context_links table voc context → Loaded table voc contexts (i + 1) more
+pub loaded_more : (table : List AiRow) (voc : List ℕ) (contexts : List Context) (i : ℕ) (links more : List Link) (context : Context)
+    → Loaded table voc contexts i links → slice_get contexts i ≡ Some context → OrMemory {X = Unit {0}} (Ok tt)
+    (first_or (context_errors table i context) tt) → more ≡ links ++ context_links table voc context → Loaded table voc contexts
+    (i + 1) more
 loaded_more table voc contexts i links more context so_far at own e = record {
   none = none_more (context_errors table) contexts i context at so_far.none (errorless (context_errors table i context) own);
   made = rw (e, so_far.made, take_next contexts i context at, flat_map-append (context_links table voc) (take i contexts) (context ∷ []), append-nil (context_links table voc context)) refl;
@@ -267,6 +289,7 @@ loaded_more table voc contexts i links more context so_far at own e = record {
 pub counted : (contexts : List Context) (context : Context) (i : ℕ) → i ≡ length contexts → i + 1 ≡ length (contexts ++ context ∷ [])
 counted contexts context i e = rw (length-append contexts (context ∷ []), ← e) refl
 
-pub made_kept : (table : List AiRow) (r : Result Elements AnchorWhy) (identity : Elements) → IfOk r (λ anchor. anchor ≡ identity) → IsMadeWith table identity → IfOk r (λ anchor. IsMadeWith table anchor)
+pub made_kept : (table : List AiRow) (r : Result Elements AnchorWhy) (identity : Elements) → IfOk r (λ anchor. anchor ≡ identity)
+    → IsMadeWith table identity → IfOk r (λ anchor. IsMadeWith table anchor)
 made_kept table (Ok anchor) identity same made = rw same made
 made_kept table (Err why) identity same made = tt

@@ -4,7 +4,7 @@ use Rattle.std.specs.Prelude.{Ok, if◌then◌else◌, slice_index}
 use Rattle.std.specs.List.{flat_map, list_all, starts_with}
 use Rattle.std.specs.Str.{IsAscii, is_utf8}
 use Rattle.std.proofs.Common.{ltb-true, true≢false}
-use Rattle.std.proofs.lemmas.Bool.{agree_below, agree_below_at, eqb-true}
+use Rattle.std.proofs.lemmas.Bool.{agree_below, agree_below_at, eqb-true, and_from}
 use Rattle.std.proofs.lemmas.Bool.Decides.{nat_tests}
 use Rattle.std.proofs.lemmas.List.{append-nil}
 use Rattle.std.proofs.lemmas.List.Elements.{All-head, All-tail}
@@ -13,7 +13,7 @@ use Rattle.std.proofs.lemmas.Str.{IsCharBoundary-after_ascii, IsUtf8-append, IsU
 use Rattle.gs_ai.specs.Tables.{KeepsRules}
 use Rattle.gs_ai.specs.declared.pair.Pair.{Pair}
 use Rattle.gs_ai.specs.declared.row.AiRow.{AiRow}
-use Rattle.gs_chars.proofs.TruthsAndLists.{and_first, and_second, and_true}
+use Rattle.gs_chars.proofs.TruthsAndLists.{and_first, and_second}
 use Rattle.gs_chars.specs.Characters.{is_digit}
 use Rattle.gs_dlink.proofs.SpelledPairs.{code_is_digits, of_table, value_bytes}
 use Rattle.gs_ident.specs.Elements.{Elements, pairs_of}
@@ -52,13 +52,13 @@ utf8_from : (text : List ℕ) → list_all is_small text ≡ true → is_utf8 te
 utf8_from text h = is_utf8-from_IsUtf8 text (IsUtf8-from_ascii text (ascii_from text h))
 
 small_append : (a b : List ℕ) → list_all is_small a ≡ true → list_all is_small b ≡ true → list_all is_small (a ++ b) ≡ true
-small_append a b h k = list_all-append is_small a b ∙ and_true (list_all is_small a) (list_all is_small b) h k
+small_append a b h k = list_all-append is_small a b ∙ and_from (list_all is_small a) (list_all is_small b) h k
 
 -- a fact of each byte holds for all
 module _ (f g : ℕ → Bool) (each : (c : ℕ) → f c ≡ true → g c ≡ true) where
   all_of : (text : List ℕ) → list_all f text ≡ true → list_all g text ≡ true
   all_of [] h = refl
-  all_of (c ∷ text) h = and_true (g c) (list_all g text) (each c (and_first (f c) (list_all f text) h)) (all_of text (and_second (f c) (list_all f text) h))
+  all_of (c ∷ text) h = and_from (g c) (list_all g text) (each c (and_first (f c) (list_all f text) h)) (all_of text (and_second (f c) (list_all f text) h))
 
 -- ---- canonical links
 
@@ -86,7 +86,8 @@ module _ (table : List AiRow) (rules : KeepsRules table) where
   steps_small : (pairs : List Pair) → All (IsInOrder table) pairs → list_all is_small (flat_map path_step pairs) ≡ true
   steps_small [] h = refl
   steps_small (pair ∷ pairs) h =
-      small_append (path_step pair) (flat_map path_step pairs) (step_small pair (All-head (IsInOrder table) pair pairs h)) (steps_small pairs (All-tail (IsInOrder table) pair pairs h))
+      small_append (path_step pair) (flat_map path_step pairs) (step_small pair (All-head (IsInOrder table) pair pairs h))
+      (steps_small pairs (All-tail (IsInOrder table) pair pairs h))
 
   pub canonical_utf8 : (anchor : Elements) → anchor.attributes ≡ [] → IsMadeWith table anchor → is_utf8 (canonical_link anchor) ≡ true
   canonical_utf8 anchor none made =
@@ -117,7 +118,8 @@ colon_there (a ∷ b ∷ c ∷ d ∷ rest) h =
 visible_small : (c : ℕ) → is_visible c ≡ true → is_small c ≡ true
 visible_small c h = grind (arith, nat_tests)
 
-by_prefix : (voc name : List ℕ) (b : Bool) → starts_with (λ a b. a == b) name (codes "gs1:") ≡ b → list_all is_visible voc ≡ true → is_utf8 name ≡ true → is_utf8 (if b then voc ++ drop 4 name else name) ≡ true
+by_prefix : (voc name : List ℕ) (b : Bool) → starts_with (λ a b. a == b) name (codes "gs1:") ≡ b → list_all is_visible voc ≡ true
+    → is_utf8 name ≡ true → is_utf8 (if b then voc ++ drop 4 name else name) ≡ true
 by_prefix voc name true e visible h =
     let colon = colon_there name e in
     let whole = IsUtf8-from_is_utf8 name h in
@@ -132,27 +134,35 @@ expanded_utf8 voc name visible h = by_prefix voc name (starts_with (λ a b. a ==
 
 -- ---- links
 
-link_shaped : (anchor : Elements) (relation : List ℕ) (target : Target) → is_utf8 (canonical_link anchor) ≡ true → is_utf8 relation ≡ true → is_target target ≡ true → is_link (link_with anchor relation target) ≡ true
+link_shaped : (anchor : Elements) (relation : List ℕ) (target : Target) → is_utf8 (canonical_link anchor) ≡ true → is_utf8 relation ≡ true
+    → is_target target ≡ true → is_link (link_with anchor relation target) ≡ true
 unfolding is_link
 link_shaped anchor relation target a b c = rw (a, b, c) refl
 
-targets_shaped : (anchor : Elements) (relation : List ℕ) (targets : List Target) → is_utf8 (canonical_link anchor) ≡ true → is_utf8 relation ≡ true → list_all is_target targets ≡ true → list_all is_link (map (link_with anchor relation) targets) ≡ true
+targets_shaped : (anchor : Elements) (relation : List ℕ) (targets : List Target) → is_utf8 (canonical_link anchor) ≡ true
+    → is_utf8 relation ≡ true → list_all is_target targets ≡ true → list_all is_link (map (link_with anchor relation) targets) ≡ true
 targets_shaped anchor relation [] a b h = refl
 targets_shaped anchor relation (target ∷ targets) a b h =
-    and_true (is_link (link_with anchor relation target)) (list_all is_link (map (link_with anchor relation) targets)) (link_shaped anchor relation target a b (and_first (is_target target) (list_all is_target targets) h))
+    and_from (is_link (link_with anchor relation target)) (list_all is_link (map (link_with anchor relation) targets))
+    (link_shaped anchor relation target a b (and_first (is_target target) (list_all is_target targets) h))
     (targets_shaped anchor relation targets a b (and_second (is_target target) (list_all is_target targets) h))
 
-relations_shaped : (voc : List ℕ) (anchor : Elements) (relations : List Relation) → list_all is_visible voc ≡ true → is_utf8 (canonical_link anchor) ≡ true → list_all is_relation relations ≡ true → list_all is_link (flat_map (relation_links voc anchor) relations) ≡ true
+relations_shaped : (voc : List ℕ) (anchor : Elements) (relations : List Relation) → list_all is_visible voc ≡ true
+    → is_utf8 (canonical_link anchor) ≡ true → list_all is_relation relations ≡ true
+    → list_all is_link (flat_map (relation_links voc anchor) relations) ≡ true
 relations_shaped voc anchor [] visible a h = refl
 relations_shaped voc anchor (relation ∷ relations) visible a h =
     let parts = relation_parts relation (and_first (is_relation relation) (list_all is_relation relations) h) in
     let own = targets_shaped anchor (expanded voc relation.name) relation.targets a (expanded_utf8 voc relation.name visible parts.1) parts.2 in
     let rest = relations_shaped voc anchor relations visible a (and_second (is_relation relation) (list_all is_relation relations) h) in
-    list_all-append is_link (relation_links voc anchor relation) (flat_map (relation_links voc anchor) relations) ∙ and_true _ _ own rest
+    list_all-append is_link (relation_links voc anchor relation) (flat_map (relation_links voc anchor) relations) ∙ and_from _ _ own rest
 
-pub context_shaped : (table : List AiRow) (voc : List ℕ) (context : Context) (anchor : Elements) → KeepsRules table → list_all is_visible voc ≡ true → is_context context ≡ true → Ok anchor ≡ anchor_answer table context.anchor → anchor.attributes ≡ [] → IsMadeWith table anchor → list_all is_link (context_links table voc context) ≡ true
+pub context_shaped : (table : List AiRow) (voc : List ℕ) (context : Context) (anchor : Elements) → KeepsRules table
+    → list_all is_visible voc ≡ true → is_context context ≡ true → Ok anchor ≡ anchor_answer table context.anchor → anchor.attributes ≡ []
+    → IsMadeWith table anchor → list_all is_link (context_links table voc context) ≡ true
 context_shaped table voc context anchor rules visible shape h none made =
     rw (links_are table voc context anchor h) (relations_shaped voc anchor context.relations visible (canonical_utf8 table rules anchor none made) (context_parts context shape).2)
 
-pub more_shaped : (links more new : List Link) → list_all is_link links ≡ true → list_all is_link more ≡ true → new ≡ links ++ more → list_all is_link new ≡ true
-more_shaped links more new h k e = rw e (list_all-append is_link links more ∙ and_true (list_all is_link links) (list_all is_link more) h k)
+pub more_shaped : (links more new : List Link) → list_all is_link links ≡ true → list_all is_link more ≡ true → new ≡ links ++ more
+    → list_all is_link new ≡ true
+more_shaped links more new h k e = rw e (list_all-append is_link links more ∙ and_from (list_all is_link links) (list_all is_link more) h k)

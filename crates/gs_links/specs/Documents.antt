@@ -38,7 +38,7 @@ pub record AreNamesOf (links : List Link) (names : List (List ℕ)) : Type 0 whe
 abbrev pub targets_of : List Link → List ℕ → List Target
 targets_of links name = map (λ link. link.target) (filter (λ link. bytes_eq link.relation name) links)
 
--- trusted, own: a relation with its targets
+-- trusted, own: the relation `name` with its targets
 abbrev pub relation_of : List Link → List ℕ → Relation
 relation_of links name = record { name = name; targets = targets_of links name }
 

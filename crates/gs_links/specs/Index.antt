@@ -22,7 +22,7 @@ number_with n pair = hash_with (hash_with n pair.code) pair.value
 abbrev pub anchor_number : Elements → ℕ
 anchor_number anchor = fold number_with (number_with 14695981039346656037 anchor.key) anchor.qualifiers
 
--- the link's anchor has the number
+-- holds if the link's anchor has the number
 abbrev pub has_number : ℕ → Link → Bool
 has_number n link = anchor_number link.anchor == n
 
@@ -30,7 +30,7 @@ has_number n link = anchor_number link.anchor == n
 abbrev pub listed : Index → ℕ → List ℕ
 listed index n = option_map_or (λ list. list.items) (get nat_eq index.lists n) []
 
--- the index has at each number those of the links whose anchors have it, ascending, and no others
+-- holds if the index has at each number those of the links whose anchors have it, ascending, and no others
 abbrev pub IsIndexOf : Index → List Link → Type 0
 IsIndexOf index links = (n : ℕ) → listed index n ≡ numbers_from 0 (has_number n) links
 

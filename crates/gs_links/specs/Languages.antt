@@ -10,7 +10,7 @@ use Rattle.gs_linkset.specs.declared.link_types.AttrValue.TheVariants.{One, Many
 use Rattle.gs_links.specs.Choices.{passing}
 use Rattle.gs_links.specs.declared.link.Link.{Link}
 
--- trusted, RFC 9264, section 4.2.4.1: a value of `hreflang` is a list of language tags
+-- trusted, RFC 9264, section 4.2.4.1: the language tags of a value of `hreflang`, which is a list
 abbrev pub texts_of : AttrValue → List (List ℕ)
 texts_of (Many texts) = texts
 texts_of (One text) = []
@@ -25,24 +25,25 @@ tags_among (attr ∷ attrs) = if bytes_eq attr.name (codes "hreflang") then text
 abbrev pub tags_of : Link → List (List ℕ)
 tags_of link = tags_among link.target.attrs
 
--- trusted, RFC 4647, section 2: tags and ranges are compared without regard to the case of ASCII letters
+-- trusted, RFC 4647, section 2: the text in lower case, since tags and ranges are compared without regard to the case of ASCII
+-- letters
 abbrev pub lowered : List ℕ → List ℕ
 lowered text = map to_ascii_lowercase text
 
--- trusted, RFC 4647, section 3.3.1: nothing or a hyphen comes next
+-- trusted, RFC 4647, section 3.3.1: holds if the text is empty or begins with a hyphen
 abbrev pub is_cut : List ℕ → Bool
 is_cut [] = true
 is_cut (c ∷ rest) = c == 45
 
--- trusted, RFC 4647, section 3.3.1: holds if the tag begins with the range, and nothing or a hyphen follows
+-- trusted, RFC 4647, section 3.3.1: holds if `tag` begins with `range`, case-insensitively, and nothing or a hyphen follows
 abbrev pub is_in_range : List ℕ → List ℕ → Bool
 is_in_range range tag = bytes_eq (lowered (take (length range) tag)) (lowered range) && is_cut (drop (length range) tag)
 
--- trusted, RFC 4647, section 2.1: the range `*` is that of every language
+-- trusted, RFC 4647, section 2.1: holds if `range` is `*`, that of every language
 abbrev pub is_any : List ℕ → Bool
 is_any range = bytes_eq range (codes "*")
 
--- trusted, own: a link matches the range `*`, and a range that one of its tags is in
+-- trusted, own: holds if `range` is `*`, or one of the tags of `link` is in it
 unfoldable pub matches : List ℕ → Link → Bool
 matches range link = is_any range || list_any (is_in_range range) (tags_of link)
 
@@ -58,30 +59,30 @@ narrowed links numbers (range ∷ ranges) = some_or (passing links (matches rang
 
 -- ---- the first range that decides
 
--- no range before the place is that of every language
+-- holds if no range before the place is that of every language
 abbrev pub NoneIsAny : List (List ℕ) → ℕ → Type 0
 NoneIsAny ranges n = (k : ℕ) (range : List ℕ) → k < n → slice_get ranges k ≡ Some range → is_any range ≡ false
 
--- the range at the place, if there is one, is that of every language
+-- holds if the range at the place, if there is one, is that of every language
 abbrev pub IsAnyAt : List (List ℕ) → ℕ → Type 0
 IsAnyAt ranges n = (range : List ℕ) → slice_get ranges n ≡ Some range → is_any range ≡ true
 
--- no range is that of every language
+-- holds if no range is that of every language
 abbrev pub NameLanguages : List (List ℕ) → Type 0
 NameLanguages ranges = (k : ℕ) (range : List ℕ) → slice_get ranges k ≡ Some range → is_any range ≡ false
 
--- the link matches no range from a place to another
+-- holds if the link matches no range from a place to another
 abbrev pub MatchesNone : List (List ℕ) → Link → ℕ → ℕ → Type 0
 MatchesNone ranges link from n = (k : ℕ) (range : List ℕ) → from ≤ k → k < n → slice_get ranges k ≡ Some range → matches range link ≡ false
 
--- the link matches the range at the place, if there is one
+-- holds if the link matches the range at the place, if there is one
 abbrev pub MatchesAt : List (List ℕ) → Link → ℕ → Type 0
 MatchesAt ranges link n = (range : List ℕ) → slice_get ranges n ≡ Some range → matches range link ≡ true
 
--- none of the links of the numbers matches a range before the place
+-- holds if none of the links of the numbers matches a range before the place
 abbrev pub NoneBefore : List Link → List ℕ → List (List ℕ) → ℕ → Type 0
 NoneBefore links numbers ranges n = (k : ℕ) (range : List ℕ) → k < n → slice_get ranges k ≡ Some range → passing links (matches range) numbers ≡ []
 
--- one of the links of the numbers matches the range at the place, if there is one
+-- holds if one of the links of the numbers matches the range at the place, if there is one
 abbrev pub SomeAt : List Link → List ℕ → List (List ℕ) → ℕ → Type 0
 SomeAt links numbers ranges n = (range : List ℕ) → slice_get ranges n ≡ Some range → 0 < length (passing links (matches range) numbers)

@@ -8,10 +8,10 @@ use Rattle.gs_linkset.specs.declared.link_types.Relation.{Relation}
 use Rattle.gs_links.specs.declared.error.StoreFault.{StoreFault}
 use Rattle.gs_links.specs.Loads.{context_errors, OrMemory}
 
--- how many targets the relations, and the contexts have
+-- the number of targets of the relations, and of the contexts
 abbrev pub relations_count : List Relation → ℕ
 relations_count relations = length (flat_map (λ relation. relation.targets) relations)
 
--- an error is the first rejection of a context, or out of memory
+-- holds if an error is the first rejection of a context, or out of memory
 abbrev pub IsRejection : List AiRow → ℕ → Context → StoreFault → Type 0
 IsRejection table i context error = OrMemory {X = Unit {0}} (Err error) (first_or (context_errors table i context) (tt {0}))

@@ -1,4 +1,4 @@
--- How the links of a linkset are loaded: the anchors are GS1 Digital Links (GS1 Digital Link URI Syntax, section 3) of a key
+-- How the links of a linkset are loaded. The anchors are GS1 Digital Links (GS1 Digital Link URI Syntax, section 3) of a key
 -- and its qualifiers. The limits and the order of the rejections are this project's own.
 use Rattle.std.specs.Prelude.{ℕ, Bool, not, ◌&&◌, ◌==◌, nat_le, nat_lt, if◌then◌else◌, List, [], ◌∷◌, ◌++◌, map, length, drop, codes, position, Option, Result, Ok, Err}
 use Rattle.std.specs.List.{enumerate_from, flat_map, list_all, starts_with}
@@ -26,7 +26,7 @@ use Rattle.gs_links.specs.declared.link.Link.{Link}
 
 -- ---- anchors
 
--- trusted, own: the text begins with a slash
+-- trusted, own: holds if `text` begins with a slash
 abbrev pub is_path : List ℕ → Bool
 is_path text = starts_with (λ a b. a == b) text (codes "/")
 
@@ -35,11 +35,11 @@ is_path text = starts_with (λ a b. a == b) text (codes "/")
 unfoldable pub pairs_answer : List AiRow → List ℕ → Result (List Pair) LinkFault
 pairs_answer table text = if is_path text then target_answer table 0 text else link_answer table text
 
--- trusted, own: an anchor has no attributes
+-- trusted, own: the identity if it has no attributes, which no anchor has, otherwise the error
 abbrev pub without_attributes : Elements → Result Elements AnchorWhy
 without_attributes identity = if is_empty identity.attributes then Ok identity else Err Attributes
 
--- trusted, own: an identity without attributes, or why it is not an anchor
+-- trusted, own: the identity without attributes, or why it is not an anchor
 abbrev pub by_identity : Result Elements IdentFault → Result Elements AnchorWhy
 by_identity (Ok identity) = without_attributes identity
 by_identity (Err error) = Err (Ident error)
@@ -56,7 +56,7 @@ anchor_answer table text = by_pairs table (pairs_answer table text)
 
 -- ---- rejections
 
--- trusted, own: a reference is 1 to 2,048 visible characters
+-- trusted, own: holds if `text` is 1 to 2,048 visible characters
 unfoldable pub is_reference : List ℕ → Bool
 is_reference text = nat_le 1 (length text) && (nat_le (length text) 2048 && list_all is_visible text)
 
@@ -81,31 +81,32 @@ anchor_errors i (Err why) = BadAnchor i why ∷ []
 unfoldable pub context_errors : List AiRow → ℕ → Context → List StoreFault
 context_errors table i context = anchor_errors i (anchor_answer table context.anchor) ++ relations_errors i context.relations
 
--- trusted, own: how many targets all contexts have
+-- trusted, own: the number of targets of all contexts
 abbrev pub targets_count : List Context → ℕ
 targets_count contexts = length (flat_map (λ context. flat_map (λ relation. relation.targets) context.relations) contexts)
 
--- trusted, own: too many targets are an error
+-- trusted, own: the list of the error of too many targets, if there are too many
 abbrev pub count_errors : List Context → List StoreFault
 count_errors contexts = if nat_lt most_links (targets_count contexts) then TooMany ∷ [] else []
 
--- trusted, own: all rejections in the order of the reports
+-- trusted, own: the list of all rejections in the order of the reports
 unfoldable pub store_errors : List AiRow → List Context → List StoreFault
 store_errors table contexts =
     count_errors contexts ++ flat_map (λ row. context_errors table row.0 row.1) (enumerate_from 0 contexts)
 
 -- ---- links
 
--- trusted, own: a relation that begins with `gs1:` stands for the vocabulary and the rest after this prefix
+-- trusted, own: the relation `name`, in which a first `gs1:` is replaced by the vocabulary `voc`
 unfoldable pub expanded : List ℕ → List ℕ → List ℕ
 expanded voc name = if starts_with (λ a b. a == b) name (codes "gs1:") then voc ++ drop 4 name else name
 
--- trusted, own: neither `gs1:` nor the vocabulary begins with the other, so an expanded relation does not begin with `gs1:`
+-- trusted, own: Holds if neither `gs1:` nor the vocabulary `voc` begins with the other. Then an expanded relation does not
+-- begin with `gs1:`.
 unfoldable pub keeps_names : List ℕ → Bool
 keeps_names voc =
     not (starts_with (λ a b. a == b) voc (codes "gs1:")) && not (starts_with (λ a b. a == b) (codes "gs1:") voc)
 
--- trusted, own: a link of an identity by a relation to a target
+-- trusted, own: the link of an identity by `relation` to `target`
 abbrev pub link_with : Elements → List ℕ → Target → Link
 link_with anchor relation target = record { anchor = anchor; relation = relation; target = target }
 
@@ -126,13 +127,13 @@ context_links table voc context = links_by voc context.relations (anchor_answer 
 unfoldable pub links_of : List AiRow → List ℕ → List Context → List Link
 links_of table voc contexts = flat_map (context_links table voc) contexts
 
--- trusted, own: the context has a link
+-- trusted, own: holds if `context` has a link
 abbrev pub has_link : Context → Bool
 has_link context = not (is_empty (links_of_context context))
 
 -- ---- the answer
 
--- trusted, own: the answer, or out of memory
+-- trusted, own: holds if `result` is `answer` or the error `Memory`
 abbrev pub OrMemory : {X : Type 0} → Result X StoreFault → Result X StoreFault → Type 0
 OrMemory result answer = OrError Memory result answer
 

@@ -7,10 +7,10 @@ use Rattle.gs_links.specs.Languages.{is_cut, lowered}
 unfoldable pub place_of : List ℕ → ℕ
 place_of text = hash_with 14695981039346656037 (lowered text) % 65536
 
--- at the place of each range is its number, or a lower one
+-- holds if at the place of each range is its number, or a lower one
 abbrev pub IsMarked : List ℕ → List (List ℕ) → Type 0
 IsMarked marks ranges = (k : ℕ) (range : List ℕ) → slice_get ranges k ≡ Some range → slice_index marks (place_of range) ≤ k
 
--- a number is at most the mark at the place of each prefix of the tag that a range may be
+-- holds if a number is at most the mark at the place of each prefix of the tag that a range may be
 abbrev pub IsLeast : List ℕ → List ℕ → ℕ → Type 0
 IsLeast marks tag least = (n : ℕ) → is_cut (drop n tag) ≡ true → least ≤ slice_index marks (place_of (take n tag))

@@ -5,8 +5,8 @@ use Rattle.gs_ident.specs.Links.{canonical_link}
 use Rattle.gs_linkset.specs.LinkShapes.{is_target}
 use Rattle.gs_links.specs.declared.link.Link.{Link}
 
--- trusted, RFC 8259, section 8.1: the canonical link of the anchor and the relation are UTF-8, and the target has the shape
--- of one
+-- trusted, RFC 8259, section 8.1: holds if the canonical link of the anchor and the relation of `link` are valid UTF-8, and its
+-- target has the shape of one
 unfoldable pub is_link : Link → Bool
 is_link link = is_utf8 (canonical_link link.anchor) && (is_utf8 link.relation && is_target link.target)
 

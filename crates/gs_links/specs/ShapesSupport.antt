@@ -6,6 +6,6 @@ use Rattle.gs_links.specs.declared.index.Index.{Index}
 use Rattle.gs_links.specs.declared.link.Link.{Link}
 use Rattle.gs_links.specs.Shapes.{is_link, most_links}
 
--- links that are stored, and found by the index
+-- holds if these links may be stored, and the index finds them
 abbrev pub AreStored : List Link → Index → Type 0
 AreStored links index = (length links ≤ most_links) × (list_all is_link links ≡ true) × IsIndexOf index links

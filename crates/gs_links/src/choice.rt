@@ -10,8 +10,8 @@ use crate::link::{Chosen, Link, Want};
 use gs_ai::Pair;
 use gs_ident::Identity;
 
-/// Returns the links that are chosen for an identity at its prefix with that many qualifiers, which has the number: their numbers
-/// are put before `out`.
+/// Returns the links that are chosen for an identity at its prefix with that many qualifiers, which has the number. Their
+/// numbers are put before `out`.
 fn choose_at(
     links: &[Link],
     index: &Index,
@@ -33,7 +33,7 @@ fn choose_at(
 }
 
 /// Returns the links that are chosen for an identity of those at its prefixes with that many qualifiers or more, the longest
-/// prefix first: their numbers are put before `out`. The prefix with that many has the number. If none is chosen, the depth is
+/// prefix first. Their numbers are put before `out`. The prefix with that many has the number. If none is chosen, the depth is
 /// that many.
 pub(crate) fn choose_from(
     links: &[Link],

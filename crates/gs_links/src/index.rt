@@ -70,7 +70,7 @@ impl Index {
         }
     }
 
-    /// Puts the number of a link last at the number of its anchor.
+    /// Appends a link's index to its anchor's list.
     fn push(&mut self, alloc: Global, number: u64, i: u32) -> Result<(), Memory>
         ensures { IfOk result (λ _. (n : ℕ) → listed self.new n ≡ with_last (listed self.old n) number i n) }
     {

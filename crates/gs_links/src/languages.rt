@@ -119,7 +119,7 @@ fn mark_at(marks: &[u16], hash: u64) -> usize
     marks[(hash % 65_536) as usize] as usize
 }
 
-/// Puts the number of a range at its place, unless a lower one is already at it.
+/// Sets a place to the number of a range, unless a lower one is already at it.
 fn put_mark(marks: &mut [u16], place: usize, number: usize)
     requires { place < length marks.old }
     ensures lower { (p : ℕ) → slice_index marks.new p ≤ slice_index marks.old p }

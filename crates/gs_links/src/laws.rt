@@ -55,7 +55,7 @@ pub fn same_links_same_store()
         → load_answer table voc b ≡ Ok y → x ≡ y }
 {}
 
-/// States when a linkset loads to the same links as one that loads: it has those links in one order, and each of its contexts
+/// States when a linkset loads to the same links as one that loads. It has those links in one order, and each of its contexts
 /// has a link.
 pub fn same_links_load()
     ensures { (table : List AiRow) (voc : List ℕ) (a b : List Context) (links : List Link)

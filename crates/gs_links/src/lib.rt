@@ -2,7 +2,7 @@
 //! too, and makes the document of these.
 //!
 //! - `Store::load` takes a linkset, or gives its first rejection.
-//! - `Store::choose` finds the links of an identity, of one relation or of all, at the longest of its prefixes that has one: a
+//! - `Store::choose` finds the links of an identity, of one relation or of all, at the longest of its prefixes that has one. A
 //!   link of a lot goes before one of the trade item.
 //! - `Store::narrow` keeps, of the chosen links, those in the first wished language that one of them has.
 //! - `Store::document` makes a linkset of the chosen links.

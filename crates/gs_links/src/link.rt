@@ -37,6 +37,6 @@ pub enum Want<'a> {
 pub struct Chosen {
     /// The number of qualifiers in the anchors of the chosen links, and 0 if none is chosen.
     pub depth: usize,
-    /// How many links are chosen.
+    /// The number of links that are chosen.
     pub count: usize,
 }

@@ -54,8 +54,8 @@ fn first_of_link(ranges: &[Text], link: &Link, from: usize, to: usize) -> usize
     to
 }
 
-/// Returns the number of the first range that the link of one of the numbers matches, or how many ranges there are. None is
-/// `*`. By the marks of the ranges a link is compared only with those that it may match.
+/// Returns the number of the first range that the link of one of the numbers matches, or the number of ranges. None is `*`. By
+/// the marks of the ranges a link is compared only with those that it may match.
 fn first_marked(links: &[Link], numbers: &[u32], ranges: &[Text], marks: &[u16]) -> usize
     requires known { All (λ i. i < length links.now) numbers.now }
     requires other { NameLanguages ranges.now }
@@ -74,7 +74,7 @@ fn first_marked(links: &[Link], numbers: &[u32], ranges: &[Text], marks: &[u16])
     first
 }
 
-/// Returns the number of the first range that the link of one of the numbers matches, or how many ranges there are. None is `*`.
+/// Returns the number of the first range that the link of one of the numbers matches, or the number of ranges. None is `*`.
 fn first_matched(links: &[Link], numbers: &[u32], ranges: &[Text]) -> usize
     requires known { All (λ i. i < length links.now) numbers.now }
     requires other { NameLanguages ranges.now }

@@ -8,19 +8,21 @@ use Rattle.gs_json.specs.Answers.{AscendByBytes}
 use Rattle.std.specs.Str.{IsUtf8, is_utf8}
 use Rattle.std.proofs.lemmas.Iterator.Adapters.{position_from-zero}
 use Rattle.std.proofs.lemmas.Str.{IsUtf8-from_is_utf8}
-use Rattle.gs_chars.proofs.TruthsAndLists.{and_first, and_second, false_from, read_at, true_or_false}
+use Rattle.gs_chars.proofs.TruthsAndLists.{and_first, and_second, read_at, true_or_false}
 use Rattle.gs_linkset.specs.LinkShapes.{ascend, is_below, is_below_first, is_context}
 use Rattle.gs_linkset.specs.declared.link_types.Context.{Context}
+use Rattle.std.proofs.lemmas.Bool.{false_from_ne_true}
 
 pub no_utf8 : (text : List ℕ) → (IsUtf8 text → ⊥) → is_utf8 text ≡ false
-no_utf8 text h = false_from (is_utf8 text) (λ t. h (IsUtf8-from_is_utf8 text t))
+no_utf8 text h = false_from_ne_true (is_utf8 text) (λ t. h (IsUtf8-from_is_utf8 text t))
 
 none : (t : Bool) → (t && false) ≡ false
 none true = refl
 none false = refl
 
 module _ {X : Type 0} (name : X → List ℕ) where
-  pub breaks : (xs : List X) (i : ℕ) (a b : X) → slice_get xs i ≡ Some a → slice_get xs (suc i) ≡ Some b → is_below (name a) (name b) ≡ false → ascend (map name xs) ≡ false
+  pub breaks : (xs : List X) (i : ℕ) (a b : X) → slice_get xs i ≡ Some a → slice_get xs (suc i) ≡ Some b
+      → is_below (name a) (name b) ≡ false → ascend (map name xs) ≡ false
   breaks [] i a b at next h = absurd (let g : None ≡ Some a = at in cc)
   breaks (x ∷ []) i a b at next h = absurd (let g : None ≡ Some b = next in cc)
   breaks (x ∷ y ∷ xs) zero a b at next h =
@@ -29,7 +31,8 @@ module _ {X : Type 0} (name : X → List ℕ) where
       rw (one, two, h) refl
   breaks (x ∷ y ∷ xs) (suc i) a b at next h = rw (breaks (y ∷ xs) i a b at next h) (none (is_below (name x) (name y)))
 
-  pub goes_on : (xs : List X) (i : ℕ) (a b : X) → slice_get xs i ≡ Some a → slice_get xs (suc i) ≡ Some b → is_below (name a) (name b) ≡ true → ascend (map name (take (suc i) xs)) ≡ true → ascend (map name (take (suc (suc i)) xs)) ≡ true
+  pub goes_on : (xs : List X) (i : ℕ) (a b : X) → slice_get xs i ≡ Some a → slice_get xs (suc i) ≡ Some b
+      → is_below (name a) (name b) ≡ true → ascend (map name (take (suc i) xs)) ≡ true → ascend (map name (take (suc (suc i)) xs)) ≡ true
   goes_on [] i a b at next h so_far = absurd (let g : None ≡ Some a = at in cc)
   goes_on (x ∷ []) i a b at next h so_far = absurd (let g : None ≡ Some b = next in cc)
   goes_on (x ∷ y ∷ xs) zero a b at next h so_far =
@@ -41,14 +44,16 @@ module _ {X : Type 0} (name : X → List ℕ) where
       let rest = and_second (is_below (name x) (name y)) (ascend (map name (take (suc i) (y ∷ xs)))) so_far in
       rw (first, goes_on (y ∷ xs) i a b at next h rest) refl
 
-  pub more : (xs : List X) (i : ℕ) (a b : X) → 1 ≤ i → i < length xs → a ≡ get_or xs (i - 1) a → b ≡ get_or xs i b → is_below (name a) (name b) ≡ true → ascend (map name (take i xs)) ≡ true → ascend (map name (take (i + 1) xs)) ≡ true
+  pub more : (xs : List X) (i : ℕ) (a b : X) → 1 ≤ i → i < length xs → a ≡ get_or xs (i - 1) a → b ≡ get_or xs i b
+      → is_below (name a) (name b) ≡ true → ascend (map name (take i xs)) ≡ true → ascend (map name (take (i + 1) xs)) ≡ true
   more xs zero a b low within at next h so_far = absurd (omega arith)
   more xs (suc i) a b low within here next h so_far =
       let own : suc i + 1 ≡ suc (suc i) = omega arith in
       let before : suc i - 1 ≡ i = omega arith in
       rw own (goes_on xs i a b (read_at xs i a (omega arith) (rw before at here)) (read_at xs (suc i) b within next) h so_far)
 
-  pub stops : (xs : List X) (i : ℕ) (a b : X) → 1 ≤ i → i < length xs → a ≡ get_or xs (i - 1) a → b ≡ get_or xs i b → is_below (name a) (name b) ≡ false → false ≡ ascend (map name xs)
+  pub stops : (xs : List X) (i : ℕ) (a b : X) → 1 ≤ i → i < length xs → a ≡ get_or xs (i - 1) a → b ≡ get_or xs i b
+      → is_below (name a) (name b) ≡ false → false ≡ ascend (map name xs)
   stops xs zero a b low within at next h = absurd (omega arith)
   stops xs (suc i) a b low within here next h =
       let before : suc i - 1 ≡ i = omega arith in
@@ -68,7 +73,8 @@ all_shaped contexts h = none_breaks is_context contexts 0 (sym (position_from-ze
 -- ---- the names that remain of ascending names
 
 module _ {X : Type 0} (name : X → List ℕ) (h : List ℕ → Option X) (own : (n : List ℕ) (x : X) → h n ≡ Some x → name x ≡ n) where
-  first_by : (n m : List ℕ) (ns : List (List ℕ)) (o : Option X) → h m ≡ o → slice_cmp nat_cmp n m ≡ Less → is_below_first n (map name (filter_map h ns)) ≡ true → is_below_first n (map name (cons_option o (filter_map h ns))) ≡ true
+  first_by : (n m : List ℕ) (ns : List (List ℕ)) (o : Option X) → h m ≡ o → slice_cmp nat_cmp n m ≡ Less
+      → is_below_first n (map name (filter_map h ns)) ≡ true → is_below_first n (map name (cons_option o (filter_map h ns))) ≡ true
   first_by n m ns None e less rest = rest
   first_by n m ns (Some x) e less rest = rw (own m x e, less) refl
 
@@ -76,7 +82,8 @@ module _ {X : Type 0} (name : X → List ℕ) (h : List ℕ → Option X) (own :
   first_kept n [] all = refl
   first_kept n (m ∷ ns) all = first_by n m ns (h m) refl all.0 (first_kept n ns all.1)
 
-  kept_by : (n : List ℕ) (ns : List (List ℕ)) (o : Option X) → h n ≡ o → is_below_first n (map name (filter_map h ns)) ≡ true → ascend (map name (filter_map h ns)) ≡ true → ascend (map name (cons_option o (filter_map h ns))) ≡ true
+  kept_by : (n : List ℕ) (ns : List (List ℕ)) (o : Option X) → h n ≡ o → is_below_first n (map name (filter_map h ns)) ≡ true
+      → ascend (map name (filter_map h ns)) ≡ true → ascend (map name (cons_option o (filter_map h ns))) ≡ true
   kept_by n ns None e first rest = rest
   kept_by n ns (Some x) e first rest = rw (own n x e, first, rest) refl
 

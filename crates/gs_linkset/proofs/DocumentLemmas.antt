@@ -39,7 +39,8 @@ by_value ms (Some (string s)) e = rw e refl
 by_value ms (Some (array items)) e = rw e refl
 by_value ms (Some (object inner)) e = rw e refl
 
-same_answer : (ms ns : Members) (o : Option Data) → get_member (codes "linkset") ms ≡ o → get_member (codes "linkset") ns ≡ o → document_answer (object ms) ≡ document_answer (object ns)
+same_answer : (ms ns : Members) (o : Option Data) → get_member (codes "linkset") ms ≡ o → get_member (codes "linkset") ns ≡ o
+    → document_answer (object ms) ≡ document_answer (object ns)
 same_answer ms ns o a b = by_value ms o a ∙ sym (by_value ns o b)
 
 -- without members there is no linkset
@@ -47,7 +48,8 @@ pub none_yet : (place : List ℕ) → place ≡ linkset_place → IsAnswer (Err 
 none_yet place e = (inr (ap (λ p. Err (Lacks p)) e ∙ sym (by_value no_members None refl)), tt)
 
 -- another member changes nothing
-pub kept : (answer : Result (List Context) JsonFault) (name : List ℕ) (d : Data) (ms : Members) → bytes_eq name (codes "linkset") ≡ false → IsAnswer answer ms → IsAnswer answer (put name d ms)
+pub kept : (answer : Result (List Context) JsonFault) (name : List ℕ) (d : Data) (ms : Members) → bytes_eq name (codes "linkset") ≡ false
+    → IsAnswer answer ms → IsAnswer answer (put name d ms)
 kept answer name d ms other h =
     let apart = λ (e : codes "linkset" ≡ name). absurd (by name e other) in
     let same = same_answer (put name d ms) ms _ (get_member-put_other (codes "linkset") name d ms apart) refl in
@@ -57,7 +59,8 @@ kept answer name d ms other h =
     by name e other = let t = rw (← e) at other in absurd (let g : true ≡ false = t in cc)
 
 -- a `linkset` replaces an earlier one
-pub replaced : (answer : Result (List Context) JsonFault) (name : List ℕ) (d : Data) (ms : Members) → bytes_eq name (codes "linkset") ≡ true → OrMemory answer (linkset_answer d) → IfOk answer (λ contexts. list_all is_context contexts ≡ true) → IsAnswer answer (put name d ms)
+pub replaced : (answer : Result (List Context) JsonFault) (name : List ℕ) (d : Data) (ms : Members) → bytes_eq name (codes "linkset") ≡ true
+    → OrMemory answer (linkset_answer d) → IfOk answer (λ contexts. list_all is_context contexts ≡ true) → IsAnswer answer (put name d ms)
 replaced answer name d ms own h shape =
     let same : name ≡ codes "linkset" = (bytes_eq-Decides name (codes "linkset")).0 own in
     let found = by_value (put name d ms) (Some d) (rw same (get_member-put (codes "linkset") d ms)) in
@@ -73,13 +76,15 @@ pub no_linkset : (d : Data) → array_in d ≡ None → linkset_answer d ≡ Err
 unfolding linkset_answer
 no_linkset d e = rw e refl
 
-pub linkset_is : (items : Items) (r : Result (List Context) JsonFault) → OrMemory r (contexts_answer (items_list items)) → OrMemory r (linkset_answer (array items))
+pub linkset_is : (items : Items) (r : Result (List Context) JsonFault) → OrMemory r (contexts_answer (items_list items))
+    → OrMemory r (linkset_answer (array items))
 unfolding linkset_answer
 linkset_is items r h = h
 
 -- ---- the bytes of a document
 
-pub text_answer : (bytes : List ℕ) (r : Result (List Context) JsonFault) → IsUtf8 bytes → OrMemory r (option_map_or document_answer (read_text bytes) (Err Syntax)) → OrMemory r (read_answer bytes)
+pub text_answer : (bytes : List ℕ) (r : Result (List Context) JsonFault) → IsUtf8 bytes
+    → OrMemory r (option_map_or document_answer (read_text bytes) (Err Syntax)) → OrMemory r (read_answer bytes)
 unfolding read_answer document_of
 text_answer bytes r text h = rw (is_utf8-from_IsUtf8 bytes text) h
 

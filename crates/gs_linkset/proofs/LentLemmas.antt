@@ -20,10 +20,12 @@ all_lent shape now xs h = sym (list_all-map shape now xs) ∙ h
 pub array_lent : {X Y : Type 0} (tree : Y → Data) (now : X → Y) (xs : List X) → array_by (λ x. tree (now x)) xs ≡ array_by tree (map now xs)
 array_lent tree now xs = ap (λ ds. array (listed ds)) (sym (map-map tree now xs))
 
-pub members_lent : (relations : List RelationRef) → members_by (λ relation. relation.name.now) (λ relation. array_by target_tree (relation_lent relation).targets) relations ≡ relation_members (map relation_lent relations)
+pub members_lent : (relations : List RelationRef)
+    → members_by (λ relation. relation.name.now) (λ relation. array_by target_tree (relation_lent relation).targets) relations ≡ relation_members (map relation_lent relations)
 members_lent [] = refl
 members_lent (relation ∷ relations) = ap (λ ms. member relation.name.now (array_by target_tree (relation_lent relation).targets) ms) (members_lent relations)
 
-pub lent_other : (relations : List RelationRef) → list_all is_relation (map relation_lent relations) ≡ true → list_all (is_other (codes "anchor")) (map (λ relation. relation.name.now) relations) ≡ true
+pub lent_other : (relations : List RelationRef) → list_all is_relation (map relation_lent relations) ≡ true
+    → list_all (is_other (codes "anchor")) (map (λ relation. relation.name.now) relations) ≡ true
 lent_other relations h =
     sym (ap (list_all (is_other (codes "anchor"))) (map-map (λ (relation : Relation). relation.name) relation_lent relations)) ∙ relations_other (map relation_lent relations) h

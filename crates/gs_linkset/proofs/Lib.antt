@@ -1,4 +1,3 @@
-pub mod CopyLemmas
 pub mod Ascents
 pub mod Parts
 pub mod MustHave

@@ -30,7 +30,8 @@ or_twice : (a c : Bool) → (a || c) ≡ (a || (a || c))
 or_twice true c = refl
 or_twice false c = refl
 
-has_put_by : (o : Ordering) (t n m : List ℕ) (names : List (List ℕ)) → slice_cmp nat_cmp n m ≡ o → has t (insert_key (slice_cmp nat_cmp) names n) ≡ (bytes_eq t n || has t names)
+has_put_by : (o : Ordering) (t n m : List ℕ) (names : List (List ℕ)) → slice_cmp nat_cmp n m ≡ o
+    → has t (insert_key (slice_cmp nat_cmp) names n) ≡ (bytes_eq t n || has t names)
     → has t (match_ordering o (n ∷ m ∷ names) (m ∷ names) (m ∷ insert_key (slice_cmp nat_cmp) names n)) ≡ (bytes_eq t n || (bytes_eq t m || has t names))
 has_put_by Less t n m names is h = refl
 has_put_by Equal t n m names is h = let e = exact_bytes n m is in rw e (or_twice (bytes_eq t m) (has t names))
@@ -40,7 +41,8 @@ pub has_put : (t n : List ℕ) (names : List (List ℕ)) → has t (insert_key (
 has_put t n [] = refl
 has_put t n (m ∷ names) = has_put_by (slice_cmp nat_cmp n m) t n m names refl (has_put t n names)
 
-below_put_by : (o : Ordering) (a n m : List ℕ) (names : List (List ℕ)) → slice_cmp nat_cmp a n ≡ Less → IsBelow a (m ∷ names) → IsBelow a (insert_key (slice_cmp nat_cmp) names n)
+below_put_by : (o : Ordering) (a n m : List ℕ) (names : List (List ℕ)) → slice_cmp nat_cmp a n ≡ Less → IsBelow a (m ∷ names)
+    → IsBelow a (insert_key (slice_cmp nat_cmp) names n)
     → IsBelow a (match_ordering o (n ∷ m ∷ names) (m ∷ names) (m ∷ insert_key (slice_cmp nat_cmp) names n))
 below_put_by Less a n m names own all more = (own, all)
 below_put_by Equal a n m names own all more = all
@@ -54,7 +56,8 @@ pub below_trans : (a b : List ℕ) (names : List (List ℕ)) → slice_cmp nat_c
 below_trans a b [] less all = tt
 below_trans a b (c ∷ names) less all = (nat_list_cmp_total.trans a b c less all.0, below_trans a b names less all.1)
 
-ascend_put_by : (o : Ordering) (n m : List ℕ) (names : List (List ℕ)) → slice_cmp nat_cmp n m ≡ o → Ascend (m ∷ names) → Ascend (insert_key (slice_cmp nat_cmp) names n)
+ascend_put_by : (o : Ordering) (n m : List ℕ) (names : List (List ℕ)) → slice_cmp nat_cmp n m ≡ o → Ascend (m ∷ names)
+    → Ascend (insert_key (slice_cmp nat_cmp) names n)
     → Ascend (match_ordering o (n ∷ m ∷ names) (m ∷ names) (m ∷ insert_key (slice_cmp nat_cmp) names n))
 unfolding IsStrictlySortedBy
 ascend_put_by Less n m names is h more = ((is, below_trans n m names is h.0), h)

@@ -159,7 +159,9 @@ text_reads d plain shallow =
 
 -- ---- a member more
 
-plain_by : (o : Ordering) (k l : List ℕ) (d e : Data) (ms : Members) → slice_cmp nat_cmp k l ≡ o → IsUtf8 k → IsPlain d → HavePlain (member l e ms) → HavePlain (put k d ms) → HavePlain (match_ordering o (member k d (member l e ms)) (member l d ms) (member l e (put k d ms)))
+plain_by : (o : Ordering) (k l : List ℕ) (d e : Data) (ms : Members) → slice_cmp nat_cmp k l ≡ o → IsUtf8 k → IsPlain d
+    → HavePlain (member l e ms) → HavePlain (put k d ms)
+    → HavePlain (match_ordering o (member k d (member l e ms)) (member l d ms) (member l e (put k d ms)))
 plain_by Less k l d e ms is name own all more = (name, own, (is, below_trans k l (names_of_members ms) is all.2), all)
 plain_by Equal k l d e ms is name own all more = (all.0, own, all.2, all.3)
 plain_by Greater k l d e ms is name own all more =

@@ -9,7 +9,7 @@ use Rattle.std.specs.Str.{bytes_eq, is_utf8}
 use Rattle.std.proofs.lemmas.Cmp.{nat_list_cmp_total, tied_itself}
 use Rattle.std.proofs.lemmas.Str.{IsUtf8-from_is_utf8, is_utf8-from_IsUtf8}
 use Rattle.json.proofs.Printed.Utf8.{IsUtf8-are_ascii}
-use Rattle.gs_chars.proofs.TruthsAndLists.{and_first, and_second, false_from_not, none_of_both, same_bytes}
+use Rattle.gs_chars.proofs.TruthsAndLists.{and_first, and_second, none_of_both, same_bytes}
 use Rattle.gs_json.specs.Answers.{AscendByBytes, names_of_members}
 use Rattle.gs_json.specs.Places.{item_place, member_place}
 use Rattle.gs_json.specs.Shapes.{items_list}
@@ -36,6 +36,7 @@ use Rattle.gs_linkset.specs.declared.link_types.Target.{Target}
 use Rattle.gs_linkset.proofs.PlainTrees.{ArePlain, HavePlain, IsPlain, plain_put, text_reads, text_utf8}
 use Rattle.gs_linkset.proofs.WrittenLemmas.{attr_parts, below_at, context_parts, many_texts, one_text, relation_parts, sorted, tagged_texts, target_parts, true_at}
 use Rattle.gs_json.proofs.PutMembers.{IsBelowAll, depth_put}
+use Rattle.std.proofs.lemmas.Bool.{not-true}
 
 -- ---- arrays
 
@@ -59,7 +60,8 @@ module _ {X : Type 0} (tree : X → Data) (t : X → Bool) where
   every_back f each [] all = refl
   every_back f each (x ∷ xs) all = rw (each x (and_first (t x) (list_all t xs) all), every_back f each xs (and_second (t x) (list_all t xs) all)) refl
 
-  no_row_errors : (errors : List ℕ → Data → List JsonFault) (place : List ℕ) → ((p : List ℕ) (x : X) → t x ≡ true → errors p (tree x) ≡ []) → (n : ℕ) (xs : List X) → list_all t xs ≡ true
+  no_row_errors : (errors : List ℕ → Data → List JsonFault) (place : List ℕ) → ((p : List ℕ) (x : X) → t x ≡ true → errors p (tree x) ≡ [])
+      → (n : ℕ) (xs : List X) → list_all t xs ≡ true
       → flat_map (λ row. errors (item_place place row.0) row.1) (enumerate_from n (map tree xs)) ≡ []
   no_row_errors errors place each n [] all = refl
   no_row_errors errors place each n (x ∷ xs) all =
@@ -81,7 +83,8 @@ module _ {X : Type 0} (name : X → List ℕ) (tree : X → Data) where
   names_by [] = refl
   names_by (x ∷ xs) = ap (λ names. name x ∷ names) (names_by xs)
 
-  plain_members : (t : X → Bool) → ((x : X) → t x ≡ true → (is_utf8 (name x) ≡ true) × IsPlain (tree x)) → (xs : List X) → list_all t xs ≡ true → AscendByBytes (map name xs) → HavePlain (members_by name tree xs)
+  plain_members : (t : X → Bool) → ((x : X) → t x ≡ true → (is_utf8 (name x) ≡ true) × IsPlain (tree x)) → (xs : List X)
+      → list_all t xs ≡ true → AscendByBytes (map name xs) → HavePlain (members_by name tree xs)
   unfolding IsStrictlySortedBy
   plain_members t each [] all s = tt
   plain_members t each (x ∷ xs) all s =
@@ -89,7 +92,8 @@ module _ {X : Type 0} (name : X → List ℕ) (tree : X → Data) where
       let below : IsBelowAll (name x) (members_by name tree xs) = rw (names_by xs) s.0 in
       (IsUtf8-from_is_utf8 (name x) own.0, own.1, below, plain_members t each xs (and_second (t x) (list_all t xs) all) s.1)
 
-  found_by : (xs : List X) (i : ℕ) (x : X) → AscendByBytes (map name xs) → slice_get xs i ≡ Some x → get_member (name x) (members_by name tree xs) ≡ Some (tree x)
+  found_by : (xs : List X) (i : ℕ) (x : X) → AscendByBytes (map name xs) → slice_get xs i ≡ Some x
+      → get_member (name x) (members_by name tree xs) ≡ Some (tree x)
   unfolding IsStrictlySortedBy
   found_by [] i x s at = absurd (let g : None ≡ Some x = at in cc)
   found_by (y ∷ xs) zero x s at =
@@ -109,7 +113,8 @@ module _ {X : Type 0} (name : X → List ℕ) (tree : X → Data) where
 
 -- a name that gives nothing, among the names of the members
 module _ {Y : Type 0} (f : List ℕ → Option Y) (k : List ℕ) (d : Data) (none : f k ≡ None) where
-  passed_by : (o : Ordering) (l : List ℕ) (e : Data) (ms : Members) → slice_cmp nat_cmp k l ≡ o → filter_map f (names_of_members (put k d ms)) ≡ filter_map f (names_of_members ms)
+  passed_by : (o : Ordering) (l : List ℕ) (e : Data) (ms : Members) → slice_cmp nat_cmp k l ≡ o
+      → filter_map f (names_of_members (put k d ms)) ≡ filter_map f (names_of_members ms)
       → filter_map f (names_of_members (match_ordering o (member k d (member l e ms)) (member l d ms) (member l e (put k d ms)))) ≡ filter_map f (names_of_members (member l e ms))
   passed_by Less l e ms is more = rw none refl
   passed_by Equal l e ms is more = refl
@@ -121,7 +126,8 @@ module _ {Y : Type 0} (f : List ℕ → Option Y) (k : List ℕ) (d : Data) (non
 
 module _ (g : List ℕ → List JsonFault) (k : List ℕ) (d : Data) (none : g k ≡ []) where
   errorless_by : (o : Ordering) (l : List ℕ) (e : Data) (ms : Members) → flat_map g (names_of_members (put k d ms)) ≡ flat_map g (names_of_members ms)
-      → flat_map g (names_of_members (match_ordering o (member k d (member l e ms)) (member l d ms) (member l e (put k d ms)))) ≡ flat_map g (names_of_members (member l e ms))
+      → flat_map g (names_of_members (match_ordering o (member k d (member l e ms)) (member l d ms) (member l e (put k d ms)))) ≡ flat_map g
+      (names_of_members (member l e ms))
   errorless_by Less l e ms more = rw none refl
   errorless_by Equal l e ms more = refl
   errorless_by Greater l e ms more = rw more refl
@@ -150,12 +156,12 @@ pair_back (text, c ∷ language) = refl
 value_back : (name : List ℕ) (value : AttrValue) → is_value name value ≡ true → value_of name (value_tree value) ≡ Some value
 unfolding value_of
 value_back name (One text) h =
-    let tagged = false_from_not (is_tagged name) (and_first (not (is_tagged name)) _ h) in
+    let tagged = not-true (is_tagged name) (and_first (not (is_tagged name)) _ h) in
     let single = and_first (is_single name) _ (and_second (not (is_tagged name)) _ h) in
     rw (tagged, single) refl
 value_back name (Many texts) h =
-    let tagged = false_from_not (is_tagged name) (and_first (not (is_tagged name)) _ h) in
-    let single = false_from_not (is_single name) (and_first (not (is_single name)) _ (and_second (not (is_tagged name)) _ h)) in
+    let tagged = not-true (is_tagged name) (and_first (not (is_tagged name)) _ h) in
+    let single = not-true (is_single name) (and_first (not (is_single name)) _ (and_second (not (is_tagged name)) _ h)) in
     rw (tagged, single, list_back (map string texts), every_back string is_utf8 as_str (λ text t. refl) texts (many_texts name texts h)) refl
 value_back name (Tagged pairs) h =
     let tagged = and_first (is_tagged name) _ h in
@@ -169,7 +175,7 @@ module _ (target : Target) (h : is_target target ≡ true) where
       let own = attr_parts attr (true_at is_attr target.attrs i attr parts.2 at) in
       let there = get_member-put_other attr.name (codes "href") (string target.href) (attr_members target.attrs) (other_name attr.name (codes "href") own.0) in
       let found = found_by (λ attr. attr.name) (λ attr. value_tree attr.value) target.attrs i attr (sorted (map (λ attr. attr.name) target.attrs) parts.1) at in
-      rw (false_from_not (bytes_eq attr.name (codes "href")) own.0, there, found, value_back attr.name attr.value own.2) refl
+      rw (not-true (bytes_eq attr.name (codes "href")) own.0, there, found, value_back attr.name attr.value own.2) refl
 
   no_href : attr_of (target_tree target) (codes "href") ≡ None
   unfolding attr_of
@@ -190,25 +196,28 @@ module _ (target : Target) (h : is_target target ≡ true) where
 -- ---- relations
 
 module _ (context : Context) (h : is_context context ≡ true) where
-  targets_there : (i : ℕ) (relation : Relation) → slice_get context.relations i ≡ Some relation → targets_at (context_tree context) relation.name ≡ Some (map target_tree relation.targets)
+  targets_there : (i : ℕ) (relation : Relation) → slice_get context.relations i ≡ Some relation
+      → targets_at (context_tree context) relation.name ≡ Some (map target_tree relation.targets)
   unfolding targets_at
   targets_there i relation at =
       let parts = context_parts context h in
       let own = relation_parts relation (true_at is_relation context.relations i relation parts.2 at) in
       let there = get_member-put_other relation.name (codes "anchor") (string context.anchor) (relation_members context.relations) (other_name relation.name (codes "anchor") own.0) in
       let found = found_by (λ relation. relation.name) (λ relation. array_by target_tree relation.targets) context.relations i relation (sorted (map (λ relation. relation.name) context.relations) parts.1) at in
-      rw (false_from_not (bytes_eq relation.name (codes "anchor")) own.0, there, found) (array_back target_tree relation.targets)
+      rw (not-true (bytes_eq relation.name (codes "anchor")) own.0, there, found) (array_back target_tree relation.targets)
 
   targets_shaped : (i : ℕ) (relation : Relation) → slice_get context.relations i ≡ Some relation → list_all is_target relation.targets ≡ true
   targets_shaped i relation at = (relation_parts relation (true_at is_relation context.relations i relation (context_parts context h).2 at)).2
 
-  relation_back : (i : ℕ) (relation : Relation) → slice_get context.relations i ≡ Some relation → relation_of (context_tree context) relation.name ≡ Some relation
+  relation_back : (i : ℕ) (relation : Relation) → slice_get context.relations i ≡ Some relation
+      → relation_of (context_tree context) relation.name ≡ Some relation
   unfolding relation_of
   relation_back i relation at =
       let targets = maps_back target_tree is_target target_of target_back relation.targets (targets_shaped i relation at) in
       rw (targets_there i relation at, targets) refl
 
-  no_relation_errors : (place : List ℕ) (i : ℕ) (relation : Relation) → slice_get context.relations i ≡ Some relation → relation_errors place (context_tree context) relation.name ≡ []
+  no_relation_errors : (place : List ℕ) (i : ℕ) (relation : Relation) → slice_get context.relations i ≡ Some relation
+      → relation_errors place (context_tree context) relation.name ≡ []
   unfolding relation_errors
   no_relation_errors place i relation at =
       rw (targets_there i relation at) (no_row_errors target_tree is_target target_errors (member_place place relation.name) (λ p target t. no_target_errors target t p) 0 relation.targets (targets_shaped i relation at))
@@ -255,7 +264,8 @@ plain_pair : (pair : List ℕ × List ℕ) → is_tagged_text pair ≡ true → 
 plain_pair (text, []) h = (IsUtf8-are_ascii (codes "value") refl, IsUtf8-from_is_utf8 text (and_first (is_utf8 text) _ h), tt, tt)
 plain_pair (text, c ∷ language) h =
     let value : HavePlain (member (codes "value") (string text) no_members) = (IsUtf8-are_ascii (codes "value") refl, IsUtf8-from_is_utf8 text (and_first (is_utf8 text) _ h), tt, tt) in
-    plain_put (codes "language") (string (c ∷ language)) (member (codes "value") (string text) no_members) (IsUtf8-are_ascii (codes "language") refl) (IsUtf8-from_is_utf8 (c ∷ language) (and_second (is_utf8 text) _ h)) value
+    plain_put (codes "language") (string (c ∷ language)) (member (codes "value") (string text) no_members)
+    (IsUtf8-are_ascii (codes "language") refl) (IsUtf8-from_is_utf8 (c ∷ language) (and_second (is_utf8 text) _ h)) value
 
 plain_value : (name : List ℕ) (value : AttrValue) → is_value name value ≡ true → IsPlain (value_tree value)
 plain_value name (One text) h = IsUtf8-from_is_utf8 text (one_text name text h)
@@ -277,7 +287,8 @@ plain_relation relation h = let parts = relation_parts relation h in (parts.1, p
 plain_context : (context : Context) → is_context context ≡ true → IsPlain (context_tree context)
 plain_context context h =
     let parts = context_parts context h in
-    plain_put (codes "anchor") (string context.anchor) (relation_members context.relations) (IsUtf8-are_ascii (codes "anchor") refl) (IsUtf8-from_is_utf8 context.anchor parts.0)
+    plain_put (codes "anchor") (string context.anchor) (relation_members context.relations) (IsUtf8-are_ascii (codes "anchor") refl)
+    (IsUtf8-from_is_utf8 context.anchor parts.0)
     (plain_members (λ relation. relation.name) (λ relation. array_by target_tree relation.targets) is_relation plain_relation context.relations parts.2 (sorted (map (λ relation. relation.name) context.relations) parts.1))
 
 plain_tree : (contexts : List Context) → list_all is_context contexts ≡ true → IsPlain (tree_of contexts)

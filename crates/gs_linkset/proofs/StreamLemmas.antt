@@ -1,5 +1,5 @@
 -- The contexts of items and the values of tokens, one after another.
-use Rattle.std.proofs.Common.{◌≡◌, ◌⊎◌, ℕ, suc, ◌+◌, ◌<◌, ◌≤◌, ◌-◌, List, [], ◌∷◌, ◌++◌, length, true, false, Option, Some, None, refl, sym, ap, subst, ◌∙◌, inl, inr, arith, option_map, option_and_then}
+use Rattle.std.proofs.Common.{◌≡◌, ℕ, suc, ◌+◌, ◌<◌, ◌≤◌, ◌-◌, List, [], ◌∷◌, ◌++◌, length, true, false, Option, Some, None, refl, sym, ap, subst, ◌∙◌, inr, arith, option_map, option_and_then}
 use Rattle.std.specs.Prelude.{⊤, Result, Ok, Err, IfOk, OnOk, is_some, option_to_list}
 use Rattle.std.specs.List.{enumerate_from, flat_map}
 use Rattle.std.specs.Option.{option_map_or}
@@ -19,7 +19,7 @@ use Rattle.gs_json.specs.Places.{item_place}
 use Rattle.gs_json.specs.Shapes.{items_list}
 use Rattle.gs_json.specs.declared.error.JsonFault.{JsonFault}
 use Rattle.gs_json.proofs.ValueLoops.{converted-array, converted-object, converted_some, item_read, item_refused, items_over, key_refused, member_read, member_refused, members_over, array_opened, object_opened}
-use Rattle.gs_json.specs.declared.error.JsonFault.TheVariants.{Kind, Memory, Syntax}
+use Rattle.gs_json.specs.declared.error.JsonFault.TheVariants.{Kind, Syntax}
 use Rattle.gs_linkset.specs.Answers.{document_answer}
 use Rattle.gs_linkset.specs.AnswersSupport.{contexts_answer, linkset_answer, linkset_place}
 use Rattle.gs_linkset.specs.Documents.{context_errors, context_of, item_errors}
@@ -39,7 +39,8 @@ module _ (errors : List ℕ → Data → List JsonFault) (place : List ℕ) (d :
   abbrev row_errors : ℕ × Data → List JsonFault
   row_errors row = errors (item_place place row.0) row.1
 
-  errors_from : (n : ℕ) (items : List Data) → flat_map row_errors (enumerate_from n (items ++ d ∷ [])) ≡ flat_map row_errors (enumerate_from n items) ++ errors (item_place place (n + length items)) d
+  errors_from : (n : ℕ) (items : List Data)
+      → flat_map row_errors (enumerate_from n (items ++ d ∷ [])) ≡ flat_map row_errors (enumerate_from n items) ++ errors (item_place place (n + length items)) d
   errors_from n [] = let same : n ≡ n + 0 = omega arith in append-nil _ ∙ ap (λ i. errors (item_place place i) d) same
   errors_from n (x ∷ items) =
       let same : n + 1 + length items ≡ n + suc (length items) = omega arith in
@@ -47,7 +48,8 @@ module _ (errors : List ℕ → Data → List JsonFault) (place : List ℕ) (d :
       ∙ joined (errors (item_place place n) x) (flat_map row_errors (enumerate_from (n + 1) items)) (errors (item_place place (n + suc (length items))) d)
 
   errors_more : (items : List Data) → item_errors errors place (items ++ d ∷ []) ≡ item_errors errors place items ++ errors (item_place place (length items)) d
-  errors_more items = let same : 0 + length items ≡ length items = omega arith in errors_from 0 items ∙ ap (λ i. item_errors errors place items ++ errors (item_place place i) d) same
+  errors_more items = let same : 0 + length items ≡ length items = omega arith in errors_from 0 items ∙ ap
+      (λ i. item_errors errors place items ++ errors (item_place place i) d) same
 
 module _ (items : List Data) (d : Data) where
   -- after an error the first one stays
@@ -57,14 +59,18 @@ module _ (items : List Data) (d : Data) where
 
   module _ (read : List Context) (so_far : OrMemory (Ok read) (contexts_answer items)) where
     -- the next item's error is the first
-    pub error_comes : (e : JsonFault) → OrMemory (Err e) (first_or (context_errors (item_place linkset_place (length read)) d) (context_of d)) → OrMemory (Err e) (contexts_answer (items ++ d ∷ []))
+    pub error_comes : (e : JsonFault)
+        → OrMemory (Err e) (first_or (context_errors (item_place linkset_place (length read)) d) (context_of d))
+        → OrMemory (Err e) (contexts_answer (items ++ d ∷ []))
     unfolding contexts_answer
     error_comes e h =
         let known = none_first _ _ read so_far in
         let count = ap length known.1 ∙ length-map items context_of in
         rw (errors_more context_errors linkset_place d items, known.0) (same_error _ _ _ e (rw count at h))
 
-    pub context_more : (context : Context) (more : List Context) → OrMemory (Ok context) (first_or (context_errors (item_place linkset_place (length read)) d) (context_of d)) → more ≡ read ++ context ∷ []
+    pub context_more : (context : Context) (more : List Context)
+        → OrMemory (Ok context) (first_or (context_errors (item_place linkset_place (length read)) d) (context_of d))
+        → more ≡ read ++ context ∷ []
         → OrMemory (Ok more) (contexts_answer (items ++ d ∷ []))
     unfolding contexts_answer
     context_more context more h e =
@@ -73,26 +79,34 @@ module _ (items : List Data) (d : Data) where
         let own = none_first _ _ context (rw count at h) in
         rw (errors_more context_errors linkset_place d items, known.0, own.0, e, own.1, known.1, map-append) (inr refl)
 
-module _ (fault : Option JsonFault) (read : List Context) (items : List Data) (d : Data) (so_far : OrMemory (first_or (option_to_list fault) read) (contexts_answer items)) where
+module _ (fault : Option JsonFault) (read : List Context) (items : List Data) (d : Data)
+    (so_far : OrMemory (first_or (option_to_list fault) read) (contexts_answer items)) where
   pub stays : true ≡ is_some fault → OrMemory (first_or (option_to_list fault) read) (contexts_answer (items ++ d ∷ []))
   stays h = by fault h so_far
     where
-      by : (f : Option JsonFault) → true ≡ is_some f → OrMemory (first_or (option_to_list f) read) (contexts_answer items) → OrMemory (first_or (option_to_list f) read) (contexts_answer (items ++ d ∷ []))
+      by : (f : Option JsonFault) → true ≡ is_some f → OrMemory (first_or (option_to_list f) read) (contexts_answer items)
+          → OrMemory (first_or (option_to_list f) read) (contexts_answer (items ++ d ∷ []))
       by None h so_far = absurd (let g : true ≡ false = h in cc)
       by (Some e) h so_far = error_stays items d e so_far
 
-  pub failed : (e : JsonFault) → false ≡ is_some fault → OrMemory (Err e) (first_or (context_errors (item_place linkset_place (length read)) d) (context_of d)) → OrMemory (Err e) (contexts_answer (items ++ d ∷ []))
+  pub failed : (e : JsonFault) → false ≡ is_some fault
+      → OrMemory (Err e) (first_or (context_errors (item_place linkset_place (length read)) d) (context_of d))
+      → OrMemory (Err e) (contexts_answer (items ++ d ∷ []))
   failed e h own = by fault h so_far
     where
-      by : (f : Option JsonFault) → false ≡ is_some f → OrMemory (first_or (option_to_list f) read) (contexts_answer items) → OrMemory (Err e) (contexts_answer (items ++ d ∷ []))
+      by : (f : Option JsonFault) → false ≡ is_some f → OrMemory (first_or (option_to_list f) read) (contexts_answer items)
+          → OrMemory (Err e) (contexts_answer (items ++ d ∷ []))
       by None h so_far = error_comes items d read so_far e own
       by (Some _) h so_far = absurd (let g : false ≡ true = h in cc)
 
-  pub added : (context : Context) (more : List Context) → false ≡ is_some fault → OrMemory (Ok context) (first_or (context_errors (item_place linkset_place (length read)) d) (context_of d)) → more ≡ read ++ context ∷ []
+  pub added : (context : Context) (more : List Context) → false ≡ is_some fault
+      → OrMemory (Ok context) (first_or (context_errors (item_place linkset_place (length read)) d) (context_of d))
+      → more ≡ read ++ context ∷ []
       → OrMemory (first_or (option_to_list fault) more) (contexts_answer (items ++ d ∷ []))
   added context more h own e = by fault h so_far
     where
-      by : (f : Option JsonFault) → false ≡ is_some f → OrMemory (first_or (option_to_list f) read) (contexts_answer items) → OrMemory (first_or (option_to_list f) more) (contexts_answer (items ++ d ∷ []))
+      by : (f : Option JsonFault) → false ≡ is_some f → OrMemory (first_or (option_to_list f) read) (contexts_answer items)
+          → OrMemory (first_or (option_to_list f) more) (contexts_answer (items ++ d ∷ []))
       by None h so_far = context_more items d read so_far context more own e
       by (Some _) h so_far = absurd (let g : false ≡ true = h in cc)
 
@@ -120,7 +134,8 @@ before_more : (ds : List Data) (d : Data) (rest : Items) → before ds (item d r
 before_more [] d rest = refl
 before_more (e ∷ ds) d rest = ap (item e) (before_more ds d rest)
 
-pub one_more : (ds : List Data) (d : Data) (r : Option (Items × List Token)) → parse_map (before ds) (parse_map (item d) r) ≡ parse_map (before (ds ++ d ∷ [])) r
+pub one_more : (ds : List Data) (d : Data) (r : Option (Items × List Token))
+    → parse_map (before ds) (parse_map (item d) r) ≡ parse_map (before (ds ++ d ∷ [])) r
 one_more ds d None = refl
 one_more ds d (Some p) = ap (λ items. Some (items, p.1)) (before_more ds d p.0)
 
@@ -143,13 +158,15 @@ pub no_item_yet : (depth : ℕ) (ts : List Token) (contexts : Contexts) → AreR
 no_item_yet depth ts contexts h = record { turns = length ts; found = []; enough = omega arith; as_whole = none_before _; shorter = omega arith; read = h }
 
 module _ (depth : ℕ) (initial ts r : List Token) (old : Contexts) (so_far : ItemsSoFar depth initial ts old) where
-  pub item_next : (new : Contexts) (d : Data) → after_end_array ts ≡ None → converted of_json (value depth ts) ≡ Some (d, r) → length r < length ts → ((found : List Data) → AreRead old found → AreRead new (found ++ d ∷ []))
+  pub item_next : (new : Contexts) (d : Data) → after_end_array ts ≡ None → converted of_json (value depth ts) ≡ Some (d, r)
+      → length r < length ts → ((found : List Data) → AreRead old found → AreRead new (found ++ d ∷ []))
       → ItemsSoFar depth initial r new
   item_next new d going e less add = record {
     turns = so_far.turns - 1;
     found = so_far.found ++ d ∷ [];
     enough = omega (arith, so_far.enough);
-    as_whole = so_far.as_whole ∙ ap (parse_map (before so_far.found)) (item_read (value depth) so_far.turns ts r d (omega (arith, so_far.enough)) going e) ∙ one_more so_far.found d _;
+    as_whole = so_far.as_whole ∙ ap (parse_map (before so_far.found))
+        (item_read (value depth) so_far.turns ts r d (omega (arith, so_far.enough)) going e) ∙ one_more so_far.found d _;
     shorter = omega (arith, so_far.shorter);
     read = add so_far.found so_far.read;
   }
@@ -157,7 +174,9 @@ module _ (depth : ℕ) (initial ts r : List Token) (old : Contexts) (so_far : It
   pub item_stops : after_end_array ts ≡ None → converted of_json (value depth ts) ≡ None → items_from depth initial ≡ None
   item_stops going none = so_far.as_whole ∙ ap (parse_map (before so_far.found)) (item_refused (value depth) so_far.turns ts going none)
 
-  pub items_end : (answer : Result (List Context) JsonFault) → after_end_array ts ≡ Some r → answer ≡ first_or (option_to_list old.fault) old.read.items → Begins (items_from depth initial) (λ items. OrMemory answer (contexts_answer (items_list items))) r
+  pub items_end : (answer : Result (List Context) JsonFault) → after_end_array ts ≡ Some r
+      → answer ≡ first_or (option_to_list old.fault) old.read.items
+      → Begins (items_from depth initial) (λ items. OrMemory answer (contexts_answer (items_list items))) r
   items_end answer end e = record {
     first = before so_far.found no_items;
     is = so_far.as_whole ∙ ap (parse_map (before so_far.found)) (items_over (value depth) so_far.turns ts r so_far.enough end);
@@ -284,7 +303,8 @@ object_token Token.bad e = absurd (let g : false ≡ true = e in cc)
 -- ---- arrays and objects
 
 module _ (depth : ℕ) (t : Token) (ts r : List Token) (some : 0 < depth) where
-  pub array_read : opens_array t ≡ true → (answer : Result (List Context) JsonFault) → Begins (items_from (depth - 1) ts) (λ items. OrMemory answer (contexts_answer (items_list items))) r
+  pub array_read : opens_array t ≡ true → (answer : Result (List Context) JsonFault)
+      → Begins (items_from (depth - 1) ts) (λ items. OrMemory answer (contexts_answer (items_list items))) r
       → Begins (value_from depth (t ∷ ts)) (λ d. OrMemory answer (linkset_answer d)) r
   array_read e answer h = record {
     first = array h.first;
@@ -318,7 +338,8 @@ no_value depth ts empty = ap (converted of_json) (ap (value depth) empty ∙ val
 
 -- ---- the whole text
 
-last_none : (r : List Token) (j : json.Json) → option_map {U = Data × List Token} (λ d. (d, r)) (of_json j) ≡ None → option_and_then of_json (if_last j r) ≡ None
+last_none : (r : List Token) (j : json.Json) → option_map {U = Data × List Token} (λ d. (d, r)) (of_json j) ≡ None → option_and_then of_json
+    (if_last j r) ≡ None
 last_none [] j h = by (of_json j) h
   where
     by : (x : Option Data) → option_map {U = Data × List Token} (λ d. (d, [])) x ≡ None → x ≡ None
@@ -330,37 +351,18 @@ refused : (o : Option (json.Json × List Token)) → converted of_json o ≡ Non
 refused None h = refl
 refused (Some p) h = last_none p.1 p.0 h
 
-not_read : (text : List ℕ) → converted of_json (value 127 (tokens text)) ≡ None → read_text text ≡ None
-not_read text h = refused (value 127 (tokens text)) h
-
-whole_by : (o : Option (json.Json × List Token)) (j : json.Json) (r : List Token) (d : Data) → o ≡ Some (j, r) → of_json j ≡ Some d → r ≡ [] → option_and_then of_json (option_and_then (λ p. if_last p.0 p.1) o) ≡ Some d
-whole_by o j r d e h last = rw (e, last) h
-
-whole_read : (o : Option (json.Json × List Token)) (r : List Token) (d : Data) → converted of_json o ≡ Some (d, r) → r ≡ [] → option_and_then of_json (option_and_then (λ p. if_last p.0 p.1) o) ≡ Some d
-whole_read o r d e last = let j = converted_some of_json o d r e in whole_by o j.0 r d j.1 j.2 last
-
--- the answer to a text that ends after its value
-pub document_read : (text : List ℕ) (answer : Result (List Context) JsonFault) (r : List Token) → Begins (value_from 127 (tokens text)) (λ d. OrMemory answer (document_answer d)) r → r ≡ []
-    → OrMemory answer (option_map_or document_answer (read_text text) (Err Syntax))
-document_read text answer r h last = rw (whole_read (value 127 (tokens text)) r h.first h.is last) h.has
-
-more_by : (o : Option (json.Json × List Token)) (j : json.Json) (r s : List Token) (t : Token) → o ≡ Some (j, r) → r ≡ t ∷ s → option_and_then of_json (option_and_then (λ p. if_last p.0 p.1) o) ≡ None
+more_by : (o : Option (json.Json × List Token)) (j : json.Json) (r s : List Token) (t : Token) → o ≡ Some (j, r) → r ≡ t ∷ s
+    → option_and_then of_json (option_and_then (λ p. if_last p.0 p.1) o) ≡ None
 more_by o j r s t e more = rw (e, more) refl
 
-more_than_one : (o : Option (json.Json × List Token)) (r s : List Token) (t : Token) (d : Data) → converted of_json o ≡ Some (d, r) → r ≡ t ∷ s → option_and_then of_json (option_and_then (λ p. if_last p.0 p.1) o) ≡ None
+more_than_one : (o : Option (json.Json × List Token)) (r s : List Token) (t : Token) (d : Data) → converted of_json o ≡ Some (d, r)
+    → r ≡ t ∷ s → option_and_then of_json (option_and_then (λ p. if_last p.0 p.1) o) ≡ None
 more_than_one o r s t d e more = let j = converted_some of_json o d r e in more_by o j.0 r s t j.1 more
 
 -- more tokens after the value
-pub not_last : {P : Data → Type 0} (text : List ℕ) (r : List Token) (t : Token) (s : List Token) → Begins (value_from 127 (tokens text)) P r → r ≡ t ∷ s → OrMemory {X = List Context} (Err Syntax) (option_map_or document_answer (read_text text) (Err Syntax))
+pub not_last : {P : Data → Type 0} (text : List ℕ) (r : List Token) (t : Token) (s : List Token) → Begins (value_from 127 (tokens text)) P r
+    → r ≡ t ∷ s → OrMemory {X = List Context} (Err Syntax) (option_map_or document_answer (read_text text) (Err Syntax))
 not_last text r t s h more = rw (more_than_one (value 127 (tokens text)) r s t h.first h.is more) (inr refl)
-
-not_json : (text : List ℕ) → value_from 127 (tokens text) ≡ None → OrMemory {X = List Context} (Err Syntax) (option_map_or document_answer (read_text text) (Err Syntax))
-not_json text h = rw (not_read text h) (inr refl)
-
--- the error of a text that does not begin with a value
-pub rejected : (text : List ℕ) (e : JsonFault) → (e ≡ Syntax → value_from 127 (tokens text) ≡ None) → (e ≡ Syntax) ⊎ (e ≡ Memory) → OrMemory {X = List Context} (Err e) (option_map_or document_answer (read_text text) (Err Syntax))
-rejected text e none (inl s) = rw s (not_json text (none s))
-rejected text e none (inr m) = rw m (inl refl)
 
 pub mapped : {X E : Type 0} {P Q : X → Type 0} (r : Result X E) → IfOk r P → ((x : X) → P x → Q x) → IfOk r Q
 mapped (Ok x) h f = f x h

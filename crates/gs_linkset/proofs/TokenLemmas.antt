@@ -1,5 +1,5 @@
 -- The text is appended token by token: these are the tokens of the document's tree.
-use Rattle.std.proofs.Common.{◌≡◌, ◌≤◌, ℕ, zero, suc, ◌+◌, Bool, true, false, if◌then◌else◌, List, [], ◌∷◌, ◌++◌, length, map, take, drop, codes, refl, sym, ap, ◌∙◌, Ordering, Less, Equal, Greater, arith, append_assoc, append-nil}
+use Rattle.std.proofs.Common.{◌≡◌, ◌≤◌, ℕ, suc, ◌+◌, Bool, true, false, if◌then◌else◌, List, [], ◌∷◌, ◌++◌, length, map, take, drop, codes, refl, sym, ap, ◌∙◌, Ordering, Less, Equal, Greater, arith, append_assoc, append-nil}
 use Rattle.std.specs.Prelude.{not}
 use Rattle.std.specs.Cmp.Lexicographic.{slice_cmp}
 use Rattle.std.specs.List.{list_all}
@@ -7,7 +7,7 @@ use Rattle.std.specs.Ordering.{is_eq, is_lt, match_ordering, nat_cmp, ordering_r
 use Rattle.std.specs.Str.{bytes_eq}
 use Rattle.std.proofs.lemmas.Cmp.{nat_list_cmp_total}
 use Rattle.std.proofs.lemmas.Map.Text.{is_eq-slice_cmp}
-use Rattle.gs_chars.proofs.TruthsAndLists.{and_first, and_second, and_true, equal_bytes, same_bytes}
+use Rattle.gs_chars.proofs.TruthsAndLists.{and_first, and_second, equal_bytes, same_bytes}
 use Rattle.json.specs.Token.{Token, begin_array, begin_object, end_array, end_object}
 use Rattle.json.specs.Tree as tree
 use Rattle.json.specs.Print.{print}
@@ -22,6 +22,7 @@ use Rattle.gs_linkset.specs.LinkShapes.{is_attr, is_below, is_relation}
 use Rattle.gs_linkset.specs.WrittenTrees.{array_by, members_by}
 use Rattle.gs_linkset.specs.WrittenTokens.{Adds, count_below, is_other, item_tokens, member_tokens, members_tokens, text_tokens, tokens_of}
 use Rattle.gs_linkset.proofs.WrittenLemmas.{attr_parts, relation_parts}
+use Rattle.std.proofs.lemmas.Bool.{and_from}
 
 -- ---- one after another
 
@@ -40,7 +41,8 @@ adds_three first next last e = adds first (adds next last refl) e
 pub adds_four : {a b c d e : Written} {s t u v w : List Token} → Adds a b s → Adds b c t → Adds c d u → Adds d e v → w ≡ s ++ (t ++ (u ++ v)) → Adds a e w
 adds_four first second third last same = adds first (adds_three second third last refl) same
 
-pub adds_five : {a b c d e f : Written} {s t u v w x : List Token} → Adds a b s → Adds b c t → Adds c d u → Adds d e v → Adds e f w → x ≡ s ++ (t ++ (u ++ (v ++ w))) → Adds a f x
+pub adds_five : {a b c d e f : Written} {s t u v w x : List Token} → Adds a b s → Adds b c t → Adds c d u → Adds d e v → Adds e f w
+    → x ≡ s ++ (t ++ (u ++ (v ++ w))) → Adds a f x
 adds_five first second third fourth last same = adds first (adds_four second third fourth last refl) same
 
 -- ---- arrays
@@ -57,7 +59,8 @@ array_tokens see xs = ap (λ ts. begin_array ∷ ts) (item_list see xs)
 module _ {X : Type 0} (name : X → List ℕ) (see : X → Data) where
   member_list : (xs : List X) → tree.members_tokens (members_outline (members_by name see xs)) ≡ members_tokens name see xs ++ end_object ∷ []
   member_list [] = refl
-  member_list (x ∷ xs) = ap (λ ts. member_tokens name see x ++ ts) (member_list xs) ∙ sym (append_assoc (member_tokens name see x) (members_tokens name see xs) (end_object ∷ []))
+  member_list (x ∷ xs) = ap (λ ts. member_tokens name see x ++ ts) (member_list xs) ∙ sym
+      (append_assoc (member_tokens name see x) (members_tokens name see xs) (end_object ∷ []))
 
   -- the tokens with one more text after the first n
   abbrev split_tokens : List ℕ → List ℕ → ℕ → List X → List Token
@@ -75,7 +78,8 @@ module _ {X : Type 0} (name : X → List ℕ) (see : X → Data) where
   placed_by Greater k v x xs n is other rest =
       ap (λ ts. member_tokens name see x ++ ts) rest ∙ sym (append_assoc (member_tokens name see x) (members_tokens name see (take n xs)) (text_tokens k v ++ (members_tokens name see (drop n xs) ++ end_object ∷ [])))
 
-  placed : (k v : List ℕ) (xs : List X) → list_all (is_other k) (map name xs) ≡ true → tree.members_tokens (members_outline (put k (string v) (members_by name see xs))) ≡ split_tokens k v (count_below k (map name xs)) xs
+  placed : (k v : List ℕ) (xs : List X) → list_all (is_other k) (map name xs) ≡ true
+      → tree.members_tokens (members_outline (put k (string v) (members_by name see xs))) ≡ split_tokens k v (count_below k (map name xs)) xs
   placed k v [] h = refl
   placed k v (x ∷ xs) h =
       let below : is_below (name x) k ≡ is_lt (ordering_reverse (slice_cmp nat_cmp k (name x))) = ap is_lt (nat_list_cmp_total.antisymm (name x) k) in
@@ -83,7 +87,8 @@ module _ {X : Type 0} (name : X → List ℕ) (see : X → Data) where
       let rest = placed k v xs (and_second (is_other k (name x)) (list_all (is_other k) (map name xs)) h) in
       rw below (placed_by (slice_cmp nat_cmp k (name x)) k v x xs (count_below k (map name xs)) refl own rest)
 
-  pub object_tokens : (k v : List ℕ) (xs below above : List X) (n : ℕ) → list_all (is_other k) (map name xs) ≡ true → n ≡ count_below k (map name xs) → below ≡ take n xs → above ≡ drop n xs
+  pub object_tokens : (k v : List ℕ) (xs below above : List X) (n : ℕ) → list_all (is_other k) (map name xs) ≡ true
+      → n ≡ count_below k (map name xs) → below ≡ take n xs → above ≡ drop n xs
       → tokens_of (object (put k (string v) (members_by name see xs))) ≡ begin_object ∷ (members_tokens name see below ++ (text_tokens k v ++ (members_tokens name see above ++ end_object ∷ [])))
   object_tokens k v xs below above n h count front back = rw (front, back, count) (ap (λ ts. begin_object ∷ ts) (placed k v xs h))
 
@@ -96,42 +101,37 @@ module _ {X : Type 0} (name : X → List ℕ) (see : X → Data) where
       by false h = omega arith
 
   -- one name more is below
-  pub count_next : (k : List ℕ) (xs : List X) (i : ℕ) (x : X) (all : ℕ) → drop i xs ≡ x ∷ drop (i + 1) xs → is_below (name x) k ≡ true → all ≡ i + count_below k (map name (drop i xs)) → all ≡ i + 1 + count_below k (map name (drop (i + 1) xs))
+  pub count_next : (k : List ℕ) (xs : List X) (i : ℕ) (x : X) (all : ℕ) → drop i xs ≡ x ∷ drop (i + 1) xs → is_below (name x) k ≡ true
+      → all ≡ i + count_below k (map name (drop i xs)) → all ≡ i + 1 + count_below k (map name (drop (i + 1) xs))
   count_next k xs i x all at below so_far =
       let step : count_below k (map name (drop i xs)) ≡ suc (count_below k (map name (drop (i + 1) xs))) = rw (at, below) refl in
       omega (arith, step, so_far)
 
   -- the next is not
-  pub count_here : (k : List ℕ) (xs : List X) (i : ℕ) (x : X) (all : ℕ) → drop i xs ≡ x ∷ drop (i + 1) xs → is_below (name x) k ≡ false → all ≡ i + count_below k (map name (drop i xs)) → i ≡ all
+  pub count_here : (k : List ℕ) (xs : List X) (i : ℕ) (x : X) (all : ℕ) → drop i xs ≡ x ∷ drop (i + 1) xs → is_below (name x) k ≡ false
+      → all ≡ i + count_below k (map name (drop i xs)) → i ≡ all
   count_here k xs i x all at above so_far =
       let step : count_below k (map name (drop i xs)) ≡ 0 = rw (at, above) refl in
       omega (arith, step, so_far)
 
 -- ---- the shape of the written text
 
-pub all_take : {X : Type 0} (t : X → Bool) (n : ℕ) (xs : List X) → list_all t xs ≡ true → list_all t (take n xs) ≡ true
-all_take t zero xs h = refl
-all_take t (suc n) [] h = refl
-all_take t (suc n) (x ∷ xs) h = and_true (t x) (list_all t (take n xs)) (and_first (t x) (list_all t xs) h) (all_take t n xs (and_second (t x) (list_all t xs) h))
-
-pub all_drop : {X : Type 0} (t : X → Bool) (n : ℕ) (xs : List X) → list_all t xs ≡ true → list_all t (drop n xs) ≡ true
-all_drop t zero xs h = h
-all_drop t (suc n) [] h = refl
-all_drop t (suc n) (x ∷ xs) h = all_drop t n xs (and_second (t x) (list_all t xs) h)
-
 pub attrs_other : (attrs : List Attr) → list_all is_attr attrs ≡ true → list_all (is_other (codes "href")) (map (λ attr. attr.name) attrs) ≡ true
 attrs_other [] h = refl
 attrs_other (attr ∷ attrs) h =
-    and_true (is_other (codes "href") attr.name) _ (attr_parts attr (and_first (is_attr attr) (list_all is_attr attrs) h)).0 (attrs_other attrs (and_second (is_attr attr) (list_all is_attr attrs) h))
+    and_from (is_other (codes "href") attr.name) _ (attr_parts attr (and_first (is_attr attr) (list_all is_attr attrs) h)).0
+    (attrs_other attrs (and_second (is_attr attr) (list_all is_attr attrs) h))
 
-pub relations_other : (relations : List Relation) → list_all is_relation relations ≡ true → list_all (is_other (codes "anchor")) (map (λ relation. relation.name) relations) ≡ true
+pub relations_other : (relations : List Relation) → list_all is_relation relations ≡ true
+    → list_all (is_other (codes "anchor")) (map (λ relation. relation.name) relations) ≡ true
 relations_other [] h = refl
 relations_other (relation ∷ relations) h =
-    and_true (is_other (codes "anchor") relation.name) _ (relation_parts relation (and_first (is_relation relation) (list_all is_relation relations) h)).0 (relations_other relations (and_second (is_relation relation) (list_all is_relation relations) h))
+    and_from (is_other (codes "anchor") relation.name) _ (relation_parts relation (and_first (is_relation relation) (list_all is_relation relations) h)).0 (relations_other relations (and_second (is_relation relation) (list_all is_relation relations) h))
 
 -- ---- the text
 
-pub printed : (start new : Written) (d : Data) (text : List ℕ) → start.before ≡ [] → start.tokens ≡ [] → Adds start new (tokens_of d) → text ≡ new.before ++ print new.tokens → text ≡ compact_text d
+pub printed : (start new : Written) (d : Data) (text : List ℕ) → start.before ≡ [] → start.tokens ≡ [] → Adds start new (tokens_of d)
+    → text ≡ new.before ++ print new.tokens → text ≡ compact_text d
 printed start new d text none empty added e =
     let before = added.before ∙ none in
     let tokens = added.tokens ∙ ap (λ ts. ts ++ tokens_of d) empty in

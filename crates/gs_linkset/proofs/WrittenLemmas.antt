@@ -19,7 +19,8 @@ use Rattle.gs_linkset.specs.declared.link_types.Relation.{Relation}
 use Rattle.gs_linkset.specs.declared.link_types.Target.{Target}
 use Rattle.gs_linkset.specs.LinkShapes.{ascend, is_attr, is_below_first, is_context, is_relation, is_tagged_text, is_target, is_value}
 
-pub valid : {S E : Type 0} (text : List ℕ) (same : S → Type 0) (other : E → Type 0) (r : Result S E) → is_utf8 text ≡ true → MatchResult r (λ s. same s × IsUtf8 text) (λ e. (IsUtf8 text → ⊥) × other e) → IsOk r
+pub valid : {S E : Type 0} (text : List ℕ) (same : S → Type 0) (other : E → Type 0) (r : Result S E) → is_utf8 text ≡ true
+    → MatchResult r (λ s. same s × IsUtf8 text) (λ e. (IsUtf8 text → ⊥) × other e) → IsOk r
 valid text same other (Ok s) t h = refl
 valid text same other (Err e) t h = absurd (h.0 (IsUtf8-from_is_utf8 text t))
 
@@ -30,11 +31,13 @@ less_from Less h = refl
 less_from Equal h = absurd (cc)
 less_from Greater h = absurd (cc)
 
-below_all : (a b : List ℕ) (names : List (List ℕ)) → slice_cmp nat_cmp a b ≡ Less → AllByRecursion (λ c. slice_cmp nat_cmp b c ≡ Less) names → AllByRecursion (λ c. slice_cmp nat_cmp a c ≡ Less) names
+below_all : (a b : List ℕ) (names : List (List ℕ)) → slice_cmp nat_cmp a b ≡ Less → AllByRecursion (λ c. slice_cmp nat_cmp b c ≡ Less) names
+    → AllByRecursion (λ c. slice_cmp nat_cmp a c ≡ Less) names
 below_all a b [] less all = tt
 below_all a b (c ∷ names) less all = (nat_list_cmp_total.trans a b c less all.0, below_all a b names less all.1)
 
-first_below : (a : List ℕ) (names : List (List ℕ)) → is_below_first a names ≡ true → AscendByBytes names → AllByRecursion (λ c. slice_cmp nat_cmp a c ≡ Less) names
+first_below : (a : List ℕ) (names : List (List ℕ)) → is_below_first a names ≡ true → AscendByBytes names
+    → AllByRecursion (λ c. slice_cmp nat_cmp a c ≡ Less) names
 unfolding IsStrictlySortedBy
 first_below a [] first s = tt
 first_below a (b ∷ names) first s = let less = less_from (slice_cmp nat_cmp a b) first in (less, below_all a b names less s.0)
@@ -47,7 +50,8 @@ sorted (a ∷ names) h =
     (first_below a names (and_first (is_below_first a names) (ascend names) h) rest, rest)
 
 module _ {X : Type 0} (name : X → List ℕ) (tree : X → Data) where
-  pub below_at : (a : List ℕ) (xs : List X) (i : ℕ) (x : X) → AllByRecursion (λ c. slice_cmp nat_cmp a c ≡ Less) (map name xs) → slice_get xs i ≡ Some x → slice_cmp nat_cmp a (name x) ≡ Less
+  pub below_at : (a : List ℕ) (xs : List X) (i : ℕ) (x : X) → AllByRecursion (λ c. slice_cmp nat_cmp a c ≡ Less) (map name xs)
+      → slice_get xs i ≡ Some x → slice_cmp nat_cmp a (name x) ≡ Less
   below_at a [] i x all at = absurd (let g : None ≡ Some x = at in cc)
   below_at a (y ∷ xs) zero x all at = let same : y ≡ x = cc in rw (← same) all.0
   below_at a (y ∷ xs) (suc i) x all at = below_at a xs i x all.1 at
@@ -59,7 +63,8 @@ true_at t [] i x all at = absurd (let g : None ≡ Some x = at in cc)
 true_at t (y ∷ xs) zero x all at = let same : y ≡ x = cc in rw (← same) (and_first (t y) (list_all t xs) all)
 true_at t (y ∷ xs) (suc i) x all at = true_at t xs i x (and_second (t y) (list_all t xs) all) at
 
-pub attr_parts : (attr : Attr) → is_attr attr ≡ true → (not (bytes_eq attr.name (codes "href")) ≡ true) × (is_utf8 attr.name ≡ true) × (is_value attr.name attr.value ≡ true)
+pub attr_parts : (attr : Attr) → is_attr attr ≡ true
+    → (not (bytes_eq attr.name (codes "href")) ≡ true) × (is_utf8 attr.name ≡ true) × (is_value attr.name attr.value ≡ true)
 unfolding is_attr
 attr_parts attr h =
     let rest = and_second (not (bytes_eq attr.name (codes "href"))) _ h in (
@@ -68,7 +73,8 @@ attr_parts attr h =
       and_second (is_utf8 attr.name) _ rest,
     )
 
-pub target_parts : (target : Target) → is_target target ≡ true → (is_utf8 target.href ≡ true) × (ascend (map (λ attr. attr.name) target.attrs) ≡ true) × (list_all is_attr target.attrs ≡ true)
+pub target_parts : (target : Target) → is_target target ≡ true
+    → (is_utf8 target.href ≡ true) × (ascend (map (λ attr. attr.name) target.attrs) ≡ true) × (list_all is_attr target.attrs ≡ true)
 unfolding is_target
 target_parts target h =
     let rest = and_second (is_utf8 target.href) _ h in (
@@ -77,7 +83,8 @@ target_parts target h =
       and_second (ascend (map (λ attr. attr.name) target.attrs)) _ rest,
     )
 
-pub relation_parts : (relation : Relation) → is_relation relation ≡ true → (not (bytes_eq relation.name (codes "anchor")) ≡ true) × (is_utf8 relation.name ≡ true) × (list_all is_target relation.targets ≡ true)
+pub relation_parts : (relation : Relation) → is_relation relation ≡ true
+    → (not (bytes_eq relation.name (codes "anchor")) ≡ true) × (is_utf8 relation.name ≡ true) × (list_all is_target relation.targets ≡ true)
 unfolding is_relation
 relation_parts relation h =
     let rest = and_second (not (bytes_eq relation.name (codes "anchor"))) _ h in (
@@ -86,7 +93,8 @@ relation_parts relation h =
       and_second (is_utf8 relation.name) _ rest,
     )
 
-pub context_parts : (context : Context) → is_context context ≡ true → (is_utf8 context.anchor ≡ true) × (ascend (map (λ relation. relation.name) context.relations) ≡ true) × (list_all is_relation context.relations ≡ true)
+pub context_parts : (context : Context) → is_context context ≡ true
+    → (is_utf8 context.anchor ≡ true) × (ascend (map (λ relation. relation.name) context.relations) ≡ true) × (list_all is_relation context.relations ≡ true)
 unfolding is_context
 context_parts context h =
     let rest = and_second (is_utf8 context.anchor) _ h in (

@@ -10,16 +10,16 @@ use Rattle.gs_json.specs.Members.{array_in}
 use Rattle.gs_linkset.specs.declared.link_types.AttrValue.{AttrValue}
 use Rattle.gs_linkset.specs.declared.link_types.AttrValue.TheVariants.{One, Many, Tagged}
 
--- trusted, own: `f` of all items, if it gives something for each
+-- trusted, own: the list of what `f` gives of each item, if it gives something for each
 abbrev pub every : {X Y : Type 0} → (X → Option Y) → List X → Option (List Y)
 every f [] = Some []
 every f (x ∷ xs) = option_and_then (λ y. option_map (λ ys. y ∷ ys) (every f xs)) (f x)
 
--- trusted, RFC 9264, section 4.2.4.2: whether `name` ends in `*`, like those of internationalized attributes
+-- trusted, RFC 9264, section 4.2.4.2: holds if `name` ends in `*`, like those of internationalized attributes
 abbrev pub is_tagged : List ℕ → Bool
 is_tagged name = ends_with (λ a b. a == b) name (codes "*")
 
--- trusted, RFC 9264, section 4.2.4.1: whether `name` is that of an attribute of RFC 8288 with one value
+-- trusted, RFC 9264, section 4.2.4.1: holds if `name` is that of an attribute of RFC 8288 with one value
 abbrev pub is_single : List ℕ → Bool
 is_single name = bytes_eq name (codes "type") || (bytes_eq name (codes "title") || bytes_eq name (codes "media"))
 
@@ -31,7 +31,7 @@ texts_of d = option_and_then (every as_str) (array_in d)
 abbrev pub language_of : Data → Option (List ℕ)
 language_of d = option_map_or as_str (get (codes "language") d) (Some [])
 
--- trusted, own: `text` with the language of `d`
+-- trusted, own: the pair of `text` and the language of `d`, if it has one
 abbrev pub text_with : Data → List ℕ → Option (List ℕ × List ℕ)
 text_with d text = option_map (λ language. (text, language)) (language_of d)
 

@@ -93,8 +93,8 @@ context_errors place d = member_errors Text (codes "anchor") place d ++ flat_map
 unfoldable pub contexts_of : Data → List Context
 contexts_of d = map context_of (items_in (codes "linkset") d)
 
--- trusted, RFC 9264, section 4.2; the order and ignoring are own: all errors of the document `d` in the order of the reports:
--- its own, then context by context
+-- trusted, RFC 9264, section 4.2; the order and ignoring are own: the list of all errors of the document `d` in the order of
+-- the reports: its own, then context by context
 unfoldable pub document_errors : Data → List JsonFault
 document_errors d =
     member_errors Array (codes "linkset") [] d

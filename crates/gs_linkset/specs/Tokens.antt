@@ -34,11 +34,11 @@ pub record Begins {A : Type 0} (found : Option (A × List Token)) (Has : A → T
   pub is : found ≡ Some (first, rest)
   pub has : Has first
 
--- holds if `result` is the answer to what is found, or `Memory`
+-- holds if `result` is the answer to the value that was found, or `Memory`
 abbrev pub Answers : {A X : Type 0} → (A → Result X JsonFault) → Option (A × List Token) → List Token → Result X JsonFault → Type 0
 Answers answer found rest result = Begins found (λ first. OrMemory result (answer first)) rest
 
--- whether the token opens an array
+-- holds if the token opens an array
 abbrev pub opens_array : Token → Bool
 opens_array Token.begin_object = false
 opens_array Token.end_object = false
@@ -51,7 +51,7 @@ opens_array (Token.boolean b) = false
 opens_array Token.null = false
 opens_array Token.bad = false
 
--- whether the token opens an object
+-- holds if the token opens an object
 abbrev pub opens_object : Token → Bool
 opens_object Token.begin_object = true
 opens_object Token.end_object = false

@@ -39,7 +39,7 @@ abbrev pub language_tokens : List ℕ → List Token
 language_tokens [] = []
 language_tokens (c ∷ language) = text_tokens (codes "language") (c ∷ language)
 
--- whether `name` is not `other`
+-- holds if `name` is not `other`
 abbrev pub is_other : List ℕ → List ℕ → Bool
 is_other other name = not (bytes_eq name other)
 

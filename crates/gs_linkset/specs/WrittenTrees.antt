@@ -1,4 +1,4 @@
--- The text of a linkset (RFC 9264, section 4.2): JSON (RFC 8259) with no space, and the members of each object in ascending
+-- The text of a linkset (RFC 9264, section 4.2): JSON (RFC 8259) with no space. The members of each object are in ascending
 -- order of name, which is this project's own rule.
 use Rattle.std.specs.Prelude.{ℕ, List, [], ◌∷◌, map, codes}
 use Rattle.serde_json.specs.Data.{Data, string, array, object, Members, no_members, member, put}
@@ -39,7 +39,7 @@ value_tree (Tagged pairs) = array_by tagged_tree pairs
 abbrev pub attr_members : List Attr → Members
 attr_members attrs = members_by (λ attr. attr.name) (λ attr. value_tree attr.value) attrs
 
--- trusted, RFC 9264, sections 4.2.1 to 4.2.4: a target (section 4.2.3)
+-- trusted, RFC 9264, sections 4.2.1 to 4.2.4: the tree of a target (section 4.2.3)
 abbrev pub target_tree : Target → Data
 target_tree target = object (put (codes "href") (string target.href) (attr_members target.attrs))
 
@@ -53,7 +53,7 @@ abbrev pub relation_members : List Relation → Members
 relation_members relations =
     members_by (λ relation. relation.name) (λ relation. array_by target_tree relation.targets) relations
 
--- trusted, RFC 9264, sections 4.2.1 to 4.2.4: a context (section 4.2.2)
+-- trusted, RFC 9264, sections 4.2.1 to 4.2.4: the tree of a context (section 4.2.2)
 abbrev pub context_tree : Context → Data
 context_tree context = object (put (codes "anchor") (string context.anchor) (relation_members context.relations))
 

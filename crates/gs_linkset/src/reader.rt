@@ -160,9 +160,9 @@ pub(crate) fn context_at(alloc: Global, item: &Value, i: usize) -> Result<Contex
     Context::read(alloc, &item)
 }
 
-/// Reads a linkset from a document in JSON (RFC 9264, section 4.2): an object with the array `linkset` of objects with the text
-/// `anchor`, whose other arrays are relations of objects with the text `href`. Ignores members of other kinds. Returns the first
-/// error in this order, or `Memory` instead of any answer.
+/// Reads a linkset from a document in JSON (RFC 9264, section 4.2). It is an object with the array `linkset` of objects with
+/// the text `anchor`. Their other arrays are relations of objects with the text `href`. Ignores members of other kinds. Returns
+/// the first error in this order, or `Memory` instead of any answer.
 ///
 /// 1. `Syntax`: the bytes are not JSON that `serde_json` reads.
 /// 2. `Kind`: the document is not an object. `Lacks` or `Kind`: it has no `linkset`, or one of another kind.

@@ -44,11 +44,13 @@ module _ {E X : Type 0} (h : E → Option X) where
       behind : found_in es → found_in (e ∷ es)
       behind (j, f, place, own) = (suc j, f, place, own)
 
-      by_place : (k : ℕ) (y : X) → h e ≡ Some y → slice_get (y ∷ filter_map h es) k ≡ Some x → ((m : ℕ) → slice_get (filter_map h es) m ≡ Some x → found_in es) → found_in (e ∷ es)
+      by_place : (k : ℕ) (y : X) → h e ≡ Some y → slice_get (y ∷ filter_map h es) k ≡ Some x
+          → ((m : ℕ) → slice_get (filter_map h es) m ≡ Some x → found_in es) → found_in (e ∷ es)
       by_place zero y own found rest = (0, e, refl, own ∙ found)
       by_place (suc k) y own found rest = behind (rest k found)
 
-      by : (o : Option X) → h e ≡ o → slice_get (cons_option o (filter_map h es)) i ≡ Some x → ((k : ℕ) → slice_get (filter_map h es) k ≡ Some x → found_in es) → found_in (e ∷ es)
+      by : (o : Option X) → h e ≡ o → slice_get (cons_option o (filter_map h es)) i ≡ Some x
+          → ((k : ℕ) → slice_get (filter_map h es) k ≡ Some x → found_in es) → found_in (e ∷ es)
       by None own found rest = behind (rest i found)
       by (Some y) own found rest = by_place i y own found rest
 
@@ -64,15 +66,18 @@ module _ {E X : Type 0} (h : E → Option X) where
       by (Some y) (i, found) = (suc i, found)
 
   module _ (name : X → List ℕ) (key : E → List ℕ) (own : (e : E) (x : X) → h e ≡ Some x → name x ≡ key e) where
-    first_by : (n : List ℕ) (e : E) (es : List E) (o : Option X) → h e ≡ o → slice_cmp nat_cmp n (key e) ≡ Less → is_below_first n (map name (filter_map h es)) ≡ true → is_below_first n (map name (cons_option o (filter_map h es))) ≡ true
+    first_by : (n : List ℕ) (e : E) (es : List E) (o : Option X) → h e ≡ o → slice_cmp nat_cmp n (key e) ≡ Less
+        → is_below_first n (map name (filter_map h es)) ≡ true → is_below_first n (map name (cons_option o (filter_map h es))) ≡ true
     first_by n e es None is less rest = rest
     first_by n e es (Some x) is less rest = rw (own e x is, less) refl
 
-    first_given : (n : List ℕ) (es : List E) → AllByRecursion (λ m. slice_cmp nat_cmp n m ≡ Less) (map key es) → is_below_first n (map name (filter_map h es)) ≡ true
+    first_given : (n : List ℕ) (es : List E) → AllByRecursion (λ m. slice_cmp nat_cmp n m ≡ Less) (map key es)
+        → is_below_first n (map name (filter_map h es)) ≡ true
     first_given n [] all = refl
     first_given n (e ∷ es) all = first_by n e es (h e) refl all.0 (first_given n es all.1)
 
-    given_by : (e : E) (es : List E) (o : Option X) → h e ≡ o → is_below_first (key e) (map name (filter_map h es)) ≡ true → ascend (map name (filter_map h es)) ≡ true → ascend (map name (cons_option o (filter_map h es))) ≡ true
+    given_by : (e : E) (es : List E) (o : Option X) → h e ≡ o → is_below_first (key e) (map name (filter_map h es)) ≡ true
+        → ascend (map name (filter_map h es)) ≡ true → ascend (map name (cons_option o (filter_map h es))) ≡ true
     given_by e es None is first rest = rest
     given_by e es (Some x) is first rest = rw (own e x is, first, rest) refl
 
@@ -115,7 +120,8 @@ no_values name attr h = by (is_reserved name) refl
 abbrev Entry : Type 0
 Entry = List ℕ × List (List ℕ)
 
-pub attributes : (params : List Param) (groups : BTreeMap (List ℕ) (List (List ℕ))) → IsOrdered (slice_cmp nat_cmp) groups → ((q : List ℕ) → items_at q groups ≡ values_of q params) → IsAttributes params (attrs_of_entries groups.entries)
+pub attributes : (params : List Param) (groups : BTreeMap (List ℕ) (List (List ℕ))) → IsOrdered (slice_cmp nat_cmp) groups
+    → ((q : List ℕ) → items_at q groups ≡ values_of q params) → IsAttributes params (attrs_of_entries groups.entries)
 attributes params groups ordered items = record { ascending = given_ascends given_of (λ attr. attr.name) (λ e. e.0) (λ e attr own. attr_name e.0 e.1 attr own) groups.entries ordered; each = by_place; every_name = by_name }
   where
     given_of : Entry → Option Attr
@@ -129,7 +135,8 @@ attributes params groups ordered items = record { ascending = given_ascends give
         let values : values_of e.0 params ≡ e.1 = sym (items e.0) ∙ ap (λ o. unwrap_or o []) here in
         ap (λ n. attr_with n (values_of n params)) (attr_name e.0 e.1 attr found.3) ∙ ap (attr_with e.0) values ∙ found.3
 
-    by_values : (name : List ℕ) (attr : Attr) (o : Option (List (List ℕ))) → tree.get (slice_cmp nat_cmp) groups name ≡ o → attr_with name (unwrap_or o []) ≡ Some attr → (i : ℕ) × (slice_get (filter_map given_of groups.entries) i ≡ Some attr)
+    by_values : (name : List ℕ) (attr : Attr) (o : Option (List (List ℕ))) → tree.get (slice_cmp nat_cmp) groups name ≡ o
+        → attr_with name (unwrap_or o []) ≡ Some attr → (i : ℕ) × (slice_get (filter_map given_of groups.entries) i ≡ Some attr)
     by_values name attr None is h = absurd (no_values name attr h)
     by_values name attr (Some values) is h =
         let place = place_from_lookup (is_at (slice_cmp nat_cmp name)) groups.entries values is in
@@ -141,7 +148,9 @@ attributes params groups ordered items = record { ascending = given_ascends give
 
 -- ---- a value more
 
-pub put_items : (groups mid new : BTreeMap (List ℕ) (List (List ℕ))) (name value : List ℕ) (values pushed : List (List ℕ)) → values ≡ items_at name groups → ((q : List ℕ) → bytes_eq name q ≡ false → items_at q mid ≡ items_at q groups) → Updates (slice_cmp nat_cmp) mid new name (Some pushed) → pushed ≡ values ++ value ∷ []
+pub put_items : (groups mid new : BTreeMap (List ℕ) (List (List ℕ))) (name value : List ℕ) (values pushed : List (List ℕ))
+    → values ≡ items_at name groups → ((q : List ℕ) → bytes_eq name q ≡ false → items_at q mid ≡ items_at q groups)
+    → Updates (slice_cmp nat_cmp) mid new name (Some pushed) → pushed ≡ values ++ value ∷ []
     → (q : List ℕ) → items_at q new ≡ items_at q groups ++ value_at q name value
 put_items groups mid new name value values pushed own others updates push q = by (bytes_eq name q) refl
   where
@@ -161,7 +170,10 @@ option_front : {X : Type 0} (o : Option X) (xs : List X) → cons_option o xs �
 option_front None xs = refl
 option_front (Some x) xs = refl
 
-pub entries_more : (entries rest : List Entry) (name : List ℕ) (values : List (List ℕ)) (old new whole : List Attr) → old ++ attrs_of_entries entries ≡ whole → entries ≡ (name, values) ∷ rest → new ≡ old ++ cons_option (attr_with name values) [] → new ++ attrs_of_entries rest ≡ whole
+pub entries_more : (entries rest : List Entry) (name : List ℕ) (values : List (List ℕ)) (old new whole : List Attr)
+    → old ++ attrs_of_entries entries ≡ whole → entries ≡ (name, values) ∷ rest → new ≡ old ++ cons_option (attr_with name values) []
+    → new ++ attrs_of_entries rest ≡ whole
 entries_more entries rest name values old new whole h is e =
     ap (λ (xs : List Attr). xs ++ attrs_of_entries rest) e ∙ append_assoc old (cons_option (attr_with name values) []) (attrs_of_entries rest)
-    ∙ ap (λ (xs : List Attr). old ++ xs) (sym (option_front (attr_with name values) (attrs_of_entries rest))) ∙ ap (λ xs. old ++ attrs_of_entries xs) (sym is) ∙ h
+    ∙ ap (λ (xs : List Attr). old ++ xs) (sym (option_front (attr_with name values) (attrs_of_entries rest))) ∙ ap
+    (λ xs. old ++ attrs_of_entries xs) (sym is) ∙ h

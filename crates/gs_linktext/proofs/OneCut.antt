@@ -11,7 +11,8 @@ use Rattle.gs_linktext_grammar.specs.Grammar.{is_some_part}
 use Rattle.gs_linktext.specs.Contexts.{are_apart, ascends, first_name, has_target, is_apart, is_full, last_name, IsCut}
 use Rattle.gs_linktext.proofs.SpelledAttrs.{below_apart}
 use Rattle.gs_linktext.proofs.SpelledLexemes.{Link}
-use Rattle.gs_chars.proofs.TruthsAndLists.{and_first, and_second, false_from, same_bytes}
+use Rattle.gs_chars.proofs.TruthsAndLists.{and_first, and_second, same_bytes}
+use Rattle.std.proofs.lemmas.Bool.{false_from_ne_true}
 
 -- relations with a target of a name before them
 abbrev put_target : List ℕ → Target → List Relation → List Relation
@@ -61,17 +62,19 @@ less_by a b Equal e h = absurd (let f : false ≡ true = (rw e at h) in cc)
 less_by a b Greater e h = absurd (let f : false ≡ true = (rw e at h) in cc)
 
 not_below_itself : (a : List ℕ) → is_below a a ≡ false
-not_below_itself a = false_from (is_below a a) (λ t. let f : false ≡ true = sym (not_below a a t) ∙ t in cc)
+not_below_itself a = false_from_ne_true (is_below a a) (λ t. let f : false ≡ true = sym (not_below a a t) ∙ t in cc)
 
 -- ---- the targets of a relation, the relations of a context, the contexts
 
-targets_on : (anchor name : List ℕ) (t : Target) (ts : List Target) (rs : List Relation) (base cs : List Context) → ((u : Target) → put (anchor, name, u) base ≡ record { anchor = anchor; relations = record { name = name; targets = u ∷ [] } ∷ rs } ∷ cs)
+targets_on : (anchor name : List ℕ) (t : Target) (ts : List Target) (rs : List Relation) (base cs : List Context)
+    → ((u : Target) → put (anchor, name, u) base ≡ record { anchor = anchor; relations = record { name = name; targets = u ∷ [] } ∷ rs } ∷ cs)
     → puts (map (λ target. (anchor, name, target)) (t ∷ ts)) base ≡ record { anchor = anchor; relations = record { name = name; targets = t ∷ ts } ∷ rs } ∷ cs
 targets_on anchor name t [] rs base cs h = h t
 targets_on anchor name t (u ∷ us) rs base cs h =
     ap (put (anchor, name, t)) (targets_on anchor name u us rs base cs h) ∙ rw (same_bytes anchor, not_below_itself name, same_bytes name) refl
 
-relation_on : (anchor : List ℕ) (r : Relation) (rs : List Relation) (base cs : List Context) → has_target r ≡ true → ((u : Target) → put (anchor, r.name, u) base ≡ record { anchor = anchor; relations = record { name = r.name; targets = u ∷ [] } ∷ rs } ∷ cs)
+relation_on : (anchor : List ℕ) (r : Relation) (rs : List Relation) (base cs : List Context) → has_target r ≡ true
+    → ((u : Target) → put (anchor, r.name, u) base ≡ record { anchor = anchor; relations = record { name = r.name; targets = u ∷ [] } ∷ rs } ∷ cs)
     → puts (links_of_relation anchor r) base ≡ record { anchor = anchor; relations = r ∷ rs } ∷ cs
 relation_on anchor r rs base cs some h = by r.targets some
   where
@@ -79,7 +82,9 @@ relation_on anchor r rs base cs some h = by r.targets some
     by [] e = absurd (let f : false ≡ true = e in cc)
     by (t ∷ ts) e = targets_on anchor r.name t ts rs base cs h
 
-relations_on : (anchor : List ℕ) (r : Relation) (rs : List Relation) (cs : List Context) → list_all has_target (r ∷ rs) ≡ true → ascend (relation_names (r ∷ rs)) ≡ true → ((u : Target) → put (anchor, last_name (r ∷ rs), u) cs ≡ alone anchor (last_name (r ∷ rs)) u ∷ cs)
+relations_on : (anchor : List ℕ) (r : Relation) (rs : List Relation) (cs : List Context) → list_all has_target (r ∷ rs) ≡ true
+    → ascend (relation_names (r ∷ rs)) ≡ true
+    → ((u : Target) → put (anchor, last_name (r ∷ rs), u) cs ≡ alone anchor (last_name (r ∷ rs)) u ∷ cs)
     → puts (flat_map (links_of_relation anchor) (r ∷ rs)) cs ≡ record { anchor = anchor; relations = r ∷ rs } ∷ cs
 relations_on anchor r [] cs full up h =
     puts_both (links_of_relation anchor r) [] cs ∙ relation_on anchor r [] cs cs (and_first (has_target r) true full) h
@@ -112,9 +117,12 @@ rest_apart c [] h = refl
 rest_apart c (d ∷ cs) h = and_second (is_apart c d) (are_apart (d ∷ cs)) h
 
 context_on : (c : Context) (cs : List Context) → is_full c ≡ true → ascends c ≡ true → is_end c cs → puts (links_of_context c) cs ≡ c ∷ cs
-context_on c cs full up h = by c.relations (and_first (is_some_part c.relations) (list_all has_target c.relations) full) (and_second (is_some_part c.relations) (list_all has_target c.relations) full) up h
+context_on c cs full up h = by c.relations (and_first (is_some_part c.relations) (list_all has_target c.relations) full)
+    (and_second (is_some_part c.relations) (list_all has_target c.relations) full) up h
   where
-    by : (rs : List Relation) → is_some_part rs ≡ true → list_all has_target rs ≡ true → ascend (relation_names rs) ≡ true → ((u : Target) → put (c.anchor, last_name rs, u) cs ≡ alone c.anchor (last_name rs) u ∷ cs) → puts (flat_map (links_of_relation c.anchor) rs) cs ≡ record { anchor = c.anchor; relations = rs } ∷ cs
+    by : (rs : List Relation) → is_some_part rs ≡ true → list_all has_target rs ≡ true → ascend (relation_names rs) ≡ true
+        → ((u : Target) → put (c.anchor, last_name rs, u) cs ≡ alone c.anchor (last_name rs) u ∷ cs) → puts
+        (flat_map (links_of_relation c.anchor) rs) cs ≡ record { anchor = c.anchor; relations = rs } ∷ cs
     by [] some all order end = absurd (let f : false ≡ true = some in cc)
     by (r ∷ rs) some all order end = relations_on c.anchor r rs cs all order end
 
@@ -122,7 +130,8 @@ cut_is : (cs : List Context) → list_all is_full cs ≡ true → list_all ascen
 cut_is [] full up apart = refl
 cut_is (c ∷ cs) full up apart =
     let rest = cut_is cs (and_second (is_full c) (list_all is_full cs) full) (and_second (ascends c) (list_all ascends cs) up) (rest_apart c cs apart) in
-    puts_both (links_of_context c) (links_of_document cs) [] ∙ ap (puts (links_of_context c)) rest ∙ context_on c cs (and_first (is_full c) (list_all is_full cs) full) (and_first (ascends c) (list_all ascends cs) up) (ends c cs apart)
+    puts_both (links_of_context c) (links_of_document cs) [] ∙ ap (puts (links_of_context c)) rest ∙ context_on c cs
+    (and_first (is_full c) (list_all is_full cs) full) (and_first (ascends c) (list_all ascends cs) up) (ends c cs apart)
 
 pub one_cut : (links : List Link) (c d : List Context) → IsCut links c → IsCut links d → c ≡ d
 one_cut links c d p q =

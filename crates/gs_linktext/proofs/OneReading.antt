@@ -36,7 +36,8 @@ not_below name h = let f : true ≡ false = sym (same_bytes name) ∙ below_apar
 abbrev AreAmong : List Attr → List Attr → Type 0
 AreAmong xs ys = (i : ℕ) (attr : Attr) → slice_get xs i ≡ Some attr → (j : ℕ) × (slice_get ys j ≡ Some attr)
 
-same_first : (a b : Attr) (xs ys : List Attr) (j k : ℕ) → IsBelowAll a.name xs → IsBelowAll b.name ys → slice_get (b ∷ ys) j ≡ Some a → slice_get (a ∷ xs) k ≡ Some b → a ≡ b
+same_first : (a b : Attr) (xs ys : List Attr) (j k : ℕ) → IsBelowAll a.name xs → IsBelowAll b.name ys → slice_get (b ∷ ys) j ≡ Some a
+    → slice_get (a ∷ xs) k ≡ Some b → a ≡ b
 same_first a b xs ys zero k low high at is = sym (some_is b a at)
 same_first a b xs ys (suc j) zero low high at is = some_is a b is
 same_first a b xs ys (suc j) (suc k) low high at is =
@@ -72,7 +73,8 @@ among params xs ys p q i attr at = q.every_name attr.name attr (p.each i attr at
 
 pub one_attributes : (params : List Param) (xs ys : List Attr) → IsAttributes params xs → IsAttributes params ys → xs ≡ ys
 one_attributes params xs ys p q =
-    same_sorted xs ys (sorted_attrs xs (sorted (map (λ attr. attr.name) xs) p.ascending)) (sorted_attrs ys (sorted (map (λ attr. attr.name) ys) q.ascending)) (among params xs ys p q) (among params ys xs q p)
+    same_sorted xs ys (sorted_attrs xs (sorted (map (λ attr. attr.name) xs) p.ascending))
+    (sorted_attrs ys (sorted (map (λ attr. attr.name) ys) q.ascending)) (among params xs ys p q) (among params ys xs q p)
 
 -- ---- the links of written links
 
@@ -87,7 +89,8 @@ one_link link xs ys p q =
 pub one_links : (written : List WrittenLink) (xs ys : List Link) → IsLinksOf written xs → IsLinksOf written ys → xs ≡ ys
 one_links [] xs ys p q = p ∙ sym q
 one_links (link ∷ written) xs ys (own, more, of_link, of_rest, is) (its, others, of_its, of_others, has) =
-    is ∙ ap (λ (ls : List Link). ls ++ more) (one_link link own its of_link of_its) ∙ ap (λ (ls : List Link). its ++ ls) (one_links written more others of_rest of_others) ∙ sym has
+    is ∙ ap (λ (ls : List Link). ls ++ more) (one_link link own its of_link of_its) ∙ ap (λ (ls : List Link). its ++ ls)
+    (one_links written more others of_rest of_others) ∙ sym has
 
 -- ---- answers
 
@@ -97,7 +100,8 @@ same_contexts bytes c d p q =
     let links = one_links q.written p.links q.links (rw (← same) p.given) q.given in
     one_cut q.links c d (subst (λ ls. IsCut ls c) links p.cut) q.cut
 
-pub error_free : (bytes : List ℕ) (written : List WrittenLink) (error : LinkTextFault) → IsDocument bytes written → first_error 0 written ≡ None → IsReadError bytes error → error ≡ Memory
+pub error_free : (bytes : List ℕ) (written : List WrittenLink) (error : LinkTextFault) → IsDocument bytes written
+    → first_error 0 written ≡ None → IsReadError bytes error → error ≡ Memory
 error_free bytes written Syntax document none h = absurd (h written document)
 error_free bytes written (Anchor i) document none (found, other, is) =
     absurd (not_some (Anchor i) (sym none ∙ ap (first_error 0) (one_document bytes written found document other) ∙ is))

@@ -34,7 +34,8 @@ use Rattle.gs_linktext.proofs.AttrLemmas.{no_values}
 use Rattle.gs_linktext.proofs.SpelledAttrs.{not_reserved}
 use Rattle.gs_linktext.proofs.SpelledLexemes.{Link}
 use Rattle.gs_linktext.proofs.SpelledLinks.{is_shaped}
-use Rattle.gs_chars.proofs.TruthsAndLists.{and_first, and_second, and_true, equal_bytes, false_from_not, mapped_some, not_false, or_first, or_second, true_or_false}
+use Rattle.gs_chars.proofs.TruthsAndLists.{and_first, and_second, equal_bytes, mapped_some, or_first, or_second, true_or_false}
+use Rattle.std.proofs.lemmas.Bool.{and_from, not_from_false, not-true}
 
 -- ---- the texts of a document are UTF-8
 
@@ -47,12 +48,14 @@ abbrev pub is_written : WrittenLink → Bool
 is_written link = is_utf8 link.href && list_all is_param link.params
 
 module _ {X Y : Type 0} (f : X → Option Y) (t : Y → Bool) (each : (x : X) (y : Y) → f x ≡ Some y → t y ≡ true) where
-  every_from : (x : X) (xs : List X) (ys : List Y) (o : Option Y) (p : Option (List Y)) → f x ≡ o → every f xs ≡ p → ((zs : List Y) → p ≡ Some zs → list_all t zs ≡ true) → ◌≡◌ {A = Option (List Y)} (option_and_then (λ y. option_map (λ zs. y ∷ zs) p) o) (Some ys) → list_all t ys ≡ true
+  every_from : (x : X) (xs : List X) (ys : List Y) (o : Option Y) (p : Option (List Y)) → f x ≡ o → every f xs ≡ p
+      → ((zs : List Y) → p ≡ Some zs → list_all t zs ≡ true) → ◌≡◌ {A = Option (List Y)}
+      (option_and_then (λ y. option_map (λ zs. y ∷ zs) p) o) (Some ys) → list_all t ys ≡ true
   every_from x xs ys None p e g rest h = absurd (not_some ys h)
   every_from x xs ys (Some y) None e g rest h = absurd (not_some ys h)
   every_from x xs ys (Some y) (Some zs) e g rest h =
       let same : y ∷ zs ≡ ys = some_is (y ∷ zs) ys h in
-      rw (← same) (and_true (t y) (list_all t zs) (each x y e) (rest zs refl))
+      rw (← same) (and_from (t y) (list_all t zs) (each x y e) (rest zs refl))
 
   every_all : (xs : List X) (ys : List Y) → every f xs ≡ Some ys → list_all t ys ≡ true
   every_all [] ys h = let same : [] ≡ ys = some_is [] ys h in rw (← same) refl
@@ -62,7 +65,8 @@ param_with_is : (name value : List ℕ) (p : Param) → param_with name value �
 param_with_is name value p h = by (is_utf8 (map to_ascii_lowercase name) && is_utf8 value) refl
   where
     by : (b : Bool) → (is_utf8 (map to_ascii_lowercase name) && is_utf8 value) ≡ b → is_param p ≡ true
-    by true e = let same : record { name = map to_ascii_lowercase name; value = value } ≡ p = some_is (record { name = map to_ascii_lowercase name; value = value }) p (rw e at h) in rw (← same) e
+    by true e = let same : record { name = map to_ascii_lowercase name; value = value } ≡ p = some_is
+        (record { name = map to_ascii_lowercase name; value = value }) p (rw e at h) in rw (← same) e
     by false e = absurd (not_some p (rw e at h))
 
 param_by_is : (name value : Option (List ℕ)) (p : Param) → param_by name value ≡ Some p → is_param p ≡ true
@@ -98,12 +102,14 @@ href_is (Angled w ∷ []) href h = angled_is w href h
 href_is (Quoted w ∷ []) href h = absurd (not_some href h)
 href_is (x ∷ y ∷ xs) href h = absurd (not_some href h)
 
-link_by : (parts : List (List Lexeme)) (link : WrittenLink) (o : Option (List ℕ)) (ps : Option (List Param)) → params_of parts ≡ ps → ((href : List ℕ) → o ≡ Some href → is_utf8 href ≡ true) → ◌≡◌ {A = Option WrittenLink} (option_and_then (λ href. option_map (λ params. record { href = href; params = params }) ps) o) (Some link) → is_written link ≡ true
+link_by : (parts : List (List Lexeme)) (link : WrittenLink) (o : Option (List ℕ)) (ps : Option (List Param)) → params_of parts ≡ ps
+    → ((href : List ℕ) → o ≡ Some href → is_utf8 href ≡ true) → ◌≡◌ {A = Option WrittenLink}
+    (option_and_then (λ href. option_map (λ params. record { href = href; params = params }) ps) o) (Some link) → is_written link ≡ true
 link_by parts link None ps e each h = absurd (not_some link h)
 link_by parts link (Some href) None e each h = absurd (not_some link h)
 link_by parts link (Some href) (Some params) e each h =
     let same : record { href = href; params = params } ≡ link = some_is (record { href = href; params = params }) link h in
-    rw (← same) (and_true (is_utf8 href) (list_all is_param params) (each href refl) (every_all param_of is_param param_is (filter is_some_part parts) params e))
+    rw (← same) (and_from (is_utf8 href) (list_all is_param params) (each href refl) (every_all param_of is_param param_is (filter is_some_part parts) params e))
 
 parts_is : (parts : List (List Lexeme)) (link : WrittenLink) → link_of parts ≡ Some link → is_written link ≡ true
 parts_is [] link h = absurd (not_some link h)
@@ -125,14 +131,16 @@ first_part : (xs : List ℕ) → (part : List ℕ) × (parts : List (List ℕ)) 
 first_part [] = ([], [], refl)
 first_part (x ∷ xs) = by (is_blank x) refl (first_part xs)
   where
-    by : (b : Bool) → is_blank x ≡ b → ((part : List ℕ) × (parts : List (List ℕ)) × (slice_split is_blank xs ≡ part ∷ parts)) → (part : List ℕ) × (parts : List (List ℕ)) × (slice_split is_blank (x ∷ xs) ≡ part ∷ parts)
+    by : (b : Bool) → is_blank x ≡ b → ((part : List ℕ) × (parts : List (List ℕ)) × (slice_split is_blank xs ≡ part ∷ parts))
+        → (part : List ℕ) × (parts : List (List ℕ)) × (slice_split is_blank (x ∷ xs) ≡ part ∷ parts)
     by true e rest = ([], slice_split is_blank xs, rw e refl)
     by false e (part, parts, is) = (x ∷ part, parts, rw (e, is) refl)
 
-no_blank_split : (b rest part : List ℕ) (parts : List (List ℕ)) → list_all (λ c. not (is_blank c)) b ≡ true → slice_split is_blank rest ≡ part ∷ parts → slice_split is_blank (b ++ rest) ≡ (b ++ part) ∷ parts
+no_blank_split : (b rest part : List ℕ) (parts : List (List ℕ)) → list_all (λ c. not (is_blank c)) b ≡ true
+    → slice_split is_blank rest ≡ part ∷ parts → slice_split is_blank (b ++ rest) ≡ (b ++ part) ∷ parts
 no_blank_split [] rest part parts h is = is
 no_blank_split (c ∷ b) rest part parts h is =
-    let f = false_from_not (is_blank c) (and_first (not (is_blank c)) (list_all (λ d. not (is_blank d)) b) h) in
+    let f = not-true (is_blank c) (and_first (not (is_blank c)) (list_all (λ d. not (is_blank d)) b) h) in
     rw (f, no_blank_split b rest part parts (and_second (not (is_blank c)) (list_all (λ d. not (is_blank d)) b) h) is) refl
 
 high_no_blank : (b : ℕ) → 128 ≤ b → not (is_blank b) ≡ true
@@ -158,10 +166,10 @@ unfolding encode
 code_no_blank c h = elim (true_or_false (nat_lt c 128)) [
   | inl t ↦ rw (t, h) refl
   | inr f ↦ elim (true_or_false (nat_lt c 2048)) [
-    | inl t ↦ rw (f, t) (and_true (not (is_blank (192 + c / 64))) _ (high_no_blank (192 + c / 64) (omega arith)) (and_true (not (is_blank (128 + c % 64))) true (high_no_blank (128 + c % 64) (omega arith)) refl))
+    | inl t ↦ rw (f, t) (and_from (not (is_blank (192 + c / 64))) _ (high_no_blank (192 + c / 64) (omega arith)) (and_from (not (is_blank (128 + c % 64))) true (high_no_blank (128 + c % 64) (omega arith)) refl))
     | inr g ↦ elim (true_or_false (nat_lt c 65536)) [
-      | inl t ↦ rw (f, g, t) (and_true (not (is_blank (224 + c / 4096))) _ (high_no_blank (224 + c / 4096) (omega arith)) (and_true (not (is_blank (128 + c / 64 % 64))) _ (high_no_blank (128 + c / 64 % 64) (omega arith)) (and_true (not (is_blank (128 + c % 64))) true (high_no_blank (128 + c % 64) (omega arith)) refl)))
-      | inr e ↦ rw (f, g, e) (and_true (not (is_blank (240 + c / 262144))) _ (high_no_blank (240 + c / 262144) (omega arith)) (and_true (not (is_blank (128 + c / 4096 % 64))) _ (high_no_blank (128 + c / 4096 % 64) (omega arith)) (and_true (not (is_blank (128 + c / 64 % 64))) _ (high_no_blank (128 + c / 64 % 64) (omega arith)) (and_true (not (is_blank (128 + c % 64))) true (high_no_blank (128 + c % 64) (omega arith)) refl))))
+      | inl t ↦ rw (f, g, t) (and_from (not (is_blank (224 + c / 4096))) _ (high_no_blank (224 + c / 4096) (omega arith)) (and_from (not (is_blank (128 + c / 64 % 64))) _ (high_no_blank (128 + c / 64 % 64) (omega arith)) (and_from (not (is_blank (128 + c % 64))) true (high_no_blank (128 + c % 64) (omega arith)) refl)))
+      | inr e ↦ rw (f, g, e) (and_from (not (is_blank (240 + c / 262144))) _ (high_no_blank (240 + c / 262144) (omega arith)) (and_from (not (is_blank (128 + c / 4096 % 64))) _ (high_no_blank (128 + c / 4096 % 64) (omega arith)) (and_from (not (is_blank (128 + c / 64 % 64))) _ (high_no_blank (128 + c / 64 % 64) (omega arith)) (and_from (not (is_blank (128 + c % 64))) true (high_no_blank (128 + c % 64) (omega arith)) refl))))
     ]
   ]
 ]
@@ -189,7 +197,7 @@ parts_all [] all = refl
 parts_all (part ∷ parts) all = by (is_some_part part) refl (parts_all parts all.1)
   where
     by : (b : Bool) → is_some_part part ≡ b → list_all is_utf8 (filter is_some_part parts) ≡ true → list_all is_utf8 (filter is_some_part (part ∷ parts)) ≡ true
-    by true e rest = rw e (and_true (is_utf8 part) (list_all is_utf8 (filter is_some_part parts)) (is_utf8-from_IsUtf8 part all.0) rest)
+    by true e rest = rw e (and_from (is_utf8 part) (list_all is_utf8 (filter is_some_part parts)) (is_utf8-from_IsUtf8 part all.0) rest)
     by false e rest = rw e rest
 
 types_utf8 : (text : List ℕ) → is_utf8 text ≡ true → list_all is_utf8 (filter is_some_part (slice_split is_blank text)) ≡ true
@@ -205,7 +213,7 @@ values_utf8 name [] h = refl
 values_utf8 name (p ∷ params) h = by (bytes_eq p.name name) refl (values_utf8 name params (and_second (is_param p) (list_all is_param params) h))
   where
     by : (b : Bool) → bytes_eq p.name name ≡ b → list_all is_utf8 (values_of name params) ≡ true → list_all is_utf8 (values_of name (p ∷ params)) ≡ true
-    by true e rest = rw e (and_true (is_utf8 p.value) (list_all is_utf8 (values_of name params)) (and_second (is_utf8 p.name) (is_utf8 p.value) (and_first (is_param p) (list_all is_param params) h)) rest)
+    by true e rest = rw e (and_from (is_utf8 p.value) (list_all is_utf8 (values_of name params)) (and_second (is_utf8 p.name) (is_utf8 p.value) (and_first (is_param p) (list_all is_param params) h)) rest)
     by false e rest = rw e rest
 
 name_utf8 : (name : List ℕ) (params : List Param) → list_all is_param params ≡ true → (values_of name params ≡ [] → ⊥) → is_utf8 name ≡ true
@@ -221,7 +229,8 @@ tagged_by_is language [] pair h = absurd (not_some pair h)
 tagged_by_is language (c ∷ text) pair h = by (c == 39 && (is_utf8 (percent_decode text) && is_utf8 language)) refl
   where
     by : (b : Bool) → (c == 39 && (is_utf8 (percent_decode text) && is_utf8 language)) ≡ b → is_tagged_text pair ≡ true
-    by true e = let same : (percent_decode text, language) ≡ pair = some_is (percent_decode text, language) pair (rw e at h) in rw (← same) (and_second (c == 39) (is_utf8 (percent_decode text) && is_utf8 language) e)
+    by true e = let same : (percent_decode text, language) ≡ pair = some_is (percent_decode text, language) pair (rw e at h) in rw (← same)
+        (and_second (c == 39) (is_utf8 (percent_decode text) && is_utf8 language) e)
     by false e = absurd (not_some pair (rw e at h))
 
 tagged_is : (value : List ℕ) (pair : List ℕ × List ℕ) → tagged_text value ≡ Some pair → is_tagged_text pair ≡ true
@@ -235,23 +244,28 @@ tagged_all : (values : List (List ℕ)) → list_all is_tagged_text (filter_map 
 tagged_all [] = refl
 tagged_all (value ∷ values) = by (tagged_text value) refl (tagged_all values)
   where
-    by : (o : Option (List ℕ × List ℕ)) → tagged_text value ≡ o → list_all is_tagged_text (filter_map tagged_text values) ≡ true → list_all is_tagged_text (filter_map tagged_text (value ∷ values)) ≡ true
+    by : (o : Option (List ℕ × List ℕ)) → tagged_text value ≡ o → list_all is_tagged_text (filter_map tagged_text values) ≡ true
+        → list_all is_tagged_text (filter_map tagged_text (value ∷ values)) ≡ true
     by None e rest = rw e rest
-    by (Some pair) e rest = rw e (and_true (is_tagged_text pair) (list_all is_tagged_text (filter_map tagged_text values)) (tagged_is value pair e) rest)
+    by (Some pair) e rest = rw e (and_from (is_tagged_text pair) (list_all is_tagged_text (filter_map tagged_text values)) (tagged_is value pair e) rest)
 
-tagged_value_is : (name : List ℕ) (pairs : List (List ℕ × List ℕ)) (v : AttrValue) → is_tagged name ≡ true → list_all is_tagged_text pairs ≡ true → tagged_value pairs ≡ Some v → is_value name v ≡ true
+tagged_value_is : (name : List ℕ) (pairs : List (List ℕ × List ℕ)) (v : AttrValue) → is_tagged name ≡ true
+    → list_all is_tagged_text pairs ≡ true → tagged_value pairs ≡ Some v → is_value name v ≡ true
 tagged_value_is name [] v t all h = absurd (not_some v h)
-tagged_value_is name (pair ∷ pairs) v t all h = rw (← some_is (Tagged (pair ∷ pairs)) v h) (and_true (is_tagged name) (list_all is_tagged_text (pair ∷ pairs)) t all)
+tagged_value_is name (pair ∷ pairs) v t all h = rw (← some_is (Tagged (pair ∷ pairs)) v h)
+    (and_from (is_tagged name) (list_all is_tagged_text (pair ∷ pairs)) t all)
 
-many_value_is : (name : List ℕ) (texts : List (List ℕ)) (v : AttrValue) → is_tagged name ≡ false → is_single name ≡ false → list_all is_utf8 texts ≡ true → many_value texts ≡ Some v → is_value name v ≡ true
+many_value_is : (name : List ℕ) (texts : List (List ℕ)) (v : AttrValue) → is_tagged name ≡ false → is_single name ≡ false
+    → list_all is_utf8 texts ≡ true → many_value texts ≡ Some v → is_value name v ≡ true
 many_value_is name [] v t s all h = absurd (not_some v h)
 many_value_is name (text ∷ texts) v t s all h =
-    rw (← some_is (Many (text ∷ texts)) v h) (and_true (not (is_tagged name)) (not (is_single name) && list_all is_utf8 (text ∷ texts)) (not_false (is_tagged name) t) (and_true (not (is_single name)) (list_all is_utf8 (text ∷ texts)) (not_false (is_single name) s) all))
+    rw (← some_is (Many (text ∷ texts)) v h) (and_from (not (is_tagged name)) (not (is_single name) && list_all is_utf8 (text ∷ texts)) (not_from_false (is_tagged name) t) (and_from (not (is_single name)) (list_all is_utf8 (text ∷ texts)) (not_from_false (is_single name) s) all))
 
-one_value_is : (name : List ℕ) (values : List (List ℕ)) (v : AttrValue) → is_tagged name ≡ false → is_single name ≡ true → list_all is_utf8 values ≡ true → option_map One (slice_get values 0) ≡ Some v → is_value name v ≡ true
+one_value_is : (name : List ℕ) (values : List (List ℕ)) (v : AttrValue) → is_tagged name ≡ false → is_single name ≡ true
+    → list_all is_utf8 values ≡ true → option_map One (slice_get values 0) ≡ Some v → is_value name v ≡ true
 one_value_is name [] v t s all h = absurd (not_some v h)
 one_value_is name (text ∷ values) v t s all h =
-    rw (← some_is (One text) v h) (and_true (not (is_tagged name)) (is_single name && is_utf8 text) (not_false (is_tagged name) t) (and_true (is_single name) (is_utf8 text) s (and_first (is_utf8 text) (list_all is_utf8 values) all)))
+    rw (← some_is (One text) v h) (and_from (not (is_tagged name)) (is_single name && is_utf8 text) (not_from_false (is_tagged name) t) (and_from (is_single name) (is_utf8 text) s (and_first (is_utf8 text) (list_all is_utf8 values) all)))
 
 value_is : (name : List ℕ) (values : List (List ℕ)) (v : AttrValue) → list_all is_utf8 values ≡ true → attr_value name values ≡ Some v → is_value name v ≡ true
 value_is name values v all h = by (is_tagged name) (is_single name) refl refl
@@ -264,13 +278,15 @@ value_is name values v all h = by (is_tagged name) (is_single name) refl refl
 attr_is : (params : List Param) (attr : Attr) → list_all is_param params ≡ true → attr_of params attr.name ≡ Some attr → is_attr attr ≡ true
 unfolding is_attr
 attr_is params attr all h =
-    and_true (not (bytes_eq attr.name (codes "href"))) (is_utf8 attr.name && is_value attr.name attr.value) (not_false (bytes_eq attr.name (codes "href")) apart) (and_true (is_utf8 attr.name) (is_value attr.name attr.value) name value)
+    and_from (not (bytes_eq attr.name (codes "href"))) (is_utf8 attr.name && is_value attr.name attr.value)
+    (not_from_false (bytes_eq attr.name (codes "href")) apart) (and_from (is_utf8 attr.name) (is_value attr.name attr.value) name value)
   where
     free : is_reserved attr.name ≡ false
     free = not_reserved attr.name (values_of attr.name params) attr h
 
     apart : bytes_eq attr.name (codes "href") ≡ false
-    apart = or_second (bytes_eq attr.name (codes "anchor")) (bytes_eq attr.name (codes "href")) (or_second (bytes_eq attr.name (codes "rel")) (bytes_eq attr.name (codes "anchor") || bytes_eq attr.name (codes "href")) free)
+    apart = or_second (bytes_eq attr.name (codes "anchor")) (bytes_eq attr.name (codes "href"))
+        (or_second (bytes_eq attr.name (codes "rel")) (bytes_eq attr.name (codes "anchor") || bytes_eq attr.name (codes "href")) free)
 
     name : is_utf8 attr.name ≡ true
     name = name_utf8 attr.name params all (λ none. no_values attr.name attr (rw none at h))
@@ -283,14 +299,16 @@ attr_is params attr all h =
 
 attrs_from : (attrs : List Attr) → ((i : ℕ) (attr : Attr) → slice_get attrs i ≡ Some attr → is_attr attr ≡ true) → list_all is_attr attrs ≡ true
 attrs_from [] each = refl
-attrs_from (attr ∷ attrs) each = and_true (is_attr attr) (list_all is_attr attrs) (each 0 attr refl) (attrs_from attrs (λ i a at. each (suc i) a at))
+attrs_from (attr ∷ attrs) each = and_from (is_attr attr) (list_all is_attr attrs) (each 0 attr refl) (attrs_from attrs (λ i a at. each (suc i) a at))
 
-target_is : (link : WrittenLink) (attrs : List Attr) → is_written link ≡ true → IsAttributes link.params attrs → is_target (record { href = link.href; attrs = attrs }) ≡ true
+target_is : (link : WrittenLink) (attrs : List Attr) → is_written link ≡ true → IsAttributes link.params attrs → is_target
+    (record { href = link.href; attrs = attrs }) ≡ true
 unfolding is_target
 target_is link attrs h own =
     let params = and_second (is_utf8 link.href) (list_all is_param link.params) h in
-    and_true (is_utf8 link.href) (ascend (map (λ attr. attr.name) attrs) && list_all is_attr attrs) (and_first (is_utf8 link.href) (list_all is_param link.params) h)
-    (and_true (ascend (map (λ attr. attr.name) attrs)) (list_all is_attr attrs) own.ascending (attrs_from attrs (λ i attr at. attr_is link.params attr params (own.each i attr at))))
+    and_from (is_utf8 link.href) (ascend (map (λ attr. attr.name) attrs) && list_all is_attr attrs)
+    (and_first (is_utf8 link.href) (list_all is_param link.params) h)
+    (and_from (ascend (map (λ attr. attr.name) attrs)) (list_all is_attr attrs) own.ascending (attrs_from attrs (λ i attr at. attr_is link.params attr params (own.each i attr at))))
 
 -- ---- the links have their shape
 
@@ -298,15 +316,18 @@ first_utf8 : (name : List ℕ) (params : List Param) → list_all is_param param
 first_utf8 name [] h = is_utf8-from_IsUtf8 [] IsUtf8-nil
 first_utf8 name (p ∷ params) h = by (bytes_eq p.name name) refl (first_utf8 name params (and_second (is_param p) (list_all is_param params) h))
   where
-    by : (b : Bool) → bytes_eq p.name name ≡ b → is_utf8 (unwrap_or (first_value name params) []) ≡ true → is_utf8 (unwrap_or (first_value name (p ∷ params)) []) ≡ true
+    by : (b : Bool) → bytes_eq p.name name ≡ b → is_utf8 (unwrap_or (first_value name params) []) ≡ true
+        → is_utf8 (unwrap_or (first_value name (p ∷ params)) []) ≡ true
     by true e rest = rw e (and_second (is_utf8 p.name) (is_utf8 p.value) (and_first (is_param p) (list_all is_param params) h))
     by false e rest = rw e rest
 
-types_shaped : (anchor : List ℕ) (target : Target) (types : List (List ℕ)) → is_utf8 anchor ≡ true → is_target target ≡ true → list_all is_utf8 types ≡ true → list_any (λ t. bytes_eq t (codes "anchor")) types ≡ false → list_all is_shaped (map (λ type. (anchor, type, target)) types) ≡ true
+types_shaped : (anchor : List ℕ) (target : Target) (types : List (List ℕ)) → is_utf8 anchor ≡ true → is_target target ≡ true
+    → list_all is_utf8 types ≡ true → list_any (λ t. bytes_eq t (codes "anchor")) types ≡ false
+    → list_all is_shaped (map (λ type. (anchor, type, target)) types) ≡ true
 types_shaped anchor target [] a t all none = refl
 types_shaped anchor target (type ∷ types) a t all none =
-    let apart = not_false (bytes_eq type (codes "anchor")) (or_first (bytes_eq type (codes "anchor")) (list_any (λ u. bytes_eq u (codes "anchor")) types) none) in
-    and_true (is_shaped (anchor, type, target)) _ (and_true (is_utf8 anchor) _ a (and_true (not (bytes_eq type (codes "anchor"))) _ apart (and_true (is_utf8 type) (is_target target) (and_first (is_utf8 type) (list_all is_utf8 types) all) t)))
+    let apart = not_from_false (bytes_eq type (codes "anchor")) (or_first (bytes_eq type (codes "anchor")) (list_any (λ u. bytes_eq u (codes "anchor")) types) none) in
+    and_from (is_shaped (anchor, type, target)) _ (and_from (is_utf8 anchor) _ a (and_from (not (bytes_eq type (codes "anchor"))) _ apart (and_from (is_utf8 type) (is_target target) (and_first (is_utf8 type) (list_all is_utf8 types) all) t)))
     (types_shaped anchor target types a t (and_second (is_utf8 type) (list_all is_utf8 types) all) (or_second (bytes_eq type (codes "anchor")) (list_any (λ u. bytes_eq u (codes "anchor")) types) none))
 
 no_anchor : (types : List (List ℕ)) → is_rel_error types ≡ false → list_any (λ t. bytes_eq t (codes "anchor")) types ≡ false
@@ -316,12 +337,14 @@ no_anchor (type ∷ types) h = h
 rel_free : (i : ℕ) (link : WrittenLink) → link_error i link ≡ None → is_rel_error (types_of link.params) ≡ false
 rel_free i link h = by (first_value (codes "anchor") link.params) refl (is_rel_error (types_of link.params)) refl
   where
-    by : (o : Option (List ℕ)) → first_value (codes "anchor") link.params ≡ o → (b : Bool) → is_rel_error (types_of link.params) ≡ b → is_rel_error (types_of link.params) ≡ false
+    by : (o : Option (List ℕ)) → first_value (codes "anchor") link.params ≡ o → (b : Bool) → is_rel_error (types_of link.params) ≡ b
+        → is_rel_error (types_of link.params) ≡ false
     by None e b f = absurd (not_some (Anchor i) (sym (rw e at h)))
     by (Some a) e true f = absurd (not_some (Rel i) (sym (rw (e, f) at h)))
     by (Some a) e false f = f
 
-link_shaped : (i : ℕ) (link : WrittenLink) (links : List Link) → is_written link ≡ true → link_error i link ≡ None → IsLinksOfLink link links → list_all is_shaped links ≡ true
+link_shaped : (i : ℕ) (link : WrittenLink) (links : List Link) → is_written link ≡ true → link_error i link ≡ None
+    → IsLinksOfLink link links → list_all is_shaped links ≡ true
 link_shaped i link links h none own =
     let params = and_second (is_utf8 link.href) (list_all is_param link.params) h in
     let types = types_utf8 (unwrap_or (first_value (codes "rel") link.params) []) (first_utf8 (codes "rel") link.params params) in
@@ -331,64 +354,77 @@ no_first : (a b : Option LinkTextFault) → or_error a b ≡ None → (a ≡ Non
 no_first None b h = (refl, h)
 no_first (Some e) b h = absurd (not_some e (sym h))
 
-pub links_shaped : (i : ℕ) (written : List WrittenLink) (links : List Link) → list_all is_written written ≡ true → first_error i written ≡ None → IsLinksOf written links → list_all is_shaped links ≡ true
+pub links_shaped : (i : ℕ) (written : List WrittenLink) (links : List Link) → list_all is_written written ≡ true
+    → first_error i written ≡ None → IsLinksOf written links → list_all is_shaped links ≡ true
 links_shaped i [] links h none own = rw own refl
 links_shaped i (link ∷ written) links h none (its, more, of_link, of_rest, is) =
     let parts = no_first (link_error i link) (first_error (i + 1) written) none in
-    rw is (list_all-append is_shaped its more ∙ and_true (list_all is_shaped its) (list_all is_shaped more) (link_shaped i link its (and_first (is_written link) (list_all is_written written) h) parts.0 of_link) (links_shaped (i + 1) written more (and_second (is_written link) (list_all is_written written) h) parts.1 of_rest))
+    rw is (list_all-append is_shaped its more ∙ and_from (list_all is_shaped its) (list_all is_shaped more) (link_shaped i link its (and_first (is_written link) (list_all is_written written) h) parts.0 of_link) (links_shaped (i + 1) written more (and_second (is_written link) (list_all is_written written) h) parts.1 of_rest))
 
 -- ---- contexts of links that have their shape
 
-targets_from : (anchor name : List ℕ) (targets : List Target) → list_all is_shaped (map (λ target. (anchor, name, target)) targets) ≡ true → list_all is_target targets ≡ true
+targets_from : (anchor name : List ℕ) (targets : List Target) → list_all is_shaped (map (λ target. (anchor, name, target)) targets) ≡ true
+    → list_all is_target targets ≡ true
 targets_from anchor name [] h = refl
 targets_from anchor name (target ∷ targets) h =
     let own = and_first (is_shaped (anchor, name, target)) _ h in
     let t = and_second (is_utf8 name) (is_target target) (and_second (not (bytes_eq name (codes "anchor"))) _ (and_second (is_utf8 anchor) _ own)) in
-    and_true (is_target target) (list_all is_target targets) t (targets_from anchor name targets (and_second (is_shaped (anchor, name, target)) _ h))
+    and_from (is_target target) (list_all is_target targets) t (targets_from anchor name targets (and_second (is_shaped (anchor, name, target)) _ h))
 
-first_shaped : (anchor name : List ℕ) (targets : List Target) → is_some_part targets ≡ true → list_all is_shaped (map (λ target. (anchor, name, target)) targets) ≡ true → (is_utf8 anchor ≡ true) × (not (bytes_eq name (codes "anchor")) ≡ true) × (is_utf8 name ≡ true)
+first_shaped : (anchor name : List ℕ) (targets : List Target) → is_some_part targets ≡ true
+    → list_all is_shaped (map (λ target. (anchor, name, target)) targets) ≡ true
+    → (is_utf8 anchor ≡ true) × (not (bytes_eq name (codes "anchor")) ≡ true) × (is_utf8 name ≡ true)
 first_shaped anchor name [] some h = absurd (let f : false ≡ true = some in cc)
 first_shaped anchor name (target ∷ targets) some h =
     let own = and_first (is_shaped (anchor, name, target)) _ h in
     let behind = and_second (is_utf8 anchor) _ own in
     (and_first (is_utf8 anchor) _ own, and_first (not (bytes_eq name (codes "anchor"))) _ behind, and_first (is_utf8 name) (is_target target) (and_second (not (bytes_eq name (codes "anchor"))) _ behind))
 
-relation_from : (anchor : List ℕ) (relation : Relation) → has_target relation ≡ true → list_all is_shaped (links_of_relation anchor relation) ≡ true → (is_utf8 anchor ≡ true) × (is_relation relation ≡ true)
+relation_from : (anchor : List ℕ) (relation : Relation) → has_target relation ≡ true
+    → list_all is_shaped (links_of_relation anchor relation) ≡ true → (is_utf8 anchor ≡ true) × (is_relation relation ≡ true)
 unfolding is_relation
 relation_from anchor relation some h =
     let own = first_shaped anchor relation.name relation.targets some h in
-    (own.0, and_true (not (bytes_eq relation.name (codes "anchor"))) (is_utf8 relation.name && list_all is_target relation.targets) own.1 (and_true (is_utf8 relation.name) (list_all is_target relation.targets) own.2 (targets_from anchor relation.name relation.targets h)))
+    (own.0, and_from (not (bytes_eq relation.name (codes "anchor"))) (is_utf8 relation.name && list_all is_target relation.targets) own.1 (and_from (is_utf8 relation.name) (list_all is_target relation.targets) own.2 (targets_from anchor relation.name relation.targets h)))
 
 both_shaped : (xs ys : List Link) → list_all is_shaped (xs ++ ys) ≡ true → (list_all is_shaped xs ≡ true) × (list_all is_shaped ys ≡ true)
 both_shaped xs ys h =
     let both = sym (list_all-append is_shaped xs ys) ∙ h in
     (and_first (list_all is_shaped xs) (list_all is_shaped ys) both, and_second (list_all is_shaped xs) (list_all is_shaped ys) both)
 
-relations_from : (anchor : List ℕ) (relations : List Relation) → list_all has_target relations ≡ true → list_all is_shaped (flat_map (links_of_relation anchor) relations) ≡ true → list_all is_relation relations ≡ true
+relations_from : (anchor : List ℕ) (relations : List Relation) → list_all has_target relations ≡ true
+    → list_all is_shaped (flat_map (links_of_relation anchor) relations) ≡ true → list_all is_relation relations ≡ true
 relations_from anchor [] full h = refl
 relations_from anchor (relation ∷ relations) full h =
     let both = both_shaped (links_of_relation anchor relation) (flat_map (links_of_relation anchor) relations) h in
-    and_true (is_relation relation) (list_all is_relation relations) (relation_from anchor relation (and_first (has_target relation) (list_all has_target relations) full) both.0).1 (relations_from anchor relations (and_second (has_target relation) (list_all has_target relations) full) both.1)
+    and_from (is_relation relation) (list_all is_relation relations)
+    (relation_from anchor relation (and_first (has_target relation) (list_all has_target relations) full) both.0).1
+    (relations_from anchor relations (and_second (has_target relation) (list_all has_target relations) full) both.1)
 
-anchor_from : (anchor : List ℕ) (relations : List Relation) → is_some_part relations ≡ true → list_all has_target relations ≡ true → list_all is_shaped (flat_map (links_of_relation anchor) relations) ≡ true → is_utf8 anchor ≡ true
+anchor_from : (anchor : List ℕ) (relations : List Relation) → is_some_part relations ≡ true → list_all has_target relations ≡ true
+    → list_all is_shaped (flat_map (links_of_relation anchor) relations) ≡ true → is_utf8 anchor ≡ true
 anchor_from anchor [] some full h = absurd (let f : false ≡ true = some in cc)
 anchor_from anchor (relation ∷ relations) some full h =
     let both = both_shaped (links_of_relation anchor relation) (flat_map (links_of_relation anchor) relations) h in
     (relation_from anchor relation (and_first (has_target relation) (list_all has_target relations) full) both.0).0
 
-context_from : (context : Context) → is_full context ≡ true → ascends context ≡ true → list_all is_shaped (links_of_context context) ≡ true → is_context context ≡ true
+context_from : (context : Context) → is_full context ≡ true → ascends context ≡ true → list_all is_shaped (links_of_context context) ≡ true
+    → is_context context ≡ true
 unfolding is_context
 context_from context full up h =
     let some = and_first (is_some_part context.relations) (list_all has_target context.relations) full in
     let targets = and_second (is_some_part context.relations) (list_all has_target context.relations) full in
-    and_true (is_utf8 context.anchor) (ascend (relation_names context.relations) && list_all is_relation context.relations) (anchor_from context.anchor context.relations some targets h)
-    (and_true (ascend (relation_names context.relations)) (list_all is_relation context.relations) up (relations_from context.anchor context.relations targets h))
+    and_from (is_utf8 context.anchor) (ascend (relation_names context.relations) && list_all is_relation context.relations)
+    (anchor_from context.anchor context.relations some targets h)
+    (and_from (ascend (relation_names context.relations)) (list_all is_relation context.relations) up (relations_from context.anchor context.relations targets h))
 
-contexts_from : (contexts : List Context) → list_all is_full contexts ≡ true → list_all ascends contexts ≡ true → list_all is_shaped (links_of_document contexts) ≡ true → list_all is_context contexts ≡ true
+contexts_from : (contexts : List Context) → list_all is_full contexts ≡ true → list_all ascends contexts ≡ true
+    → list_all is_shaped (links_of_document contexts) ≡ true → list_all is_context contexts ≡ true
 contexts_from [] full up h = refl
 contexts_from (context ∷ contexts) full up h =
     let both = both_shaped (links_of_context context) (links_of_document contexts) h in
-    and_true (is_context context) (list_all is_context contexts) (context_from context (and_first (is_full context) (list_all is_full contexts) full) (and_first (ascends context) (list_all ascends contexts) up) both.0)
+    and_from (is_context context) (list_all is_context contexts)
+    (context_from context (and_first (is_full context) (list_all is_full contexts) full) (and_first (ascends context) (list_all ascends contexts) up) both.0)
     (contexts_from contexts (and_second (is_full context) (list_all is_full contexts) full) (and_second (ascends context) (list_all ascends contexts) up) both.1)
 
 pub is_shape : (bytes : List ℕ) (contexts : List Context) → IsReadAs bytes contexts → list_all is_context contexts ≡ true

@@ -33,7 +33,8 @@ no_value (param ∷ params) name h = by (no_value params name) (bytes_eq param.n
     absurd_if : has name (param.name ∷ names_of params) ≡ true → ⊥
     absurd_if t = let e : true ≡ false = sym (has_put name param.name (names_of params) ∙ t) ∙ h in cc
 
-    by : (has name (names_of params) ≡ false → values_of name params ≡ []) → (b : Bool) → bytes_eq param.name name ≡ b → (c : Bool) → has name (names_of params) ≡ c → values_of name (param ∷ params) ≡ []
+    by : (has name (names_of params) ≡ false → values_of name params ≡ []) → (b : Bool) → bytes_eq param.name name ≡ b → (c : Bool)
+        → has name (names_of params) ≡ c → values_of name (param ∷ params) ≡ []
     by more true is c e = let same = equal_bytes param.name name is in absurd (absurd_if (rw same (rw (same_bytes name) refl)))
     by more false not true e = absurd (absurd_if (or_true (bytes_eq name param.name) (has name (names_of params)) e))
     by more false not false e = rw not (more e)
@@ -44,7 +45,8 @@ place_of : (name : List ℕ) (names : List (List ℕ)) → has name names ≡ tr
 place_of name [] h = absurd (let e : false ≡ true = h in cc)
 place_of name (n ∷ names) h = by (place_of name names) (bytes_eq name n) refl
   where
-    by : (has name names ≡ true → (j : ℕ) × (slice_get names j ≡ Some name)) → (b : Bool) → bytes_eq name n ≡ b → (j : ℕ) × (slice_get (n ∷ names) j ≡ Some name)
+    by : (has name names ≡ true → (j : ℕ) × (slice_get names j ≡ Some name)) → (b : Bool) → bytes_eq name n ≡ b
+        → (j : ℕ) × (slice_get (n ∷ names) j ≡ Some name)
     by more true is = (0, ap (λ (x : List ℕ). Some x) (sym (equal_bytes name n is)))
     by more false not = let found = more (rw not at h) in (suc found.0, found.1)
 
@@ -61,11 +63,14 @@ some_attributes params = (filter_map (attr_of params) (names_of params), record 
     own n attr is = attr_name n (values_of n params) attr is
 
     each : (i : ℕ) (attr : Attr) → slice_get (filter_map (attr_of params) (names_of params)) i ≡ Some attr → attr_of params attr.name ≡ Some attr
-    each i attr at = let found = given_from (attr_of params) (names_of params) i attr at in subst (λ (n : List ℕ). attr_of params n ≡ Some attr) (sym (own found.1 attr found.3)) found.3
+    each i attr at = let found = given_from (attr_of params) (names_of params) i attr at in subst
+        (λ (n : List ℕ). attr_of params n ≡ Some attr) (sym (own found.1 attr found.3)) found.3
 
-    by_name : (name : List ℕ) (attr : Attr) → attr_of params name ≡ Some attr → (b : Bool) → has name (names_of params) ≡ b → (i : ℕ) × (slice_get (filter_map (attr_of params) (names_of params)) i ≡ Some attr)
+    by_name : (name : List ℕ) (attr : Attr) → attr_of params name ≡ Some attr → (b : Bool) → has name (names_of params) ≡ b
+        → (i : ℕ) × (slice_get (filter_map (attr_of params) (names_of params)) i ≡ Some attr)
     by_name name attr is true h = let at = place_of name (names_of params) h in given_at (attr_of params) (names_of params) at.0 name attr at.1 is
     by_name name attr is false h = absurd (no_values name attr (rw (no_value params name h) at is))
 
-    every_name : (name : List ℕ) (attr : Attr) → attr_of params name ≡ Some attr → (i : ℕ) × (slice_get (filter_map (attr_of params) (names_of params)) i ≡ Some attr)
+    every_name : (name : List ℕ) (attr : Attr) → attr_of params name ≡ Some attr
+        → (i : ℕ) × (slice_get (filter_map (attr_of params) (names_of params)) i ≡ Some attr)
     every_name name attr is = by_name name attr is (has name (names_of params)) refl

@@ -93,7 +93,8 @@ first_is i (link ∷ links) error h = by (first_is (i + 1) links error) (link_er
     by more (Some own) e = link_is i link error (e ∙ (rw e at h))
     by more None e = more (rw e at h)
 
-read_error : (bytes : List ℕ) (links : List WrittenLink) (error : LinkTextFault) → IsDocument bytes links → first_error 0 links ≡ Some error → IsOfLink error → HasReading bytes
+read_error : (bytes : List ℕ) (links : List WrittenLink) (error : LinkTextFault) → IsDocument bytes links → first_error 0 links ≡ Some error
+    → IsOfLink error → HasReading bytes
 read_error bytes links Syntax document is h = absurd h
 read_error bytes links (Anchor i) document is h = inr (Anchor i, (λ e. let f : Anchor i ≡ Memory = e in cc), (links, document, is))
 read_error bytes links (Rel i) document is h = inr (Rel i, (λ e. let f : Rel i ≡ Memory = e in cc), (links, document, is))
@@ -142,17 +143,20 @@ some_more c name target = elim (at_last c.relations) [
         (added, more_relation c added name target refl refl (λ some. (ap (λ rs. bytes_eq (last_name rs) name) is ∙ ap (λ n. bytes_eq n name) (last_of qs r) ∙ other)))
 
 -- a cut of links and one link more
-cut_by : (links : List Link) (old : List Context) (anchor name : List ℕ) (target : Target) → IsCut links old → (new : List Context) × IsCut (links ++ (anchor, name, target) ∷ []) new
+cut_by : (links : List Link) (old : List Context) (anchor name : List ℕ) (target : Target) → IsCut links old
+    → (new : List Context) × IsCut (links ++ (anchor, name, target) ∷ []) new
 cut_by links old anchor name target cut = elim (at_last old) [
   | inl none ↦ (old ++ context_with anchor name target ∷ [], cut_first links old (old ++ context_with anchor name target ∷ []) anchor name target none refl cut)
   | inr found ↦ by found.0 found.1 found.2 (takes found.1 anchor name) refl
 ]
   where
-    by : (cs : List Context) (c : Context) → old ≡ cs ++ c ∷ [] → (b : Bool) → takes c anchor name ≡ b → (new : List Context) × IsCut (links ++ (anchor, name, target) ∷ []) new
+    by : (cs : List Context) (c : Context) → old ≡ cs ++ c ∷ [] → (b : Bool) → takes c anchor name ≡ b
+        → (new : List Context) × IsCut (links ++ (anchor, name, target) ∷ []) new
     by cs c is true t =
         let d = some_more c name target in (
           cs ++ d.0 ∷ [],
-          cut_more links old (cs ++ d.0 ∷ []) cs c d.0 anchor name target is refl d.1 (and_first (bytes_eq c.anchor anchor) (not (is_below name (last_name c.relations))) t)
+          cut_more links old (cs ++ d.0 ∷ []) cs c d.0 anchor name target is refl d.1
+              (and_first (bytes_eq c.anchor anchor) (not (is_below name (last_name c.relations))) t)
               (and_second (bytes_eq c.anchor anchor) (not (is_below name (last_name c.relations))) t) cut,
         )
     by cs c is false t = (old ++ context_with anchor name target ∷ [], cut_next links old (old ++ context_with anchor name target ∷ []) cs c anchor name target is refl t cut)

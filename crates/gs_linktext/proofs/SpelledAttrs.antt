@@ -32,17 +32,19 @@ use Rattle.gs_linktext.proofs.SpelledGrammar.{read_link, read_param, said}
 use Rattle.gs_linktext.proofs.SpelledLexemes.{attr_params, link_params, named, tagged_word, value_lexemes, Link}
 use Rattle.gs_linktext.proofs.SpelledLinks.{AreGoodAttrs, AreGoodLinks, IsGoodAttr, IsGoodLink}
 use Rattle.gs_linktext.proofs.Utf8Bytes.{utf8_bytes}
-use Rattle.gs_chars.proofs.TruthsAndLists.{and_first, and_second, equal_bytes, false_from, false_from_not, not_false, or_first, or_second, same_bytes, true_or_false}
+use Rattle.gs_chars.proofs.TruthsAndLists.{and_first, and_second, equal_bytes, or_first, or_second, same_bytes, true_or_false}
+use Rattle.std.proofs.lemmas.Bool.{not_from_false, not-true, false_from_ne_true}
 
 -- ---- a text with its language is read back
 
 pub tagged_back : (pair : List ℕ × List ℕ) → is_utf8 pair.0 ≡ true → list_all is_language_byte pair.1 ≡ true → tagged_text (tagged_word pair) ≡ Some pair
 tagged_back pair u h =
-    let ends : stops is_language_byte (39 ∷ percent_encoded pair.0) ≡ true = not_false (is_language_byte 39) mark_ends in
+    let ends : stops is_language_byte (39 ∷ percent_encoded pair.0) ≡ true = not_from_false (is_language_byte 39) mark_ends in
     let whole = prefix_whole is_language_byte pair.1 (39 ∷ percent_encoded pair.0) h ends in
     rw (whole.0, whole.1, decoded_again pair.0 (utf8_bytes pair.0 u), u, language_utf8 pair.1 h) refl
 
-pairs_back : (pairs : List (List ℕ × List ℕ)) → list_all is_tagged_text pairs ≡ true → list_any has_unspellable_language pairs ≡ false → filter_map tagged_text (map said (map (λ p. Word (tagged_word p)) pairs)) ≡ pairs
+pairs_back : (pairs : List (List ℕ × List ℕ)) → list_all is_tagged_text pairs ≡ true → list_any has_unspellable_language pairs ≡ false
+    → filter_map tagged_text (map said (map (λ p. Word (tagged_word p)) pairs)) ≡ pairs
 pairs_back [] shape h = refl
 pairs_back (pair ∷ pairs) shape h =
     let text = and_first (is_utf8 pair.0) (is_utf8 pair.1) (and_first (is_tagged_text pair) (list_all is_tagged_text pairs) shape) in
@@ -61,14 +63,15 @@ tagged_list_back : (pairs : List (List ℕ × List ℕ)) → (length pairs == 0)
 tagged_list_back [] h = absurd (let f : true ≡ false = h in cc)
 tagged_list_back (pair ∷ pairs) h = refl
 
-value_back : (name : List ℕ) (value : AttrValue) → is_value name value ≡ true → is_unspellable_value value ≡ false → attr_value name (map said (value_lexemes value)) ≡ Some value
+value_back : (name : List ℕ) (value : AttrValue) → is_value name value ≡ true → is_unspellable_value value ≡ false
+    → attr_value name (map said (value_lexemes value)) ≡ Some value
 value_back name (One text) shape h =
-    let tagged = false_from_not (is_tagged name) (and_first (not (is_tagged name)) (is_single name && is_utf8 text) shape) in
+    let tagged = not-true (is_tagged name) (and_first (not (is_tagged name)) (is_single name && is_utf8 text) shape) in
     let single = and_first (is_single name) (is_utf8 text) (and_second (not (is_tagged name)) (is_single name && is_utf8 text) shape) in
     rw (tagged, single) refl
 value_back name (Many texts) shape h =
-    let tagged = false_from_not (is_tagged name) (and_first (not (is_tagged name)) (not (is_single name) && list_all is_utf8 texts) shape) in
-    let single = false_from_not (is_single name) (and_first (not (is_single name)) (list_all is_utf8 texts) (and_second (not (is_tagged name)) (not (is_single name) && list_all is_utf8 texts) shape)) in
+    let tagged = not-true (is_tagged name) (and_first (not (is_tagged name)) (not (is_single name) && list_all is_utf8 texts) shape) in
+    let single = not-true (is_single name) (and_first (not (is_single name)) (list_all is_utf8 texts) (and_second (not (is_tagged name)) (not (is_single name) && list_all is_utf8 texts) shape)) in
     rw (tagged, single, texts_back texts) (many_back texts (or_first (length texts == 0) _ h))
 value_back name (Tagged pairs) shape h =
     let tagged = and_first (is_tagged name) (list_all is_tagged_text pairs) shape in
@@ -98,7 +101,8 @@ no_values_of n name (x ∷ xs) h = rw h (no_values_of n name xs h)
 abbrev read_attrs : List Attr → List Param
 read_attrs attrs = map read_param (flat_map attr_params attrs)
 
-values_split : (name : List ℕ) (attr : Attr) (attrs : List Attr) → values_of name (read_attrs (attr ∷ attrs)) ≡ values_of name (map read_param (attr_params attr)) ++ values_of name (read_attrs attrs)
+values_split : (name : List ℕ) (attr : Attr) (attrs : List Attr)
+    → values_of name (read_attrs (attr ∷ attrs)) ≡ values_of name (map read_param (attr_params attr)) ++ values_of name (read_attrs attrs)
 values_split name attr attrs = ap (values_of name) (map-append read_param (attr_params attr) (flat_map attr_params attrs)) ∙ values_both name (map read_param (attr_params attr)) (read_attrs attrs)
 
 -- a name is below the names of attributes
@@ -113,9 +117,11 @@ below_apart a b h =
 none_above : (name : List ℕ) (attrs : List Attr) → IsBelowAll name attrs → values_of name (read_attrs attrs) ≡ []
 none_above name [] below = refl
 none_above name (attr ∷ attrs) below =
-    values_split name attr attrs ∙ ap (λ (vs : List (List ℕ)). vs ++ values_of name (read_attrs attrs)) (no_values_of attr.name name (value_lexemes attr.value) (below_apart name attr.name below.0)) ∙ none_above name attrs below.1
+    values_split name attr attrs ∙ ap (λ (vs : List (List ℕ)). vs ++ values_of name (read_attrs attrs))
+    (no_values_of attr.name name (value_lexemes attr.value) (below_apart name attr.name below.0)) ∙ none_above name attrs below.1
 
-pub below_at : (name : List ℕ) (attrs : List Attr) (i : ℕ) (attr : Attr) → IsBelowAll name attrs → slice_get attrs i ≡ Some attr → slice_cmp nat_cmp name attr.name ≡ Less
+pub below_at : (name : List ℕ) (attrs : List Attr) (i : ℕ) (attr : Attr) → IsBelowAll name attrs → slice_get attrs i ≡ Some attr
+    → slice_cmp nat_cmp name attr.name ≡ Less
 below_at name [] i attr below at = absurd (not_some attr at)
 below_at name (a ∷ attrs) zero attr below at = rw (← some_is a attr at) below.0
 below_at name (a ∷ attrs) (suc i) attr below at = below_at name attrs i attr below.1 at
@@ -130,27 +136,35 @@ unfolding IsStrictlySortedBy
 sorted_attrs [] s = tt
 sorted_attrs (attr ∷ attrs) s = (s.0, sorted_attrs attrs s.1)
 
-first_values : (attr : Attr) (attrs : List Attr) → IsBelowAll attr.name attrs → values_of attr.name (read_attrs (attr ∷ attrs)) ≡ map said (value_lexemes attr.value)
+first_values : (attr : Attr) (attrs : List Attr) → IsBelowAll attr.name attrs
+    → values_of attr.name (read_attrs (attr ∷ attrs)) ≡ map said (value_lexemes attr.value)
 first_values attr attrs below =
-    values_split attr.name attr attrs ∙ ap (λ (vs : List (List ℕ)). vs ++ values_of attr.name (read_attrs attrs)) (own_values attr.name attr.name (value_lexemes attr.value) (same_bytes attr.name))
-    ∙ ap (λ (vs : List (List ℕ)). map said (value_lexemes attr.value) ++ vs) (none_above attr.name attrs below) ∙ append-nil (map said (value_lexemes attr.value))
+    values_split attr.name attr attrs ∙ ap (λ (vs : List (List ℕ)). vs ++ values_of attr.name (read_attrs attrs))
+    (own_values attr.name attr.name (value_lexemes attr.value) (same_bytes attr.name))
+    ∙ ap (λ (vs : List (List ℕ)). map said (value_lexemes attr.value) ++ vs) (none_above attr.name attrs below) ∙ append-nil
+    (map said (value_lexemes attr.value))
 
-each_values : (attrs : List Attr) (i : ℕ) (attr : Attr) → AreSorted attrs → slice_get attrs i ≡ Some attr → values_of attr.name (read_attrs attrs) ≡ map said (value_lexemes attr.value)
+each_values : (attrs : List Attr) (i : ℕ) (attr : Attr) → AreSorted attrs → slice_get attrs i ≡ Some attr
+    → values_of attr.name (read_attrs attrs) ≡ map said (value_lexemes attr.value)
 each_values [] i attr s at = absurd (not_some attr at)
 each_values (a ∷ attrs) zero attr s at = rw (← some_is a attr at) (first_values a attrs s.0)
 each_values (a ∷ attrs) (suc i) attr s at =
-    values_split attr.name a attrs ∙ ap (λ (vs : List (List ℕ)). vs ++ values_of attr.name (read_attrs attrs)) (no_values_of a.name attr.name (value_lexemes a.value) (differs attr.name a.name (below_apart a.name attr.name (below_at a.name attrs i attr s.0 at)))) ∙ each_values attrs i attr s.1 at
+    values_split attr.name a attrs ∙ ap (λ (vs : List (List ℕ)). vs ++ values_of attr.name (read_attrs attrs))
+    (no_values_of a.name attr.name (value_lexemes a.value) (differs attr.name a.name (below_apart a.name attr.name (below_at a.name attrs i attr s.0 at)))) ∙ each_values attrs i attr s.1 at
 
 good_at : (attrs : List Attr) (i : ℕ) (attr : Attr) → AreGoodAttrs attrs → slice_get attrs i ≡ Some attr → IsGoodAttr attr
 good_at [] i attr good at = absurd (not_some attr at)
 good_at (a ∷ attrs) zero attr good at = rw (← some_is a attr at) good.0
 good_at (a ∷ attrs) (suc i) attr good at = good_at attrs i attr good.1 at
 
-found_at : (name : List ℕ) (attrs : List Attr) (attr : Attr) → AreSorted attrs → AreGoodAttrs attrs → attr_with name (values_of name (read_attrs attrs)) ≡ Some attr → (i : ℕ) × (slice_get attrs i ≡ Some attr)
+found_at : (name : List ℕ) (attrs : List Attr) (attr : Attr) → AreSorted attrs → AreGoodAttrs attrs
+    → attr_with name (values_of name (read_attrs attrs)) ≡ Some attr → (i : ℕ) × (slice_get attrs i ≡ Some attr)
 found_at name [] attr s good h = absurd (no_values name attr h)
 found_at name (a ∷ attrs) attr s good h = by (bytes_eq a.name name) refl (λ g. found_at name attrs attr s.1 good.1 g)
   where
-    by : (b : Bool) → bytes_eq a.name name ≡ b → (attr_with name (values_of name (read_attrs attrs)) ≡ Some attr → (i : ℕ) × (slice_get attrs i ≡ Some attr)) → (i : ℕ) × (slice_get (a ∷ attrs) i ≡ Some attr)
+    by : (b : Bool) → bytes_eq a.name name ≡ b
+        → (attr_with name (values_of name (read_attrs attrs)) ≡ Some attr → (i : ℕ) × (slice_get attrs i ≡ Some attr))
+        → (i : ℕ) × (slice_get (a ∷ attrs) i ≡ Some attr)
     by true e rest =
         let same = equal_bytes a.name name e in
         let is : attr_with name (values_of name (read_attrs (a ∷ attrs))) ≡ Some a = rw (← same) (ap (attr_with a.name) (first_values a attrs s.0) ∙ attr_back a good.0) in
@@ -163,14 +177,15 @@ found_at name (a ∷ attrs) attr s good h = by (bytes_eq a.name name) refl (λ g
 -- ---- the attributes of a link
 
 -- of a name that is not reserved, the values are those of the attributes
-link_values : (name : List ℕ) (link : Link) → is_reserved name ≡ false → values_of name (map read_param (link_params link)) ≡ values_of name (read_attrs link.2.attrs)
+link_values : (name : List ℕ) (link : Link) → is_reserved name ≡ false
+    → values_of name (map read_param (link_params link)) ≡ values_of name (read_attrs link.2.attrs)
 link_values name link h =
     let rel : bytes_eq (codes "rel") name ≡ false = differs name (codes "rel") (or_first (bytes_eq name (codes "rel")) _ h) in
     let anchor : bytes_eq (codes "anchor") name ≡ false = differs name (codes "anchor") (or_first (bytes_eq name (codes "anchor")) (bytes_eq name (codes "href")) (or_second (bytes_eq name (codes "rel")) _ h)) in
     rw (rel, anchor) refl
 
 pub not_reserved : (name : List ℕ) (values : List (List ℕ)) (attr : Attr) → attr_with name values ≡ Some attr → is_reserved name ≡ false
-not_reserved name values attr h = false_from (is_reserved name) (λ t. not_some attr (rw t at h))
+not_reserved name values attr h = false_from_ne_true (is_reserved name) (λ t. not_some attr (rw t at h))
 
 pub link_attributes : (link : Link) → IsGoodLink link → IsAttributes (map read_param (link_params link)) link.2.attrs
 link_attributes link good = record { ascending = good.ascending; each = each; every_name = named_so }

@@ -3,7 +3,7 @@ use Rattle.std.proofs.Common.{◌≡◌, ℕ, zero, suc, ◌/◌, ◌%◌, ◌<�
 use Rattle.std.specs.Char.{to_ascii_lowercase}
 use Rattle.std.specs.List.{flat_map, list_all, list_any}
 use Rattle.std.specs.Str.{is_utf8}
-use Rattle.std.proofs.lemmas.Bool.{agree_below, agree_below_at}
+use Rattle.std.proofs.lemmas.Bool.{agree_below, agree_below_at, and_from, not_from_false, not-false}
 use Rattle.std.proofs.lemmas.Bool.Decides.{nat_tests}
 use Rattle.std.proofs.lemmas.List.Elements.{All-head, All-tail}
 use Rattle.std.proofs.lemmas.List.Folds.{list_all-append}
@@ -12,20 +12,20 @@ use Rattle.std.proofs.lemmas.Str.Ascii.{lowercase_is}
 use Rattle.gs_chars.specs.Escapes.{hex_digit}
 use Rattle.gs_linktext_grammar.specs.Bytes.{is_token}
 use Rattle.gs_linktext_grammar.specs.Lexemes.{are_some}
-use Rattle.gs_linktext_grammar.proofs.LexLemmas.{equal_number}
 use Rattle.gs_linktext.specs.Links.{is_language_byte}
 use Rattle.gs_linktext.specs.Spelling.{is_upper}
 use Rattle.gs_ident.specs.Links.{escaped_byte, is_unescaped, percent_encoded}
 use Rattle.gs_ident.proofs.ValueEscapes.{IsByte}
 use Rattle.gs_linktext.proofs.SpelledLexemes.{tagged_word}
-use Rattle.gs_chars.proofs.TruthsAndLists.{and_first, and_second, and_true, not_false, or_first, or_second, true_from_not, true_or_false}
+use Rattle.gs_chars.proofs.TruthsAndLists.{and_first, and_second, or_first, or_second, true_or_false, equal_number}
 
 -- ---- tests of all bytes
 
 pub all_from_none : {X : Type 0} (t : X → Bool) (xs : List X) → list_any (λ x. not (t x)) xs ≡ false → list_all t xs ≡ true
 all_from_none t [] h = refl
 all_from_none t (x ∷ xs) h =
-    and_true (t x) (list_all t xs) (true_from_not (t x) (or_first (not (t x)) (list_any (λ y. not (t y)) xs) h)) (all_from_none t xs (or_second (not (t x)) (list_any (λ y. not (t y)) xs) h))
+    and_from (t x) (list_all t xs) (not-false (t x) (or_first (not (t x)) (list_any (λ y. not (t y)) xs) h))
+    (all_from_none t xs (or_second (not (t x)) (list_any (λ y. not (t y)) xs) h))
 
 pub none_all : {X : Type 0} (t : X → Bool) (xs : List X) → list_any t xs ≡ false → list_all (λ x. not (t x)) xs ≡ true
 none_all t [] h = refl
@@ -36,7 +36,7 @@ none_all t (x ∷ xs) h =
 
 pub all_imply : (s t : ℕ → Bool) → ((c : ℕ) → s c ≡ true → t c ≡ true) → (xs : List ℕ) → list_all s xs ≡ true → list_all t xs ≡ true
 all_imply s t f [] h = refl
-all_imply s t f (c ∷ xs) h = and_true (t c) (list_all t xs) (f c (and_first (s c) (list_all s xs) h)) (all_imply s t f xs (and_second (s c) (list_all s xs) h))
+all_imply s t f (c ∷ xs) h = and_from (t c) (list_all t xs) (f c (and_first (s c) (list_all s xs) h)) (all_imply s t f xs (and_second (s c) (list_all s xs) h))
 
 -- a byte of a list that passes passes
 pub any_in : (test : ℕ → Bool) (c : ℕ) (xs : List ℕ) → list_any (λ x. x == c) xs ≡ true → list_all test xs ≡ true → test c ≡ true
@@ -113,14 +113,17 @@ percent_token = refl
 
 escaped_tokens : (c : ℕ) → c < 256 → list_all is_token (escaped_byte c) ≡ true
 escaped_tokens c h = elim (true_or_false (is_unescaped c)) [
-  | inl t ↦ rw t (and_true (is_token c) true (unescaped_token c h t) refl)
-  | inr f ↦ let high : c / 16 < 16 = omega (arith, h) in let low : c % 16 < 16 = omega (arith, h) in rw (f, percent_token, hex_token (c / 16) high, hex_token (c % 16) low) refl
+  | inl t ↦ rw t (and_from (is_token c) true (unescaped_token c h t) refl)
+  | inr f ↦ let high : c / 16 < 16 = omega (arith, h) in let low : c % 16 < 16 = omega
+      (arith, h) in rw (f, percent_token, hex_token (c / 16) high, hex_token (c % 16) low) refl
 ]
 
 all_escaped : (text : List ℕ) → All IsByte text → list_all is_token (flat_map escaped_byte text) ≡ true
 all_escaped [] h = refl
 all_escaped (c ∷ text) h =
-    list_all-append is_token (escaped_byte c) (flat_map escaped_byte text) ∙ and_true (list_all is_token (escaped_byte c)) (list_all is_token (flat_map escaped_byte text)) (escaped_tokens c (All-head IsByte c text h)) (all_escaped text (All-tail IsByte c text h))
+    list_all-append is_token (escaped_byte c) (flat_map escaped_byte text) ∙ and_from (list_all is_token (escaped_byte c))
+    (list_all is_token (flat_map escaped_byte text)) (escaped_tokens c (All-head IsByte c text h))
+    (all_escaped text (All-tail IsByte c text h))
 
 escaped_is : (text : List ℕ) → percent_encoded text ≡ flat_map escaped_byte text
 unfolding percent_encoded
@@ -135,16 +138,17 @@ unfolding is_token
 prefix_tokens = refl
 
 pub some_cons : {X : Type 0} (x : X) (xs : List X) → not (length (x ∷ xs) == 0) ≡ true
-some_cons x xs = let f : (length (x ∷ xs) == 0) ≡ false = grind (arith, nat_tests) in not_false (length (x ∷ xs) == 0) f
+some_cons x xs = let f : (length (x ∷ xs) == 0) ≡ false = grind (arith, nat_tests) in not_from_false (length (x ∷ xs) == 0) f
 
 pub word_tokens : (pair : List ℕ × List ℕ) → list_all is_language_byte pair.1 ≡ true → All IsByte pair.0 → are_some is_token (tagged_word pair) ≡ true
 word_tokens pair h small =
     let text : list_all is_token (percent_encoded pair.0) ≡ true = ap (list_all is_token) (escaped_is pair.0) ∙ all_escaped pair.0 small in
-    let behind : list_all is_token (39 ∷ percent_encoded pair.0) ≡ true = and_true (is_token 39) (list_all is_token (percent_encoded pair.0)) mark_token text in
+    let behind : list_all is_token (39 ∷ percent_encoded pair.0) ≡ true = and_from (is_token 39) (list_all is_token (percent_encoded pair.0)) mark_token text in
     let language : list_all is_token pair.1 ≡ true = all_imply is_language_byte is_token language_token pair.1 h in
-    let rest : list_all is_token (pair.1 ++ 39 ∷ percent_encoded pair.0) ≡ true = list_all-append is_token pair.1 (39 ∷ percent_encoded pair.0) ∙ and_true (list_all is_token pair.1) (list_all is_token (39 ∷ percent_encoded pair.0)) language behind in
-    let all : list_all is_token (tagged_word pair) ≡ true = list_all-append is_token (codes "UTF-8'") (pair.1 ++ 39 ∷ percent_encoded pair.0) ∙ and_true (list_all is_token (codes "UTF-8'")) (list_all is_token (pair.1 ++ 39 ∷ percent_encoded pair.0)) prefix_tokens rest in
-    and_true (not (length (tagged_word pair) == 0)) (list_all is_token (tagged_word pair)) (some_cons 85 (codes "TF-8'" ++ (pair.1 ++ 39 ∷ percent_encoded pair.0))) all
+    let rest : list_all is_token (pair.1 ++ 39 ∷ percent_encoded pair.0) ≡ true = list_all-append is_token pair.1 (39 ∷ percent_encoded pair.0) ∙ and_from (list_all is_token pair.1) (list_all is_token (39 ∷ percent_encoded pair.0)) language behind in
+    let all : list_all is_token (tagged_word pair) ≡ true = list_all-append is_token (codes "UTF-8'") (pair.1 ++ 39 ∷ percent_encoded pair.0) ∙ and_from (list_all is_token (codes "UTF-8'")) (list_all is_token (pair.1 ++ 39 ∷ percent_encoded pair.0)) prefix_tokens rest in
+    and_from (not (length (tagged_word pair) == 0)) (list_all is_token (tagged_word pair))
+    (some_cons 85 (codes "TF-8'" ++ (pair.1 ++ 39 ∷ percent_encoded pair.0))) all
 
 pub mark_ends : is_language_byte 39 ≡ false
 unfolding is_language_byte

@@ -14,7 +14,8 @@ use Rattle.gs_linktext_grammar.specs.declared.lexeme.Lexeme.TheVariants.{Comma, 
 use Rattle.gs_linktext_grammar.proofs.ChainLemmas.{chain_append}
 use Rattle.gs_ident.specs.Links.{percent_encoded}
 use Rattle.gs_linktext.specs.Spelling.{quoted, quoted_byte, spelled_attr, spelled_behind, spelled_link, spelled_links}
-use Rattle.gs_chars.proofs.TruthsAndLists.{and_first, and_second, and_true, not_false, or_first, or_second}
+use Rattle.gs_chars.proofs.TruthsAndLists.{and_first, and_second, or_first, or_second}
+use Rattle.std.proofs.lemmas.Bool.{and_from, not_from_false}
 
 -- a link: its anchor, its relation type and its target
 abbrev pub Link : Type 0
@@ -114,7 +115,8 @@ attr_text attr = by attr.value
 attrs_text : (attrs : List Attr) → flat_map spelled_attr attrs ≡ flat_map text_of (flat_map attr_params attrs)
 attrs_text [] = refl
 attrs_text (attr ∷ attrs) =
-    ap (λ (xs : List ℕ). xs ++ flat_map spelled_attr attrs) (attr_text attr) ∙ ap (λ (xs : List ℕ). flat_map text_of (attr_params attr) ++ xs) (attrs_text attrs)
+    ap (λ (xs : List ℕ). xs ++ flat_map spelled_attr attrs) (attr_text attr) ∙ ap
+    (λ (xs : List ℕ). flat_map text_of (attr_params attr) ++ xs) (attrs_text attrs)
     ∙ sym (flat_map-append text_of (attr_params attr) (flat_map attr_params attrs))
 
 link_is : (link : Link) → spelled_link link ≡ link_text link
@@ -135,11 +137,14 @@ behinds_are (link ∷ links) =
 
 -- ---- a spelled lexeme
 
-quoted_on : (c : ℕ) (xs value rest : List ℕ) → (c == 34) ≡ false → (c == 92) ≡ false → is_quoted_byte c ≡ true → ◌≡◌ {A = Option (List ℕ × List ℕ)} (unquoted xs) (Some (value, rest)) → ◌≡◌ {A = Option (List ℕ × List ℕ)} (unquoted (c ∷ xs)) (Some (c ∷ value, rest))
+quoted_on : (c : ℕ) (xs value rest : List ℕ) → (c == 34) ≡ false → (c == 92) ≡ false → is_quoted_byte c ≡ true
+    → ◌≡◌ {A = Option (List ℕ × List ℕ)} (unquoted xs) (Some (value, rest)) → ◌≡◌ {A = Option (List ℕ × List ℕ)} (unquoted (c ∷ xs))
+    (Some (c ∷ value, rest))
 quoted_on c [] value rest f g t h = absurd (let e : ◌≡◌ {A = Option (List ℕ × List ℕ)} None (Some (value, rest)) = h in cc)
 quoted_on c (d ∷ xs) value rest f g t h = rw (t, f, g, h) refl
 
-quoted_back : (text rest : List ℕ) → list_all is_quotable text ≡ true → ◌≡◌ {A = Option (List ℕ × List ℕ)} (unquoted (flat_map quoted_byte text ++ 34 ∷ rest)) (Some (text, rest))
+quoted_back : (text rest : List ℕ) → list_all is_quotable text ≡ true → ◌≡◌ {A = Option (List ℕ × List ℕ)}
+    (unquoted (flat_map quoted_byte text ++ 34 ∷ rest)) (Some (text, rest))
 quoted_back [] [] h = refl
 quoted_back [] (c ∷ rest) h = refl
 quoted_back (c ∷ text) rest h = by (c == 34 || c == 92) refl (quoted_back text rest (and_second (is_quotable c) (list_all is_quotable text) h))
@@ -147,12 +152,14 @@ quoted_back (c ∷ text) rest h = by (c == 34 || c == 92) refl (quoted_back text
     own : is_quotable c ≡ true
     own = and_first (is_quotable c) (list_all is_quotable text) h
 
-    by : (b : Bool) → (c == 34 || c == 92) ≡ b → ◌≡◌ {A = Option (List ℕ × List ℕ)} (unquoted (flat_map quoted_byte text ++ 34 ∷ rest)) (Some (text, rest)) → ◌≡◌ {A = Option (List ℕ × List ℕ)} (unquoted (flat_map quoted_byte (c ∷ text) ++ 34 ∷ rest)) (Some (c ∷ text, rest))
+    by : (b : Bool) → (c == 34 || c == 92) ≡ b → ◌≡◌ {A = Option (List ℕ × List ℕ)} (unquoted (flat_map quoted_byte text ++ 34 ∷ rest))
+        (Some (text, rest)) → ◌≡◌ {A = Option (List ℕ × List ℕ)} (unquoted (flat_map quoted_byte (c ∷ text) ++ 34 ∷ rest))
+        (Some (c ∷ text, rest))
     by true e more = rw (e, own, more) refl
     by false e more =
         let mark = or_first (c == 34) (c == 92) e in
         let slash = or_second (c == 34) (c == 92) e in
-        let stands : is_quoted_byte c ≡ true = and_true (is_quotable c) (not (c == 34 || c == 92)) own (not_false (c == 34 || c == 92) e) in
+        let stands : is_quoted_byte c ≡ true = and_from (is_quotable c) (not (c == 34 || c == 92)) own (not_from_false (c == 34 || c == 92) e) in
         rw e (quoted_on c (flat_map quoted_byte text ++ 34 ∷ rest) text rest mark slash stands more)
 
 value_stands : (v : Lexeme) (rest : List ℕ) → is_spelt_value v ≡ true → stops is_token rest ≡ true → IsLexeme v (lexeme_text v ++ rest) rest
@@ -167,7 +174,7 @@ value_stands (Quoted v) rest h s =
 -- ---- the lexemes of parameters, links and documents
 
 stops_at : (c : ℕ) (rest : List ℕ) → is_token c ≡ false → stops is_token (c ∷ rest) ≡ true
-stops_at c rest f = not_false (is_token c) f
+stops_at c rest f = not_from_false (is_token c) f
 
 semicolon_ends : (rest : List ℕ) → stops is_token (59 ∷ rest) ≡ true
 unfolding is_token
@@ -200,7 +207,8 @@ param_chain p rest h s = (
   ),
 )
 
-params_chain : (ps : List Spelt) (rest : List ℕ) → list_all is_spelt ps ≡ true → stops is_token rest ≡ true → Chain (flat_map lexemes_of ps) (flat_map text_of ps ++ rest) rest
+params_chain : (ps : List Spelt) (rest : List ℕ) → list_all is_spelt ps ≡ true → stops is_token rest ≡ true
+    → Chain (flat_map lexemes_of ps) (flat_map text_of ps ++ rest) rest
 params_chain [] rest h s = refl
 params_chain (p ∷ ps) rest h s =
     let more = params_chain ps rest (and_second (is_spelt p) (list_all is_spelt ps) h) s in
@@ -211,7 +219,8 @@ params_chain (p ∷ ps) rest h s =
 abbrev pub is_spelt_link : Link → Bool
 is_spelt_link link = are_some is_target_byte link.2.href && list_all is_spelt (link_params link)
 
-link_chain : (blanks : List ℕ) (link : Link) (rest : List ℕ) → list_all is_blank blanks ≡ true → is_spelt_link link ≡ true → stops is_token rest ≡ true → Chain (link_lexemes link) (blanks ++ (link_text link ++ rest)) rest
+link_chain : (blanks : List ℕ) (link : Link) (rest : List ℕ) → list_all is_blank blanks ≡ true → is_spelt_link link ≡ true
+    → stops is_token rest ≡ true → Chain (link_lexemes link) (blanks ++ (link_text link ++ rest)) rest
 link_chain blanks link rest b h s =
     let ps : List Spelt = link_params link in
     let split : (link.2.href ++ 62 ∷ flat_map text_of ps) ++ rest ≡ link.2.href ++ 62 ∷ (flat_map text_of ps ++ rest) = append_assoc link.2.href (62 ∷ flat_map text_of ps) rest in

@@ -31,7 +31,8 @@ scalar_bound c h = elim (scalar_cases c h) [
 codes_bytes : (cs : List ℕ) → scalars cs ≡ true → All IsByte (encode_utf8_all cs)
 codes_bytes [] h = All-nil IsByte
 codes_bytes (c ∷ cs) h =
-    All-append IsByte (encode c) (encode_utf8_all cs) (code_bytes c (scalar_bound c (and_first (scalar c) (scalars cs) h))) (codes_bytes cs (and_second (scalar c) (scalars cs) h))
+    All-append IsByte (encode c) (encode_utf8_all cs) (code_bytes c (scalar_bound c (and_first (scalar c) (scalars cs) h)))
+    (codes_bytes cs (and_second (scalar c) (scalars cs) h))
 
 pub utf8_bytes : (text : List ℕ) → is_utf8 text ≡ true → All IsByte text
 utf8_bytes text h = let own = IsUtf8-from_is_utf8 text h in rw own.1.1 at (codes_bytes own.0 own.1.0)

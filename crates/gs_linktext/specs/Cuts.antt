@@ -15,11 +15,11 @@ relation_with name target = record { name = name; targets = target ∷ [] }
 abbrev pub context_with : List ℕ → List ℕ → Target → Context
 context_with anchor name target = record { anchor = anchor; relations = relation_with name target ∷ [] }
 
--- a context can go on with a link
+-- holds if a context can go on with a link
 abbrev pub takes : Context → List ℕ → List ℕ → Bool
 takes context anchor name = bytes_eq context.anchor anchor && not (is_below name (last_name context.relations))
 
--- a context with one link more
+-- holds if `new` is the context `old` with one link more
 pub record IsMore (old new : Context) (name : List ℕ) (target : Target) : Type 0 where
   pub links : links_of_context new ≡ links_of_context old ++ (old.anchor, name, target) ∷ []
   pub anchor : new.anchor ≡ old.anchor

@@ -23,7 +23,7 @@ value_at q name value = if bytes_eq name q then value ∷ [] else []
 abbrev pub attrs_of_entries : List (List ℕ × List (List ℕ)) → List Attr
 attrs_of_entries entries = filter_map (λ e. attr_with e.0 e.1) entries
 
--- a value is one text, which is UTF-8
+-- holds if a value is one text, which is UTF-8
 abbrev pub is_one : AttrValue → Bool
 is_one (One text) = is_utf8 text
 is_one (Many texts) = false

@@ -34,19 +34,19 @@ types_of params = types_in (unwrap_or (first_value (codes "rel") params) [])
 abbrev pub values_of : List ℕ → List Param → List (List ℕ)
 values_of name params = map (λ param. param.value) (filter (λ param. bytes_eq param.name name) params)
 
--- trusted, RFC 8187, section 3.2.1: a byte of a language: a letter, a digit or a hyphen
+-- trusted, RFC 8187, section 3.2.1: holds if `c` is a byte of a language: a letter, a digit or a hyphen
 unfoldable pub is_language_byte : ℕ → Bool
 is_language_byte c =
     list_any (λ x. x == c) (codes "-0123456789ABCDEFGHIJKLMNOPQRSTUVWXYZabcdefghijklmnopqrstuvwxyz")
 
--- trusted, RFC 8187, section 3.2.1: a text and its language, after the name of the character set. Both are UTF-8, the text once
--- its escapes are read.
+-- trusted, RFC 8187, section 3.2.1: The text and its language, after the name of the character set. Both are valid UTF-8, the
+-- text once its escapes are read.
 abbrev pub tagged_by : List ℕ → List ℕ → Option (List ℕ × List ℕ)
 tagged_by language [] = None
 tagged_by language (c ∷ text) =
     if c == 39 && (is_utf8 (percent_decode text) && is_utf8 language) then Some (percent_decode text, language) else None
 
--- trusted, RFC 8187, section 3.2.1: a text and its language of a value `UTF-8'LANG'TEXT`, UTF-8 in either case
+-- trusted, RFC 8187, section 3.2.1: the text and its language of a value `UTF-8'LANG'TEXT`, with UTF-8 in either case
 abbrev pub tagged_text : List ℕ → Option (List ℕ × List ℕ)
 tagged_text value =
     if bytes_eq (map to_ascii_lowercase (take 6 value)) (codes "utf-8'")
@@ -71,11 +71,11 @@ attr_value name values =
     else if is_single name then option_map One (slice_get values 0)
     else many_value values
 
--- trusted, RFC 9264, section 4.2: the names that are those of no attribute
+-- trusted, RFC 9264, section 4.2: holds if `name` is not that of an attribute: it is `rel`, `anchor` or `href`
 abbrev pub is_reserved : List ℕ → Bool
 is_reserved name = bytes_eq name (codes "rel") || (bytes_eq name (codes "anchor") || bytes_eq name (codes "href"))
 
--- trusted, own: an attribute by its name and the values of its name
+-- trusted, own: the attribute of a name and the values of its name, if there is one
 abbrev pub attr_with : List ℕ → List (List ℕ) → Option Attr
 attr_with name values =
     if is_reserved name then None else option_map (λ value. record { name = name; value = value }) (attr_value name values)
@@ -84,26 +84,27 @@ attr_with name values =
 abbrev pub attr_of : List Param → List ℕ → Option Attr
 attr_of params name = attr_with name (values_of name params)
 
--- trusted, own: the attributes of parameters, in ascending order of their names, one for each name that has one
+-- trusted, own: holds if `attrs` are the attributes of `params`, in ascending order of their names, one for each name that has
+-- one
 pub record IsAttributes (params : List Param) (attrs : List Attr) : Type 0 where
   pub ascending : ascend (map (λ attr. attr.name) attrs) ≡ true
   pub each : (i : ℕ) (attr : Attr) → slice_get attrs i ≡ Some attr → attr_of params attr.name ≡ Some attr
   pub every_name : (name : List ℕ) (attr : Attr) → attr_of params name ≡ Some attr → (i : ℕ) × (slice_get attrs i ≡ Some attr)
 
--- trusted, own: the links of a written link: one for each of its relation types
+-- trusted, own: holds if `links` are those of `link`: one for each of its relation types
 pub record IsLinksOfLink (link : WrittenLink) (links : List (List ℕ × List ℕ × Target)) : Type 0 where
   pub attrs : List Attr
   pub attributes : IsAttributes link.params attrs
   pub is : links ≡ map (λ type. (unwrap_or (first_value (codes "anchor") link.params) [], type, record { href = link.href; attrs = attrs })) (types_of link.params)
 
--- trusted, own: the links of written links, in their order
+-- trusted, own: holds if `links` are those of the written links, in their order
 abbrev pub IsLinksOf : List WrittenLink → List (List ℕ × List ℕ × Target) → Type 0
 IsLinksOf [] links = links ≡ []
 IsLinksOf (link ∷ others) links =
     (own : List (List ℕ × List ℕ × Target)) × (more : List (List ℕ × List ℕ × Target))
     × IsLinksOfLink link own × IsLinksOf others more × (links ≡ own ++ more)
 
--- trusted, own: a link has no relation type, or one that is `anchor`
+-- trusted, own: holds if a link has no relation type, or one that is `anchor`
 abbrev pub is_rel_error : List (List ℕ) → Bool
 is_rel_error [] = true
 is_rel_error (type ∷ types) = list_any (λ t. bytes_eq t (codes "anchor")) (type ∷ types)

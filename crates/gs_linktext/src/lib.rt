@@ -1,5 +1,5 @@
-//! Linksets as text (RFC 9264, section 4.1): documents of the type `application/linkset`, in the syntax of the `Link` field
-//! (RFC 8288, section 3), read and written.
+//! Linksets as text (RFC 9264, section 4.1), read and written. They are documents of the type `application/linkset`, in the
+//! syntax of the `Link` field (RFC 8288, section 3).
 //!
 //! - `read` reads a linkset from a text, or gives its first error; `write` spells one.
 //! - A written document is read as the same links: `written_is_read`. A read one can be written: `read_is_spelled`.

@@ -102,14 +102,14 @@ fn add_link(
     Ok(())
 }
 
-/// Returns the linkset of a text (RFC 9264, section 4.1): a list of links in the syntax of the `Link` field (RFC 8288, section
-/// 3), with line breaks allowed as white space. Each relation type of a link's first `rel` gives a link, with the first `anchor`
-/// as its anchor.
+/// Returns the linkset of a text (RFC 9264, section 4.1). It is a list of links in the syntax of the `Link` field (RFC 8288,
+/// section 3), with line breaks allowed as white space. Each relation type of a link's first `rel` gives a link, with the first
+/// `anchor` as its anchor.
 ///
 /// Returns `Syntax` if and only if the bytes are not a document of the grammar. Otherwise the first bad link decides, counted
-/// from 0: one without an `anchor` gives `Anchor`, and one with no relation type, or with the type `anchor`, gives `Rel`.
-/// `Anchor` comes first within a link. May return `Memory` instead. The time is linear in the bytes, except for sorting the names
-/// of a link's parameters, and for copying a target with several relation types.
+/// from 0. One without an `anchor` gives `Anchor`; one with no relation type, or with the type `anchor`, gives `Rel`. `Anchor`
+/// comes first within a link. May return `Memory` instead. The time is linear in the bytes, except for sorting the names of a
+/// link's parameters, and for copying a target with several relation types.
 pub fn read(alloc: Global, bytes: &[u8]) -> Result<LinkDoc, LinkTextFault>
     ensures read { IfOk result (λ doc. IsReadAs bytes.now doc) }
     ensures rejected { IfErr result (IsReadError bytes.now) }

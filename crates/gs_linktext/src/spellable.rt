@@ -41,7 +41,7 @@ fn is_unspellable_type(name: &[u8]) -> bool
     name.is_empty() || has_blank(name)
 }
 
-/// Returns whether a text has a byte that cannot are in a quoted string.
+/// Returns whether a text has a byte that cannot be in a quoted string.
 fn is_unspellable_text(text: &[u8]) -> bool
     ensures { result ≡ is_unspellable_text text.now }
 {

@@ -179,10 +179,15 @@ fn write_links(out: &mut Vec<u8>, links: &[LentLink<'_>]) -> Result<(), Memory>
 /// Returns the text of a linkset (RFC 9264, section 4.1). Each link has the target URI, the relation type, the anchor and the
 /// attributes, in the order of the document. A comma and a line break separate two links.
 ///
-/// `CannotSpell` names the first link, counted from 0 in the order of the document, that text cannot hold. Its target URI is
-/// empty or has a byte that is not allowed between `<` and `>`; its relation type is empty or has white space; one of its quoted
-/// texts has the byte 127, or one below 32 that is not 9; an attribute's name is not a name of the grammar, has an upper-case
-/// letter, or is `rel` or `anchor`; an attribute has an empty list; or a language has a byte other than letters, digits and `-`.
+/// `CannotSpell` names the first link, counted from 0 in the order of the document, that text cannot hold, for one of these reasons:
+///
+/// - Its target URI is empty or has a byte that is not allowed between `<` and `>`.
+/// - Its relation type is empty or has white space.
+/// - One of its quoted texts has the byte 127, or one below 32 that is not 9.
+/// - An attribute's name is not a name of the grammar, has an upper-case letter, or is `rel` or `anchor`.
+/// - An attribute has an empty list.
+/// - A language has a byte other than letters, digits and `-`.
+///
 /// May return `Memory` instead. The time is linear in the bytes of the text.
 pub fn write(alloc: Global, doc: &LinkDoc) -> Result<Text, LinkTextWriteFault>
     ensures spelled { IfOk result (λ text. text ≡ spelled doc.now) }

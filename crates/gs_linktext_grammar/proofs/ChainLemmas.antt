@@ -12,8 +12,9 @@ use Rattle.gs_linktext_grammar.specs.Answers.{IsSyntax}
 use Rattle.gs_linktext_grammar.specs.declared.error.LinkTextFault.{LinkTextFault}
 use Rattle.gs_linktext_grammar.specs.declared.error.LinkTextFault.TheVariants.{Syntax, Anchor, Rel, Memory}
 use Rattle.std.proofs.lemmas.Bool.Decides.{nat_tests}
-use Rattle.gs_chars.proofs.TruthsAndLists.{and_first, and_second, and_true, not_false}
+use Rattle.gs_chars.proofs.TruthsAndLists.{and_first, and_second}
 use Rattle.gs_linktext_grammar.proofs.LexLemmas.{all_behind, all_prefix, prefix_behind, prefix_is_lexeme, prefix_whole, lexeme_is_prefix, none_behind, not_some, some_is, token_is_no_sign}
+use Rattle.std.proofs.lemmas.Bool.{and_from, not_from_false}
 
 -- a lexeme begins with no blank
 no_blank : (x : Lexeme) (text rest : List ℕ) → IsLexeme x text rest → stops is_blank text ≡ true
@@ -26,7 +27,7 @@ no_blank (Word word) text rest h = of_word word text rest h
     of_word [] text rest h = absurd (let f : false ≡ true = h.1 in cc)
     of_word (c ∷ word) text rest h =
         let t = and_first (is_token c) (list_all is_token word) (and_second (not (length (c ∷ word) == 0)) (list_all is_token (c ∷ word)) h.1) in
-        rw h.0 (not_false (is_blank c) (token_is_no_sign c t).5)
+        rw h.0 (not_from_false (is_blank c) (token_is_no_sign c t).5)
 no_blank (Target href) text rest h = rw h.0 refl
 no_blank (Quoted value) text rest (body, e, said) = rw e refl
 
@@ -75,7 +76,8 @@ pub lexed_end : (p : List Lexeme) (text rest : List ℕ) → Chain p text rest �
 lexed_end p text rest h e = (rest, h, none_behind is_blank rest e)
 
 -- no lexemes are those of a text that goes on with none and has not ended
-pub not_lexed : (p xs : List Lexeme) (text rest : List ℕ) → Chain p text rest → first_lexeme (after_blanks rest) ≡ None → (after_blanks rest ≡ [] → ⊥) → Lexed xs text → ⊥
+pub not_lexed : (p xs : List Lexeme) (text rest : List ℕ) → Chain p text rest → first_lexeme (after_blanks rest) ≡ None
+    → (after_blanks rest ≡ [] → ⊥) → Lexed xs text → ⊥
 not_lexed p xs text rest h none more g =
     let found = rest_lexed p xs text rest h g in
     by found.0 found.2
@@ -97,7 +99,7 @@ one_lexing xs ys text (rest, chain, blank) g =
 
 pub no_comma_more : (p : List Lexeme) (x : Lexeme) → has_no_comma p → is_comma x ≡ false → has_no_comma (p ++ x ∷ [])
 no_comma_more [] x h own = rw own refl
-no_comma_more (y ∷ p) x h own = and_true (not (is_comma y)) _ (and_first (not (is_comma y)) _ h) (no_comma_more p x (and_second (not (is_comma y)) _ h) own)
+no_comma_more (y ∷ p) x h own = and_from (not (is_comma y)) _ (and_first (not (is_comma y)) _ h) (no_comma_more p x (and_second (not (is_comma y)) _ h) own)
 
 comma_is : (x : Lexeme) → is_comma x ≡ true → x ≡ Comma
 comma_is Comma h = refl
@@ -110,11 +112,13 @@ comma_is (Quoted w) h = absurd (let f : false ≡ true = h in cc)
 pub piece_ends : (p : List Lexeme) (text rest : List ℕ) → Chain p text rest → has_no_comma p → after_blanks rest ≡ [] → IsPiece text p None
 piece_ends p text rest h none e = (none, lexed_end p text rest h e)
 
-pub piece_goes_on : (p : List Lexeme) (x : Lexeme) (text rest behind : List ℕ) → Chain p text rest → has_no_comma p → first_lexeme (after_blanks rest) ≡ Some (x, behind) → is_comma x ≡ true → IsPiece text p (Some behind)
+pub piece_goes_on : (p : List Lexeme) (x : Lexeme) (text rest behind : List ℕ) → Chain p text rest → has_no_comma p
+    → first_lexeme (after_blanks rest) ≡ Some (x, behind) → is_comma x ≡ true → IsPiece text p (Some behind)
 piece_goes_on p x text rest behind h none e own =
     (none, rw (← comma_is x own) (chain_more p x text rest behind h (next_of_prefix x rest behind e)))
 
-pub piece_more : (p q : List Lexeme) (x : Lexeme) (text rest behind : List ℕ) → Chain p text rest → has_no_comma p → first_lexeme (after_blanks rest) ≡ Some (x, behind) → is_comma x ≡ false → q ≡ p ++ x ∷ []
+pub piece_more : (p q : List Lexeme) (x : Lexeme) (text rest behind : List ℕ) → Chain p text rest → has_no_comma p
+    → first_lexeme (after_blanks rest) ≡ Some (x, behind) → is_comma x ≡ false → q ≡ p ++ x ∷ []
     → Chain q text behind × has_no_comma q
 piece_more p q x text rest behind h none e own is =
     rw is (chain_more p x text rest behind h (next_of_prefix x rest behind e), no_comma_more p x none own)
@@ -133,6 +137,7 @@ syntax_more P Q (Anchor i) f h = h
 syntax_more P Q (Rel i) f h = h
 syntax_more P Q Memory f h = h
 
-pub piece_rejected : (p : List Lexeme) (text rest : List ℕ) (error : LinkTextFault) → Chain p text rest → (after_blanks rest ≡ [] → ⊥) → IsSyntax (first_lexeme (after_blanks rest) ≡ None) error → IsSyntax ((xs : List Lexeme) → Lexed xs text → ⊥) error
+pub piece_rejected : (p : List Lexeme) (text rest : List ℕ) (error : LinkTextFault) → Chain p text rest → (after_blanks rest ≡ [] → ⊥)
+    → IsSyntax (first_lexeme (after_blanks rest) ≡ None) error → IsSyntax ((xs : List Lexeme) → Lexed xs text → ⊥) error
 piece_rejected p text rest error h more none =
     syntax_more (first_lexeme (after_blanks rest) ≡ None) ((xs : List Lexeme) → Lexed xs text → ⊥) error (λ e xs. not_lexed p xs text rest h e more) none

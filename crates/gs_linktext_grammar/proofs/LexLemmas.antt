@@ -7,7 +7,8 @@ use Rattle.gs_linktext_grammar.specs.Prefixes.{first_lexeme, quoted_of, target_o
 use Rattle.gs_linktext_grammar.specs.Lexemes.{are_some, IsLexeme, stops, unquoted, with_byte}
 use Rattle.gs_linktext_grammar.specs.declared.lexeme.Lexeme.{Lexeme}
 use Rattle.gs_linktext_grammar.specs.declared.lexeme.Lexeme.TheVariants.{Comma, Semicolon, Equals, Word, Target, Quoted}
-use Rattle.gs_chars.proofs.TruthsAndLists.{and_first, and_second, and_true, not_false, false_from_not, true_or_false}
+use Rattle.gs_chars.proofs.TruthsAndLists.{and_first, and_second, true_or_false, equal_number}
+use Rattle.std.proofs.lemmas.Bool.{and_from, not_from_false, not-true}
 
 -- ---- options and numbers
 
@@ -16,9 +17,6 @@ some_is x y h = let e : Some x ≡ Some y = h in cc
 
 pub not_some : {X : Type 0} (x : X) → None ≡ Some x → ⊥
 not_some x h = let e : None ≡ Some x = h in cc
-
-pub equal_number : (a b : ℕ) → (a == b) ≡ true → a ≡ b
-equal_number a b h = grind (arith, nat_tests)
 
 -- the result of reading is this lexeme and this rest
 abbrev IsRead : Option (Lexeme × List ℕ) → Lexeme → List ℕ → Type 0
@@ -42,7 +40,7 @@ prefix_behind test (c ∷ rest) = elim (true_or_false (test c)) [
 pub all_prefix : (test : ℕ → Bool) (text : List ℕ) → list_all test (prefix_of test text) ≡ true
 all_prefix test [] = refl
 all_prefix test (c ∷ rest) = elim (true_or_false (test c)) [
-  | inl t ↦ rw t (and_true (test c) (list_all test (prefix_of test rest)) t (all_prefix test rest))
+  | inl t ↦ rw t (and_from (test c) (list_all test (prefix_of test rest)) t (all_prefix test rest))
   | inr f ↦ rw f refl
 ]
 
@@ -50,14 +48,15 @@ pub stops_behind : (test : ℕ → Bool) (text : List ℕ) → stops test (after
 stops_behind test [] = refl
 stops_behind test (c ∷ rest) = elim (true_or_false (test c)) [
   | inl t ↦ rw t (stops_behind test rest)
-  | inr f ↦ rw f (not_false (test c) f)
+  | inr f ↦ rw f (not_from_false (test c) f)
 ]
 
 pub prefix_stops : (test : ℕ → Bool) (rest : List ℕ) → stops test rest ≡ true → (prefix_of test rest ≡ []) × (after_prefix test rest ≡ rest)
 prefix_stops test [] h = (refl, refl)
-prefix_stops test (c ∷ rest) h = let f = false_from_not (test c) h in rw f (refl, refl)
+prefix_stops test (c ∷ rest) h = let f = not-true (test c) h in rw f (refl, refl)
 
-pub prefix_whole : (test : ℕ → Bool) (w rest : List ℕ) → list_all test w ≡ true → stops test rest ≡ true → (prefix_of test (w ++ rest) ≡ w) × (after_prefix test (w ++ rest) ≡ rest)
+pub prefix_whole : (test : ℕ → Bool) (w rest : List ℕ) → list_all test w ≡ true → stops test rest ≡ true
+    → (prefix_of test (w ++ rest) ≡ w) × (after_prefix test (w ++ rest) ≡ rest)
 prefix_whole test [] rest h s = prefix_stops test rest s
 prefix_whole test (c ∷ w) rest h s =
     let t = and_first (test c) (list_all test w) h in
@@ -83,11 +82,12 @@ word_prefix : (word text rest : List ℕ) → text ≡ word ++ rest → are_some
     → word_of (prefix_of is_token text) (after_prefix is_token text) ≡ Some (Word word, rest)
 word_prefix word text rest e some stop =
     let whole = prefix_whole is_token word rest (and_second (not (length word == 0)) (list_all is_token word) some) stop in
-    let none = false_from_not (length word == 0) (and_first (not (length word == 0)) (list_all is_token word) some) in
+    let none = not-true (length word == 0) (and_first (not (length word == 0)) (list_all is_token word) some) in
     rw (e, whole.0, whole.1, none) refl
 
 -- no byte of a token is another sign
-pub token_is_no_sign : (c : ℕ) → is_token c ≡ true → ((c == 44) ≡ false) × ((c == 59) ≡ false) × ((c == 61) ≡ false) × ((c == 60) ≡ false) × ((c == 34) ≡ false) × (is_blank c ≡ false)
+pub token_is_no_sign : (c : ℕ) → is_token c ≡ true
+    → ((c == 44) ≡ false) × ((c == 59) ≡ false) × ((c == 61) ≡ false) × ((c == 60) ≡ false) × ((c == 34) ≡ false) × (is_blank c ≡ false)
 unfolding is_token
 token_is_no_sign c h = (not_at 44 refl, not_at 59 refl, not_at 61 refl, not_at 60 refl, not_at 34 refl, rw (not_at 32 refl, not_at 9 refl, not_at 13 refl, not_at 10 refl) refl)
   where
@@ -113,7 +113,7 @@ lexeme_is_prefix (Word word) text rest h = of_word word text rest h
         rw (h.0, n.0, n.1, n.2, n.3, n.4) w
 lexeme_is_prefix (Target href) text rest h =
     let whole = prefix_whole is_target_byte href (62 ∷ rest) (and_second (not (length href == 0)) (list_all is_target_byte href) h.1) refl in
-    let none = false_from_not (length href == 0) (and_first (not (length href == 0)) (list_all is_target_byte href) h.1) in
+    let none = not-true (length href == 0) (and_first (not (length href == 0)) (list_all is_target_byte href) h.1) in
     rw (h.0, whole.0, whole.1, none) refl
 lexeme_is_prefix (Quoted value) text rest (body, e, said) = rw (e, said) refl
 
@@ -133,9 +133,10 @@ is_word x text rest h = by (length (prefix_of is_token text) == 0) refl
     by false e =
         let g : IsRead (Some (Word word, behind)) x rest = (rw e at h) in
         rw (← same_lexeme (Word word) x behind rest g, ← same_rest (Word word) x behind rest g)
-        (prefix_behind is_token text, and_true (not (length word == 0)) (list_all is_token word) (not_false (length word == 0) e) (all_prefix is_token text), stops_behind is_token text)
+        (prefix_behind is_token text, and_from (not (length word == 0)) (list_all is_token word) (not_from_false (length word == 0) e) (all_prefix is_token text), stops_behind is_token text)
 
-is_target : (x : Lexeme) (text rest : List ℕ) → target_of (prefix_of is_target_byte text) (after_prefix is_target_byte text) ≡ Some (x, rest) → IsLexeme x (60 ∷ text) rest
+is_target : (x : Lexeme) (text rest : List ℕ)
+    → target_of (prefix_of is_target_byte text) (after_prefix is_target_byte text) ≡ Some (x, rest) → IsLexeme x (60 ∷ text) rest
 is_target x text rest h = by_rest (after_prefix is_target_byte text) refl
   where
     href : List ℕ
@@ -147,7 +148,7 @@ is_target x text rest h = by_rest (after_prefix is_target_byte text) refl
         let g : IsRead (Some (Target href, behind)) x rest = (rw (at_end, e) at h) in
         let split : text ≡ href ++ 62 ∷ behind = prefix_behind is_target_byte text ∙ ap (λ (xs : List ℕ). href ++ xs) at_end in
         rw (← same_lexeme (Target href) x behind rest g, ← same_rest (Target href) x behind rest g)
-        (ap (λ (xs : List ℕ). 60 ∷ xs) split, and_true (not (length href == 0)) (list_all is_target_byte href) (not_false (length href == 0) e) (all_prefix is_target_byte text))
+        (ap (λ (xs : List ℕ). 60 ∷ xs) split, and_from (not (length href == 0)) (list_all is_target_byte href) (not_from_false (length href == 0) e) (all_prefix is_target_byte text))
 
     by_mark : (c : ℕ) (behind : List ℕ) (b : Bool) → (c == 62) ≡ b → after_prefix is_target_byte text ≡ c ∷ behind → IsLexeme x (60 ∷ text) rest
     by_mark c behind false e is = absurd (not_some (x, rest) (rw (is, e) at h))
@@ -157,7 +158,8 @@ is_target x text rest h = by_rest (after_prefix is_target_byte text) refl
     by_rest [] is = absurd (not_some (x, rest) (rw is at h))
     by_rest (c ∷ behind) is = by_mark c behind (c == 62) refl is
 
-is_quoted : (x : Lexeme) (text rest : List ℕ) (read : Option (List ℕ × List ℕ)) → unquoted text ≡ read → quoted_of read ≡ Some (x, rest) → IsLexeme x (34 ∷ text) rest
+is_quoted : (x : Lexeme) (text rest : List ℕ) (read : Option (List ℕ × List ℕ)) → unquoted text ≡ read → quoted_of read ≡ Some (x, rest)
+    → IsLexeme x (34 ∷ text) rest
 is_quoted x text rest None e h = absurd (not_some (x, rest) h)
 is_quoted x text rest (Some pair) e h =
     rw (← same_lexeme (Quoted pair.0) x pair.1 rest h, ← same_rest (Quoted pair.0) x pair.1 rest h) (text, refl, e)
@@ -192,7 +194,9 @@ prefix_is_lexeme x (c ∷ text) rest h = by_comma (c == 44) refl
 
 -- ---- the rest after a lexeme is shorter than the text
 
-shorter_byte : (c n : ℕ) (read : Option (List ℕ × List ℕ)) (value rest : List ℕ) → ((v r : List ℕ) → ◌≡◌ {A = Option (List ℕ × List ℕ)} read (Some (v, r)) → length r < n) → ◌≡◌ {A = Option (List ℕ × List ℕ)} (with_byte c read) (Some (value, rest)) → length rest < n
+shorter_byte : (c n : ℕ) (read : Option (List ℕ × List ℕ)) (value rest : List ℕ)
+    → ((v r : List ℕ) → ◌≡◌ {A = Option (List ℕ × List ℕ)} read (Some (v, r)) → length r < n) → ◌≡◌ {A = Option (List ℕ × List ℕ)}
+    (with_byte c read) (Some (value, rest)) → length rest < n
 shorter_byte c n None value rest h e = absurd (not_some (value, rest) e)
 shorter_byte c n (Some pair) value rest h e =
     let same : pair.1 ≡ rest = ap (λ p. p.1) (some_is (c ∷ pair.0, pair.1) (value, rest) e) in
@@ -200,7 +204,8 @@ shorter_byte c n (Some pair) value rest h e =
 
 quoted_step_shorter : (c d : ℕ) (text value rest : List ℕ) → ◌≡◌ {A = Option (List ℕ × List ℕ)} (unquoted (c ∷ d ∷ text)) (Some (value, rest))
     → ((v r : List ℕ) → ◌≡◌ {A = Option (List ℕ × List ℕ)} (unquoted text) (Some (v, r)) → length r < length text)
-    → ((v r : List ℕ) → ◌≡◌ {A = Option (List ℕ × List ℕ)} (unquoted (d ∷ text)) (Some (v, r)) → length r < length (d ∷ text)) → length rest < length (c ∷ d ∷ text)
+    → ((v r : List ℕ) → ◌≡◌ {A = Option (List ℕ × List ℕ)} (unquoted (d ∷ text)) (Some (v, r)) → length r < length (d ∷ text))
+    → length rest < length (c ∷ d ∷ text)
 quoted_step_shorter c d text value rest e first second = by_mark (c == 34) refl
   where
     more : length rest < length text → length rest < length (c ∷ d ∷ text)
@@ -232,7 +237,8 @@ shorter_quoted (c ∷ []) value rest e = by (c == 34) refl
     by : (b : Bool) → (c == 34) ≡ b → length rest < 1
     by true t = let same : [] ≡ rest = ap (λ p. p.1) (some_is ([], []) (value, rest) (rw t at e)) in rw (← same) (omega arith)
     by false f = absurd (not_some (value, rest) (rw f at e))
-shorter_quoted (c ∷ d ∷ text) value rest e = quoted_step_shorter c d text value rest e (λ v r h. shorter_quoted text v r h) (λ v r h. shorter_quoted (d ∷ text) v r h)
+shorter_quoted (c ∷ d ∷ text) value rest e = quoted_step_shorter c d text value rest e (λ v r h. shorter_quoted text v r h)
+    (λ v r h. shorter_quoted (d ∷ text) v r h)
 
 longer : (prefix rest : List ℕ) → length rest ≤ length (prefix ++ rest)
 longer [] rest = omega arith

@@ -36,7 +36,8 @@ pub byte_more : (value : List ℕ) (c : ℕ) (read : Option (List ℕ × List �
 byte_more value c None = refl
 byte_more value c (Some pair) = ap (λ (xs : List ℕ). Some (xs, pair.1)) (sym (append_assoc value (c ∷ []) pair.0))
 
-pub quoted_more : (whole value pushed rest behind : List ℕ) (c : ℕ) (byte : Option ℕ) → unquoted whole ≡ with_bytes value (unquoted rest) → unquoted rest ≡ said_from byte behind → byte ≡ Some c → pushed ≡ value ++ c ∷ []
+pub quoted_more : (whole value pushed rest behind : List ℕ) (c : ℕ) (byte : Option ℕ) → unquoted whole ≡ with_bytes value (unquoted rest)
+    → unquoted rest ≡ said_from byte behind → byte ≡ Some c → pushed ≡ value ++ c ∷ []
     → unquoted whole ≡ with_bytes pushed (unquoted behind)
 quoted_more whole value pushed rest behind c byte h step is push =
     rw push (h ∙ ap (with_bytes value) (step ∙ ap (λ o. said_from o behind) is) ∙ byte_more value c (unquoted behind))

@@ -2,11 +2,12 @@
 use Rattle.std.specs.Prelude.{ℕ, Bool, ◌==◌, ◌&&◌, ◌||◌, if◌then◌else◌, nat_le, not, List, [], ◌∷◌, codes}
 use Rattle.std.specs.List.{list_any}
 
--- trusted, RFC 9264, section 4.1, and own: a blank, which divides tokens: a space, a tab, or a byte of a line break
+-- trusted, RFC 9264, section 4.1, and own: holds if `c` is a blank, which divides tokens: a space, a tab, or a byte of a line
+-- break
 abbrev pub is_blank : ℕ → Bool
 is_blank c = c == 32 || (c == 9 || (c == 13 || c == 10))
 
--- trusted, RFC 9110, section 5.6.2: a byte of a token
+-- trusted, RFC 9110, section 5.6.2: holds if `c` is a byte of a token
 unfoldable pub is_token : ℕ → Bool
 is_token c =
     list_any (λ x. x == c) (codes "!#$%&'*+-.^_`|~0123456789ABCDEFGHIJKLMNOPQRSTUVWXYZabcdefghijklmnopqrstuvwxyz")
@@ -15,11 +16,11 @@ is_token c =
 abbrev pub is_target_byte : ℕ → Bool
 is_target_byte c = nat_le 33 c && (nat_le c 126 && not (c == 60 || c == 62))
 
--- trusted, RFC 9110, section 5.6.4: a byte that may be in a quoted string after a backslash
+-- trusted, RFC 9110, section 5.6.4: holds if `c` may be in a quoted string after a backslash
 abbrev pub is_quotable : ℕ → Bool
 is_quotable c = c == 9 || (nat_le 32 c && not (c == 127))
 
--- trusted, RFC 9110, section 5.6.4: a byte that may be in a quoted string without a backslash
+-- trusted, RFC 9110, section 5.6.4: holds if `c` may be in a quoted string without a backslash
 abbrev pub is_quoted_byte : ℕ → Bool
 is_quoted_byte c = is_quotable c && not (c == 34 || c == 92)
 

@@ -10,7 +10,7 @@ use Rattle.gs_linktext_grammar.specs.declared.lexeme.Lexeme.TheVariants.{Comma, 
 use Rattle.gs_linktext_grammar.specs.declared.written_link.Param.{Param}
 use Rattle.gs_linktext_grammar.specs.declared.written_link.WrittenLink.{WrittenLink}
 
--- trusted, own: a lexeme is a comma
+-- trusted, own: holds if the lexeme is a comma
 abbrev pub is_comma : Lexeme → Bool
 is_comma Comma = true
 is_comma Semicolon = false
@@ -19,7 +19,7 @@ is_comma (Word w) = false
 is_comma (Target h) = false
 is_comma (Quoted v) = false
 
--- trusted, own: a lexeme is a semicolon
+-- trusted, own: holds if the lexeme is a semicolon
 abbrev pub is_semicolon : Lexeme → Bool
 is_semicolon Comma = false
 is_semicolon Semicolon = true
@@ -28,7 +28,7 @@ is_semicolon (Word w) = false
 is_semicolon (Target h) = false
 is_semicolon (Quoted v) = false
 
--- trusted, own: a lexeme is an equals sign
+-- trusted, own: holds if the lexeme is an equals sign
 abbrev pub is_equals : Lexeme → Bool
 is_equals Comma = false
 is_equals Semicolon = false
@@ -64,11 +64,11 @@ href_in (Word w) = None
 href_in (Target h) = if is_utf8 h then Some h else None
 href_in (Quoted v) = None
 
--- trusted, own: a part that has a lexeme, or a byte
+-- trusted, own: holds if `part` has a lexeme, or a byte
 abbrev pub is_some_part : {X : Type 0} → List X → Bool
 is_some_part part = not (length part == 0)
 
--- trusted, RFC 8288, appendix B.3: a parameter, the letters of its name in lower case; its texts are UTF-8
+-- trusted, RFC 8288, appendix B.3: the parameter with the letters of its name in lower case, if its texts are valid UTF-8
 abbrev pub param_with : List ℕ → List ℕ → Option Param
 param_with name value =
     if is_utf8 (map to_ascii_lowercase name) && is_utf8 value
@@ -78,7 +78,8 @@ param_with name value =
 abbrev pub param_by : Option (List ℕ) → Option (List ℕ) → Option Param
 param_by name value = option_and_then (λ n. option_and_then (λ v. param_with n v) value) name
 
--- trusted, RFC 8288, section 3: a parameter is a name, or a name, an equals sign and a value. Without one the value is empty.
+-- trusted, RFC 8288, section 3: The parameter of a name, or of a name, an equals sign and a value. Without one the value is
+-- empty.
 abbrev pub param_of : List Lexeme → Option Param
 param_of [] = None
 param_of (name ∷ []) = param_by (name_in name) (Some [])
@@ -96,7 +97,7 @@ href_of [] = None
 href_of (x ∷ []) = href_in x
 href_of (x ∷ y ∷ xs) = None
 
--- trusted, RFC 8288, section 3: a link is a reference, and parameters each after a semicolon; an empty one is ignored
+-- trusted, RFC 8288, section 3: The link of a reference, and parameters each after a semicolon. An empty one is ignored.
 abbrev pub link_of : List (List Lexeme) → Option WrittenLink
 link_of [] = None
 link_of (head ∷ parts) =
@@ -110,10 +111,10 @@ written_link piece = link_of (slice_split is_semicolon piece)
 abbrev pub written_links : List Lexeme → Option (List WrittenLink)
 written_links lexemes = every written_link (filter is_some_part (slice_split is_comma lexemes))
 
--- trusted, RFC 9264, section 4.1: the text is a document of these links
+-- trusted, RFC 9264, section 4.1: holds if `text` is a document of `links`
 abbrev pub IsDocument : List ℕ → List WrittenLink → Type 0
 IsDocument text links = (lexemes : List Lexeme) × Lexed lexemes text × (written_links lexemes ≡ Some links)
 
--- trusted, RFC 8288, appendix B.1: holds if a text is not a document
+-- trusted, RFC 8288, appendix B.1: holds if `text` is not a document
 abbrev pub IsNoDocument : List ℕ → Type 0
 IsNoDocument text = (links : List WrittenLink) → IsDocument text links → ⊥

@@ -10,8 +10,8 @@ use Rattle.gs_linktext_grammar.specs.declared.lexeme.Lexeme.TheVariants.{Comma, 
 abbrev pub with_byte : ℕ → Option (List ℕ × List ℕ) → Option (List ℕ × List ℕ)
 with_byte c read = option_map (λ pair. (c ∷ pair.0, pair.1)) read
 
--- trusted, RFC 9110, section 5.6.4: the text of a quoted string after its first quotation mark, without its backslashes, and the
--- rest after its last mark; none if it does not end, or has a byte that is not allowed
+-- trusted, RFC 9110, section 5.6.4: The text of a quoted string after its first quotation mark, without its backslashes, and
+-- the rest after its last mark. It is none if the string does not end, or has a byte that is not allowed.
 abbrev pub unquoted : List ℕ → Option (List ℕ × List ℕ)
 unquoted [] = None
 unquoted (c ∷ []) = if c == 34 then Some ([], []) else None
@@ -21,16 +21,16 @@ unquoted (c ∷ d ∷ rest) =
     else if is_quoted_byte c then with_byte c (unquoted (d ∷ rest))
     else None
 
--- trusted, own: a text does not go on with a byte of a kind
+-- trusted, own: holds if the text does not go on with a byte that passes `test`
 abbrev pub stops : (ℕ → Bool) → List ℕ → Bool
 stops test [] = true
 stops test (c ∷ rest) = not (test c)
 
--- trusted, RFC 8288, section 3: one or more bytes of a kind
+-- trusted, RFC 8288, section 3: holds if `text` is one or more bytes that pass `test`
 abbrev pub are_some : (ℕ → Bool) → List ℕ → Bool
 are_some test text = not (length text == 0) && list_all test text
 
--- trusted, RFC 8288, section 3: a text is a lexeme and then the rest. A word is as long as it can be.
+-- trusted, RFC 8288, section 3: Holds if `text` is the lexeme and then `rest`. A word is as long as it can be.
 abbrev pub IsLexeme : Lexeme → List ℕ → List ℕ → Type 0
 IsLexeme Comma text rest = text ≡ 44 ∷ rest
 IsLexeme Semicolon text rest = text ≡ 59 ∷ rest
@@ -39,16 +39,16 @@ IsLexeme (Word word) text rest = (text ≡ word ++ rest) × (are_some is_token w
 IsLexeme (Target href) text rest = (text ≡ 60 ∷ (href ++ 62 ∷ rest)) × (are_some is_target_byte href ≡ true)
 IsLexeme (Quoted value) text rest = (body : List ℕ) × (text ≡ 34 ∷ body) × (unquoted body ≡ Some (value, rest))
 
--- trusted, own: a text is blanks, then a lexeme, then the rest
+-- trusted, own: holds if `text` is blanks, if any, then `lexeme`, then `rest`
 abbrev pub IsNext : Lexeme → List ℕ → List ℕ → Type 0
 IsNext lexeme text rest = (blanks : List ℕ) × (behind : List ℕ) × (text ≡ blanks ++ behind)
     × (list_all is_blank blanks ≡ true) × IsLexeme lexeme behind rest
 
--- trusted, own: a text is these lexemes in turn, with blanks before them, and then the rest
+-- trusted, own: holds if `text` is the lexemes in turn, with blanks, if any, before each, and then `rest`
 abbrev pub Chain : List Lexeme → List ℕ → List ℕ → Type 0
 Chain [] text rest = text ≡ rest
 Chain (lexeme ∷ lexemes) text rest = (behind : List ℕ) × IsNext lexeme text behind × Chain lexemes behind rest
 
--- trusted, own: a text is these lexemes, with blanks between them
+-- trusted, own: holds if `text` is `lexemes`, with blanks, if any, before, between and after them
 abbrev pub Lexed : List Lexeme → List ℕ → Type 0
 Lexed lexemes text = (rest : List ℕ) × Chain lexemes text rest × (list_all is_blank rest ≡ true)

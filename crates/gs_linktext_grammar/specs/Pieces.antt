@@ -8,11 +8,11 @@ use Rattle.gs_linktext_grammar.specs.declared.lexeme.Lexeme.{Lexeme}
 use Rattle.gs_linktext_grammar.specs.declared.lexeme.Lexeme.TheVariants.{Comma}
 use Rattle.gs_linktext_grammar.specs.declared.written_link.WrittenLink.{WrittenLink}
 
--- no lexeme is a comma
+-- holds if no lexeme is a comma
 abbrev pub has_no_comma : List Lexeme → Type 0
 has_no_comma lexemes = list_all (λ x. not (is_comma x)) lexemes ≡ true
 
--- a text is the lexemes of a piece and no more, or these, a comma, and the rest
+-- holds if a text is the lexemes of a piece and no more, or these, a comma, and the rest
 abbrev pub IsPiece : List ℕ → List Lexeme → Option (List ℕ) → Type 0
 IsPiece text piece None = has_no_comma piece × Lexed piece text
 IsPiece text piece (Some rest) = has_no_comma piece × Chain (piece ++ Comma ∷ []) text rest
@@ -21,7 +21,7 @@ IsPiece text piece (Some rest) = has_no_comma piece × Chain (piece ++ Comma ∷
 abbrev pub with_part : {X Y : Type 0} → (List X → Option Y) → List X → List Y → Option (List Y)
 with_part f part ys = if is_some_part part then option_map (λ y. ys ++ y ∷ []) (f part) else Some ys
 
--- the links so far, and the link of a piece, if it has one
+-- holds if `new` is the links so far, and the link of a piece, if it has one
 abbrev pub AddsLink : List Lexeme → List WrittenLink → List WrittenLink → Type 0
 AddsLink piece links new = with_part written_link piece links ≡ Some new
 
@@ -33,7 +33,7 @@ given f parts = every f (filter is_some_part parts)
 abbrev pub prepended : {Y : Type 0} → List Y → Option (List Y) → Option (List Y)
 prepended ys others = option_map (λ more. ys ++ more) others
 
--- the text is the links so far, each with its comma, and then the rest
+-- holds if the text is the links so far, each with its comma, and then the rest
 abbrev pub IsSoFar : List ℕ → List ℕ → List WrittenLink → Type 0
 IsSoFar text rest links =
     (lexemes : List Lexeme) × Chain lexemes text rest

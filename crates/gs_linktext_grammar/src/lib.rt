@@ -1,8 +1,8 @@
 //! The grammar of linksets as text (RFC 9264, section 4.1; RFC 8288, section 3): lexemes, and the links that are written with
 //! them. gs_linktext reads and writes linksets with it.
 //!
-//! - `read_links` returns the links of a text as written, with their parameters in order; `one_lexing` is the law that a text has
-//!   one list of lexemes.
+//! - `read_links` returns the links of a text as written, with their parameters in order. `one_lexing` is the law that a text
+//!   has one list of lexemes.
 //!
 //! # Example
 //!

@@ -18,7 +18,8 @@ taken_bits n bits are room =
 pub taken_small : (n number : ℕ) (bits : List ℕ) → AreBits bits → n ≤ length bits → number ≡ number_of (take n bits) → number < 2 ^ n
 taken_small n number bits are room is = rw is (taken_bits n bits are room).0
 
-pub taken_joined : (n number : ℕ) (bits behind : List ℕ) → AreBits bits → n ≤ length bits → number ≡ number_of (take n bits) → behind ≡ drop n bits → bits ≡ bits_of n number ++ behind
+pub taken_joined : (n number : ℕ) (bits behind : List ℕ) → AreBits bits → n ≤ length bits → number ≡ number_of (take n bits)
+    → behind ≡ drop n bits → bits ≡ bits_of n number ++ behind
 taken_joined n number bits behind are room is left =
     rw (is, left) (sym (take-append-drop n bits) ∙ ap (λ w. w ++ drop n bits) (taken_bits n bits are room).1)
 
@@ -55,16 +56,19 @@ pub record FieldsTaken (words user extended toggle attributes : ℕ) (b0 b1 b2 b
   pub toggle_is : b3 ≡ bits_of 1 toggle ++ b4
   pub attributes_are : b4 ≡ bits_of 8 attributes ++ b5
 
-taken_whole : (words user extended toggle attributes : ℕ) (b0 b1 b2 b3 b4 b5 : List ℕ) → user < 2 → extended < 2 → toggle < 2 → FieldsTaken words user extended toggle attributes b0 b1 b2 b3 b4 b5
+taken_whole : (words user extended toggle attributes : ℕ) (b0 b1 b2 b3 b4 b5 : List ℕ) → user < 2 → extended < 2 → toggle < 2
+    → FieldsTaken words user extended toggle attributes b0 b1 b2 b3 b4 b5
     → b0 ≡ control_bits (word_with words user extended toggle attributes) ++ b5
 taken_whole words user extended toggle attributes b0 b1 b2 b3 b4 b5 u e t taken =
     let last : b4 ≡ bits_of 8 attributes ++ b5 = taken.attributes_are in
     let fourth : b3 ≡ bit_of (toggle == 1) ∷ (bits_of 8 attributes ++ b5) = taken.toggle_is ∙ rw (one_bit toggle t, last) refl in
     let third : b2 ≡ bit_of (extended == 1) ∷ bit_of (toggle == 1) ∷ (bits_of 8 attributes ++ b5) = taken.extended_is ∙ rw (one_bit extended e, fourth) refl in
     let second : b1 ≡ bit_of (user == 1) ∷ bit_of (extended == 1) ∷ bit_of (toggle == 1) ∷ (bits_of 8 attributes ++ b5) = taken.user_is ∙ rw (one_bit user u, third) refl in
-    taken.words_are ∙ ap (λ w. bits_of 5 words ++ w) second ∙ sym (append_assoc (bits_of 5 words) (bit_of (user == 1) ∷ bit_of (extended == 1) ∷ bit_of (toggle == 1) ∷ bits_of 8 attributes) b5)
+    taken.words_are ∙ ap (λ w. bits_of 5 words ++ w) second ∙ sym
+    (append_assoc (bits_of 5 words) (bit_of (user == 1) ∷ bit_of (extended == 1) ∷ bit_of (toggle == 1) ∷ bits_of 8 attributes) b5)
 
-pub word_taken : (words user extended toggle attributes : ℕ) (b0 b1 b2 b3 b4 b5 : List ℕ) → words < 2 ^ 5 → user < 2 ^ 1 → extended < 2 ^ 1 → toggle < 2 ^ 1 → attributes < 2 ^ 8 → FieldsTaken words user extended toggle attributes b0 b1 b2 b3 b4 b5
+pub word_taken : (words user extended toggle attributes : ℕ) (b0 b1 b2 b3 b4 b5 : List ℕ) → words < 2 ^ 5 → user < 2 ^ 1 → extended < 2 ^ 1
+    → toggle < 2 ^ 1 → attributes < 2 ^ 8 → FieldsTaken words user extended toggle attributes b0 b1 b2 b3 b4 b5
     → BeginsWith b0 (word_with words user extended toggle attributes) b5
 word_taken words user extended toggle attributes b0 b1 b2 b3 b4 b5 w u e t a taken = record {
   words = omega arith;
@@ -97,7 +101,9 @@ pushed_length n number old new pushed =
     let count = length-bits_of n number in
     ap length pushed ∙ omega arith
 
-pub word_pushed : (word : ControlWord) (b0 b1 b2 b3 b4 b5 : List ℕ) → b0 ≡ [] → b1 ≡ b0 ++ bits_of 5 word.words → b2 ≡ b1 ++ bit_of word.user ∷ [] → b3 ≡ b2 ++ bit_of word.extended ∷ [] → b4 ≡ b3 ++ bit_of word.toggle ∷ [] → b5 ≡ b4 ++ bits_of 8 word.attributes
+pub word_pushed : (word : ControlWord) (b0 b1 b2 b3 b4 b5 : List ℕ) → b0 ≡ [] → b1 ≡ b0 ++ bits_of 5 word.words
+    → b2 ≡ b1 ++ bit_of word.user ∷ [] → b3 ≡ b2 ++ bit_of word.extended ∷ [] → b4 ≡ b3 ++ bit_of word.toggle ∷ []
+    → b5 ≡ b4 ++ bits_of 8 word.attributes
     → b5 ≡ control_bits word
 word_pushed word b0 b1 b2 b3 b4 b5 none p1 p2 p3 p4 p5 =
     let first : b1 ≡ bits_of 5 word.words = rw (p1, none) refl in

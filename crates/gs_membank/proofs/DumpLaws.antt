@@ -42,12 +42,15 @@ equal_words a b c d u v e f t s p q r x y = rw (p, q, r, x, y) refl
 abbrev flags_of : ControlWord → List ℕ
 flags_of word = bit_of word.user ∷ bit_of word.extended ∷ bit_of word.toggle ∷ bits_of 8 word.attributes
 
-same_word : (one other : ControlWord) → one.words < 32 → other.words < 32 → one.attributes < 256 → other.attributes < 256 → control_bits one ≡ control_bits other → one ≡ other
+same_word : (one other : ControlWord) → one.words < 32 → other.words < 32 → one.attributes < 256 → other.attributes < 256
+    → control_bits one ≡ control_bits other → one ≡ other
 same_word one other w v a b same =
     let front : bits_of 5 one.words ≡ bits_of 5 other.words =
-    sym (take_at (bits_of 5 one.words) (flags_of one) 5 (length-bits_of 5 one.words)) ∙ ap (take 5) same ∙ take_at (bits_of 5 other.words) (flags_of other) 5 (length-bits_of 5 other.words) in
+    sym (take_at (bits_of 5 one.words) (flags_of one) 5 (length-bits_of 5 one.words)) ∙ ap (take 5) same ∙ take_at (bits_of 5 other.words)
+    (flags_of other) 5 (length-bits_of 5 other.words) in
     let back : flags_of one ≡ flags_of other =
-    sym (drop_at (bits_of 5 one.words) (flags_of one) 5 (length-bits_of 5 one.words)) ∙ ap (drop 5) same ∙ drop_at (bits_of 5 other.words) (flags_of other) 5 (length-bits_of 5 other.words) in
+    sym (drop_at (bits_of 5 one.words) (flags_of one) 5 (length-bits_of 5 one.words)) ∙ ap (drop 5) same ∙ drop_at (bits_of 5 other.words)
+    (flags_of other) 5 (length-bits_of 5 other.words) in
     let user : bit_of one.user ≡ bit_of other.user = cc in
     let extended : bit_of one.extended ≡ bit_of other.extended = cc in
     let toggle : bit_of one.toggle ≡ bit_of other.toggle = cc in
@@ -64,7 +67,8 @@ one_word bits behind rest one other first second =
 
 -- ---- symbols say one EPC
 
-pub one_epc : (set : TableRows) (level : LevelName) (symbols : List ℕ) (one other : Epc) → Says set level symbols one → Says set level symbols other → one ≡ other
+pub one_epc : (set : TableRows) (level : LevelName) (symbols : List ℕ) (one other : Epc) → Says set level symbols one
+    → Says set level symbols other → one ≡ other
 one_epc set level symbols one other a b =
     let read = one_reading (options_of level set) symbols a.option b.option a.values b.values a.read b.read in
     let info = same_at (level_rows level set).info a.option b.option a.info b.info a.said b.said read.0 in
@@ -82,7 +86,8 @@ pub one_bank : (set : TableRows) (bits : List ℕ) (one other : Dump) → IsBank
 one_bank set bits one other a b =
     let same = one_word bits a.encoding b.encoding (word_of a.words one) (word_of b.words other) a.begins b.begins in
     let says : Says set Binary b.encoding one.epc = rw same.1 at a.says in
-    equal_dumps one.user other.user one.attributes other.attributes one.epc other.epc (ap (λ (w : ControlWord). w.user) same.0) (ap (λ (w : ControlWord). w.attributes) same.0) (one_epc set Binary b.encoding one.epc other.epc says b.says)
+    equal_dumps one.user other.user one.attributes other.attributes one.epc other.epc (ap (λ (w : ControlWord). w.user) same.0)
+    (ap (λ (w : ControlWord). w.attributes) same.0) (one_epc set Binary b.encoding one.epc other.epc says b.says)
 
 -- ---- rejected bits are not a dump
 
@@ -109,7 +114,8 @@ bank_rejected set bits NoReading dump bad bank =
     bad.reason.2 derived
 bank_rejected set bits Memory dump bad bank = bad.reason
 
-pub no_dump : (set : TableRows) (text : List ℕ) (error : DumpFault) (dump : Dump) → ReadsDump set text (Err error) → (error ≡ Memory → ⊥) → IsHex text → IsBank set (bits_of_hex text) dump → ⊥
+pub no_dump : (set : TableRows) (text : List ℕ) (error : DumpFault) (dump : Dump) → ReadsDump set text (Err error) → (error ≡ Memory → ⊥)
+    → IsHex text → IsBank set (bits_of_hex text) dump → ⊥
 no_dump set text (Hex e) dump bad some hex bank = never_both text e bad hex
 no_dump set text NoWord dump bad some hex bank =
     let whole = behind_length (bits_of_hex text) bank.encoding (word_of bank.words dump) bank.begins in

@@ -14,7 +14,8 @@ hex_length (c ∷ text) =
 
 pub hex_joined : (first second : List ℕ) → bits_of_hex (first ++ second) ≡ bits_of_hex first ++ bits_of_hex second
 hex_joined [] second = refl
-hex_joined (c ∷ first) second = ap (λ w. bits_of_digit c ++ w) (hex_joined first second) ∙ sym (append_assoc (bits_of_digit c) (bits_of_hex first) (bits_of_hex second))
+hex_joined (c ∷ first) second = ap (λ w. bits_of_digit c ++ w) (hex_joined first second) ∙ sym
+    (append_assoc (bits_of_digit c) (bits_of_hex first) (bits_of_hex second))
 
 -- the bits after four digits
 pub hex_behind : (text : List ℕ) → 4 ≤ length text → bits_of_hex (drop 4 text) ≡ drop 16 (bits_of_hex text)

@@ -31,7 +31,8 @@ whole_words set items info kept =
     rw kept.items_are (sixteenth (size_of_all (alone kept.parts)) (and_second (not (is_empty info.encoding) && is_one is_filter (items_of_field Filter kept.parts)) (size_of_all (alone kept.parts) % 16 == 0) kept.of_level))
 
 -- the digits are a fourth of the bits of the items
-pub digits_count : (set : TableRows) (epc : Epc) (text : List ℕ) → IsShaped set → (writes : Writes set Binary epc text) → 4 * length text ≡ size_of_all writes.candidate.items
+pub digits_count : (set : TableRows) (epc : Epc) (text : List ℕ) → IsShaped set → (writes : Writes set Binary epc text)
+    → 4 * length text ≡ size_of_all writes.candidate.items
 digits_count set epc text shaped writes =
     let kept = candidate_kept set Binary epc writes.option writes.candidate shaped in
     let items = writes.candidate.items in

@@ -4,7 +4,7 @@ use Rattle.std.specs.Prelude.{IfSome}
 use Rattle.std.specs.List.{list_any}
 use Rattle.std.proofs.lemmas.Fmt.{decimal_digit}
 use Rattle.gs_ai.specs.Tables.{is_empty}
-use Rattle.gs_chars.proofs.TruthsAndLists.{and_parts, or_parts, true_or_false}
+use Rattle.gs_chars.proofs.TruthsAndLists.{true_or_false}
 use Rattle.gs_grammar.specs.declared.item.Item.{Item}
 use Rattle.gs_grammar.specs.Derivations.{EachWord}
 use Rattle.gs_grammar.specs.Words.{decimal_value}
@@ -30,6 +30,7 @@ use Rattle.gs_epc.proofs.FieldRules.{filter_kept}
 use Rattle.gs_membank.proofs.FilterLemmas.{one_in_bits}
 use Rattle.gs_membank.proofs.FullWords.{empty_value, word_at}
 use Rattle.gs_tables.proofs.FoundItems.{field_itself as own_field}
+use Rattle.std.proofs.lemmas.Bool.{and_parts, or_parts}
 
 -- ---- a field has one item at most
 
@@ -77,7 +78,8 @@ one_further (Characters most) pieces totals h =
 
 -- ---- the value of a field is that of its one item
 
-one_there : (field : Field) (parts : List FieldItem) (k : ℕ) (item : Item) → slice_get parts k ≡ Some (Some field, item) → 1 ≤ length (items_of_field field parts)
+one_there : (field : Field) (parts : List FieldItem) (k : ℕ) (item : Item) → slice_get parts k ≡ Some (Some field, item)
+    → 1 ≤ length (items_of_field field parts)
 one_there field [] k item at = absurd (let e : None ≡ Some (Some field, item) = at in cc)
 one_there field (part ∷ parts) zero item at =
     let same : part ≡ (Some field, item) = cc in
@@ -88,7 +90,9 @@ one_there field (part ∷ parts) (suc k) item at = elim (true_or_false (is_field
   | inr e ↦ rw e (one_there field parts k item at)
 ]
 
-first_there : (field : Field) (parts : List FieldItem) (values : List (List ℕ)) (k : ℕ) (item : Item) (value : List ℕ) → length (items_of_field field parts) ≤ 1 → slice_get parts k ≡ Some (Some field, item) → slice_get values k ≡ Some value → value_at field (fields_of parts) values ≡ Some value
+first_there : (field : Field) (parts : List FieldItem) (values : List (List ℕ)) (k : ℕ) (item : Item) (value : List ℕ)
+    → length (items_of_field field parts) ≤ 1 → slice_get parts k ≡ Some (Some field, item) → slice_get values k ≡ Some value
+    → value_at field (fields_of parts) values ≡ Some value
 first_there field [] values k item value one at read = absurd (let e : None ≡ Some (Some field, item) = at in cc)
 first_there field (part ∷ parts) [] k item value one at read = absurd (let e : None ≡ Some value = read in cc)
 first_there field (part ∷ parts) (given ∷ values) zero item value one at read =
@@ -106,7 +110,9 @@ first_there field (part ∷ parts) (given ∷ values) (suc k) item value one at 
 
 -- ---- lists that are equal place by place
 
-mapped_values : (v : Option Field → List ℕ) (fields : List (Option Field)) (values : List (List ℕ)) → length fields ≡ length values → ((k : ℕ) (field : Option Field) (value : List ℕ) → slice_get fields k ≡ Some field → slice_get values k ≡ Some value → value ≡ v field) → map v fields ≡ values
+mapped_values : (v : Option Field → List ℕ) (fields : List (Option Field)) (values : List (List ℕ)) → length fields ≡ length values
+    → ((k : ℕ) (field : Option Field) (value : List ℕ) → slice_get fields k ≡ Some field → slice_get values k ≡ Some value → value ≡ v field)
+    → map v fields ≡ values
 mapped_values v [] [] count each = refl
 mapped_values v [] (value ∷ values) count each = absurd (omega arith)
 mapped_values v (field ∷ fields) [] count each = absurd (omega arith)
@@ -117,7 +123,8 @@ mapped_values v (field ∷ fields) (value ∷ values) count each =
 -- ---- the values of an option's items are those of the fields that they give
 
 -- the item of a field
-item_at : (parts : List FieldItem) (k : ℕ) (field : Option Field) → slice_get (fields_of parts) k ≡ Some field → (item : Item) × (slice_get parts k ≡ Some (field, item))
+item_at : (parts : List FieldItem) (k : ℕ) (field : Option Field) → slice_get (fields_of parts) k ≡ Some field
+    → (item : Item) × (slice_get parts k ≡ Some (field, item))
 item_at [] k field at = absurd (let e : None ≡ Some field = at in cc)
 item_at ((name, item) ∷ parts) zero field at = let same : name ≡ field = cc in (item, rw same refl)
 item_at (part ∷ parts) (suc k) field at = item_at parts k field at
@@ -135,8 +142,10 @@ digit_again value filter =
     let number : decimal_value value ≡ filter.number = ap decimal_value text ∙ value_decimal filter.number (omega arith) in
     ap decimal number ∙ sym text
 
-module _ (set : TableRows) (items : List Item) (info : OptInfo) (values words : List (List ℕ)) (kept : KeptOption set Binary items info) (each : EachWord items values words) where
-  field_value : (field : Field) (k : ℕ) (value : List ℕ) → length (items_of_field field kept.parts) ≤ 1 → slice_get info.fields k ≡ Some (Some field) → slice_get values k ≡ Some value → value_at field info.fields values ≡ Some value
+module _ (set : TableRows) (items : List Item) (info : OptInfo) (values words : List (List ℕ)) (kept : KeptOption set Binary items info)
+    (each : EachWord items values words) where
+  field_value : (field : Field) (k : ℕ) (value : List ℕ) → length (items_of_field field kept.parts) ≤ 1
+      → slice_get info.fields k ≡ Some (Some field) → slice_get values k ≡ Some value → value_at field info.fields values ≡ Some value
   field_value field k value one at read =
       let part = item_at kept.parts k (Some field) (rw kept.fields_are at at) in
       rw kept.fields_are (first_there field kept.parts values k part.0 value one part.1 read)
@@ -144,7 +153,8 @@ module _ (set : TableRows) (items : List Item) (info : OptInfo) (values words : 
   filter_value : (given : Option (List ℕ)) (value : List ℕ) → given ≡ Some value → IfSome given IsFilter → IsFilter value
   filter_value given value is filter = rw is at filter
 
-  value_again : (k : ℕ) (field : Option Field) (value : List ℕ) → slice_get info.fields k ≡ Some field → slice_get values k ≡ Some value → value ≡ value_for Binary (epc_of info values) field
+  value_again : (k : ℕ) (field : Option Field) (value : List ℕ) → slice_get info.fields k ≡ Some field → slice_get values k ≡ Some value
+      → value ≡ value_for Binary (epc_of info values) field
   value_again k None value at read =
       let part = item_at kept.parts k None (rw kept.fields_are at at) in
       let item : slice_get items k ≡ Some part.0 = rw kept.items_are (alone_at kept.parts k (None, part.0) part.1) in
@@ -175,7 +185,8 @@ module _ (set : TableRows) (items : List Item) (info : OptInfo) (values words : 
 
 -- ---- nothing is left out of the fields of values
 
-none_stands : (field : Field) (fields : List (Option Field)) (values : List (List ℕ)) → list_any (is_field field) fields ≡ false → value_of field fields values ≡ []
+none_stands : (field : Field) (fields : List (Option Field)) (values : List (List ℕ)) → list_any (is_field field) fields ≡ false
+    → value_of field fields values ≡ []
 none_stands field [] values h = refl
 none_stands field (name ∷ fields) [] h = refl
 none_stands field (name ∷ fields) (value ∷ values) h =

@@ -3,7 +3,7 @@ use Rattle.std.proofs.Common.{◌≡◌, ◌<◌, ◌≤◌, ◌==◌, ◌&&◌,
 use Rattle.std.specs.Prelude.{IfSome}
 use Rattle.std.proofs.lemmas.Fmt.{decimal_digit}
 use Rattle.gs_ai.specs.Tables.{is_empty}
-use Rattle.gs_chars.proofs.TruthsAndLists.{and_first, and_second, equal_bytes, false_from_not}
+use Rattle.gs_chars.proofs.TruthsAndLists.{and_first, and_second, equal_bytes}
 use Rattle.gs_grammar.specs.declared.item.Item.{Item}
 use Rattle.gs_grammar.specs.Derivations.{EachWord, one_item}
 use Rattle.gs_grammar.specs.Items.{size_of_all}
@@ -25,10 +25,12 @@ use Rattle.gs_epc.specs.Filters.{IsFilter}
 use Rattle.gs_epc.specs.Readings.{Says}
 use Rattle.gs_epc.specs.Writes.{same_fields}
 use Rattle.gs_epc.proofs.FieldRules.{filter_kept}
+use Rattle.std.proofs.lemmas.Bool.{not-true}
 
 -- ---- the value of the one item that stands for the filter
 
-there : (parts : List FieldItem) (values words : List (List ℕ)) → EachWord (alone parts) values words → is_one is_filter (items_of_field Filter parts) ≡ true → (value : List ℕ) × (value_at Filter (fields_of parts) values ≡ Some value)
+there : (parts : List FieldItem) (values words : List (List ℕ)) → EachWord (alone parts) values words
+    → is_one is_filter (items_of_field Filter parts) ≡ true → (value : List ℕ) × (value_at Filter (fields_of parts) values ≡ Some value)
 there [] values words each one = absurd (let e : false ≡ true = one in cc)
 there ((None, item) ∷ parts) values words (one_item _ value w _ values' words' word each) one = there parts values' words' each one
 there ((Some Filter, item) ∷ parts) values words (one_item _ value w _ values' words' word each) one = (value, refl)
@@ -38,7 +40,8 @@ there ((Some Piece, item) ∷ parts) values words (one_item _ value w _ values' 
 there ((Some Total, item) ∷ parts) values words (one_item _ value w _ values' words' word each) one = there parts values' words' each one
 there ((Some Serial, item) ∷ parts) values words (one_item _ value w _ values' words' word each) one = there parts values' words' each one
 
-nothing_there : (parts : List FieldItem) (values : List (List ℕ)) → is_empty (items_of_field Filter parts) ≡ true → value_at Filter (fields_of parts) values ≡ None
+nothing_there : (parts : List FieldItem) (values : List (List ℕ)) → is_empty (items_of_field Filter parts) ≡ true
+    → value_at Filter (fields_of parts) values ≡ None
 nothing_there [] values h = refl
 nothing_there (part ∷ parts) [] h = refl
 nothing_there ((None, item) ∷ parts) (value ∷ values) h = nothing_there parts values h
@@ -59,7 +62,8 @@ has_of given value is filter =
 
 -- ---- an option of tags has one such item
 
-pub one_in_bits : (encoding : List ℕ) (parts : List FieldItem) → keeps_level Binary encoding parts ≡ true → is_one is_filter (items_of_field Filter parts) ≡ true
+pub one_in_bits : (encoding : List ℕ) (parts : List FieldItem) → keeps_level Binary encoding parts ≡ true
+    → is_one is_filter (items_of_field Filter parts) ≡ true
 unfolding keeps_level
 one_in_bits encoding parts h =
     let front = and_first (not (is_empty encoding) && is_one is_filter (items_of_field Filter parts)) (size_of_all (alone parts) % 16 == 0) h in
@@ -69,7 +73,8 @@ pub one_in_tags : (encoding : List ℕ) (parts : List FieldItem) → keeps_level
 unfolding keeps_level
 one_in_tags encoding parts h = and_second (not (is_empty encoding)) (is_one is_filter (items_of_field Filter parts)) h
 
-kept_filter : (set : TableRows) (level : LevelName) (items : List Item) (info : OptInfo) (values words : List (List ℕ)) → (kept : KeptOption set level items info) → EachWord items values words → is_one is_filter (items_of_field Filter kept.parts) ≡ true
+kept_filter : (set : TableRows) (level : LevelName) (items : List Item) (info : OptInfo) (values words : List (List ℕ))
+    → (kept : KeptOption set level items info) → EachWord items values words → is_one is_filter (items_of_field Filter kept.parts) ≡ true
     → HasFilter (filter_of info.fields values)
 kept_filter set level items info values words kept held one =
     let each : EachWord (alone kept.parts) values words = rw kept.items_are at held in
@@ -79,7 +84,8 @@ kept_filter set level items info values words kept held one =
 
 -- ---- an EPC that is read from a tag
 
-pub filter_said : (set : TableRows) (level : LevelName) (symbols : List ℕ) (epc : Epc) → IsShaped set → ((encoding : List ℕ) (parts : List FieldItem) → keeps_level level encoding parts ≡ true → is_one is_filter (items_of_field Filter parts) ≡ true)
+pub filter_said : (set : TableRows) (level : LevelName) (symbols : List ℕ) (epc : Epc) → IsShaped set
+    → ((encoding : List ℕ) (parts : List FieldItem) → keeps_level level encoding parts ≡ true → is_one is_filter (items_of_field Filter parts) ≡ true)
     → Says set level symbols epc → HasFilter epc.filter
 filter_said set level symbols epc shaped one says =
     let d = says.read.derivation in
@@ -91,12 +97,13 @@ filter_said set level symbols epc shaped one says =
 
 -- ---- an EPC with a filter value names its encoding
 
-named : (level : LevelName) (encoding : List ℕ) (parts : List FieldItem) (values : List (List ℕ)) → keeps_level level encoding parts ≡ true → HasFilter (filter_of (fields_of parts) values) → is_empty encoding ≡ false
+named : (level : LevelName) (encoding : List ℕ) (parts : List FieldItem) (values : List (List ℕ)) → keeps_level level encoding parts ≡ true
+    → HasFilter (filter_of (fields_of parts) values) → is_empty encoding ≡ false
 unfolding keeps_level
 named Binary encoding parts values h has =
     let front = and_first (not (is_empty encoding) && is_one is_filter (items_of_field Filter parts)) (size_of_all (alone parts) % 16 == 0) h in
-    false_from_not (is_empty encoding) (and_first (not (is_empty encoding)) (is_one is_filter (items_of_field Filter parts)) front)
-named Tag encoding parts values h has = false_from_not (is_empty encoding) (and_first (not (is_empty encoding)) (is_one is_filter (items_of_field Filter parts)) h)
+    not-true (is_empty encoding) (and_first (not (is_empty encoding)) (is_one is_filter (items_of_field Filter parts)) front)
+named Tag encoding parts values h has = not-true (is_empty encoding) (and_first (not (is_empty encoding)) (is_one is_filter (items_of_field Filter parts)) h)
 named Pure encoding parts values h has =
     let none = nothing_there parts values (and_second (is_empty encoding) (is_empty (items_of_field Filter parts)) h) in
     absurd (rw none at has)

@@ -24,7 +24,8 @@ fill_zeros a b w is size =
     let same : a ≡ b = omega arith in
     is ∙ ap (λ n. replicate {A = ℕ} n 0) same
 
-packed_word : (bits padding : ℕ) (value w : List ℕ) → w ≡ flat_map (bits_of 7) value ++ replicate padding 0 → length w ≡ bits → w ≡ flat_map (bits_of 7) value ++ replicate (bits - 7 * length value) 0
+packed_word : (bits padding : ℕ) (value w : List ℕ) → w ≡ flat_map (bits_of 7) value ++ replicate padding 0 → length w ≡ bits
+    → w ≡ flat_map (bits_of 7) value ++ replicate (bits - 7 * length value) 0
 packed_word bits padding value w is size =
     let parts = ap length is ∙ length-append (flat_map (bits_of 7) value) (replicate {A = ℕ} padding 0) in
     let codes = packed_length value in
@@ -66,7 +67,8 @@ most_symbols _ _ _ all (one_item item value w items values words word each) =
     let joined = length-append w (concat words) in
     omega arith
 
-pub full_words : (items : List Item) (values words : List (List ℕ)) → All InBounds items → EachWord items values words → size_of_all items ≤ length (concat words) → concat words ≡ written items values
+pub full_words : (items : List Item) (values words : List (List ℕ)) → All InBounds items → EachWord items values words
+    → size_of_all items ≤ length (concat words) → concat words ≡ written items values
 full_words _ _ _ all no_item size = refl
 full_words _ _ _ all (one_item item value w items values words word each) size =
     let bounds = All-head InBounds item items all in
@@ -78,7 +80,8 @@ full_words _ _ _ all (one_item item value w items values words word each) size =
 
 -- ---- the word at a place
 
-pub word_at : (items : List Item) (values words : List (List ℕ)) → EachWord items values words → (k : ℕ) (item : Item) (value : List ℕ) → slice_get items k ≡ Some item → slice_get values k ≡ Some value → (w : List ℕ) × Word item value w
+pub word_at : (items : List Item) (values words : List (List ℕ)) → EachWord items values words → (k : ℕ) (item : Item) (value : List ℕ)
+    → slice_get items k ≡ Some item → slice_get values k ≡ Some value → (w : List ℕ) × Word item value w
 word_at _ _ _ no_item k item value at read = absurd (let e : None ≡ Some item = at in cc)
 word_at _ _ _ (one_item first given w items values words word each) zero item value at read =
     let same : first ≡ item = cc in

@@ -22,7 +22,8 @@ use Rattle.gs_membank.proofs.DumpTexts.{hex_behind, hex_length}
 
 -- ---- a control word that is rejected
 
-pub word_rejected : (set : TableRows) (text behind : List ℕ) (word : ControlWord) (error : DumpFault) → IsHex text → BeginsWith (bits_of_hex text) word behind → IsWordError set word behind error → ReadsDump set text (Err error)
+pub word_rejected : (set : TableRows) (text behind : List ℕ) (word : ControlWord) (error : DumpFault) → IsHex text
+    → BeginsWith (bits_of_hex text) word behind → IsWordError set word behind error → ReadsDump set text (Err error)
 word_rejected set text behind word (Hex error) hex begins reason = absurd reason
 word_rejected set text behind word NoWord hex begins reason = absurd reason
 word_rejected set text behind word Extended hex begins reason = (hex, record { word = word; behind = behind; begins = begins; reason = reason })
@@ -61,7 +62,8 @@ never_both text Full full hex = let short = hex.short in let long = full.1 in ab
 never_both text (BadDigit place) bad hex = no_bad_digit text place bad hex
 
 -- the digits after the word are hexadecimal
-pub never_hex : (set : TableRows) (text rest : List ℕ) (word : ControlWord) (answer : EpcFault) (error : HexFault) → IsHeadOf text word → rest ≡ drop 4 text → answer ≡ HexOf error → ReadsHex set rest (Err answer) → ⊥
+pub never_hex : (set : TableRows) (text rest : List ℕ) (word : ControlWord) (answer : EpcFault) (error : HexFault) → IsHeadOf text word
+    → rest ≡ drop 4 text → answer ≡ HexOf error → ReadsHex set rest (Err answer) → ⊥
 never_hex set text rest word answer error head same is read =
     let reads : EpcFault → Type 0 = λ e. ReadsHex set rest (Err e) in
     let bad : IsHexFault rest error = subst reads is read in
@@ -70,14 +72,16 @@ never_hex set text rest word answer error head same is read =
 plain_same : (word : ControlWord) → IsPlain word → word ≡ record { words = word.words; user = word.user; extended = false; toggle = false; attributes = word.attributes }
 plain_same word plain = ap₂ (λ e t. record word { extended = e; toggle = t }) plain.extended plain.toggle
 
-pub bank_read : (set : TableRows) (text : List ℕ) (word : ControlWord) (epc : Epc) → IsHeadOf text word → ReadsHex set (drop 4 text) (Ok epc) → ReadsDump set text (Ok (record { user = word.user; attributes = word.attributes; epc = epc }))
+pub bank_read : (set : TableRows) (text : List ℕ) (word : ControlWord) (epc : Epc) → IsHeadOf text word → ReadsHex set (drop 4 text)
+    (Ok epc) → ReadsDump set text (Ok (record { user = word.user; attributes = word.attributes; epc = epc }))
 bank_read set text word epc head read =
     let says : Says set Binary head.behind epc = rw (behind_bits text word head) at read.1 in
     let begins_with : ControlWord → Type 0 = λ w. BeginsWith (bits_of_hex text) w head.behind in
     let begins = subst begins_with (plain_same word head.plain) head.begins in
     (head.hex, record { words = word.words; encoding = head.behind; begins = begins; size = head.whole; says = says })
 
-pub none_read : (set : TableRows) (text rest : List ℕ) (word : ControlWord) (answer : EpcFault) → IsHeadOf text word → rest ≡ drop 4 text → answer ≡ NoEpc → ReadsHex set rest (Err answer) → ReadsDump set text (Err NoReading)
+pub none_read : (set : TableRows) (text rest : List ℕ) (word : ControlWord) (answer : EpcFault) → IsHeadOf text word → rest ≡ drop 4 text
+    → answer ≡ NoEpc → ReadsHex set rest (Err answer) → ReadsDump set text (Err NoReading)
 none_read set text rest word answer head same is read =
     let reads : EpcFault → Type 0 = λ e. ReadsHex set rest (Err e) in
     let none : ReadsHex set rest (Err NoEpc) = subst reads is read in

@@ -37,7 +37,8 @@ SomeKnown {A = A} {E = E} memory Answer = (answer : Result A E) × (answer ≢ E
 clash : (b : Bool) → b ≡ true → b ≡ false → ⊥
 clash b p q = let e : true ≡ false = sym p ∙ q in cc
 
-same_word_error : (set : TableRows) (word : ControlWord) (behind : List ℕ) (error other : DumpFault) → IsWordError set word behind error → IsWordError set word behind other → error ≡ other
+same_word_error : (set : TableRows) (word : ControlWord) (behind : List ℕ) (error other : DumpFault) → IsWordError set word behind error
+    → IsWordError set word behind other → error ≡ other
 same_word_error set word behind reading.Extended reading.Extended a b = refl
 same_word_error set word behind reading.Extended reading.Toggle a b = absurd (clash word.extended a b.0)
 same_word_error set word behind reading.Extended (reading.Words said bits) a b = absurd (clash word.extended a b.0.extended)
@@ -107,7 +108,8 @@ same_case set text error other (no_bank hex bad) (no_hex f e a) = absurd (never_
 same_case set text error other (no_bank hex bad) (no_word e hex' less) = absurd (short_bank set (bits_of_hex text) error less bad)
 same_case set text error other (no_bank hex bad) (no_bank hex' bad') = same_bank_error set (bits_of_hex text) error other bad bad'
 
-pub one_dump : (set : TableRows) (text : List ℕ) (one other : Result Dump DumpFault) → one ≢ Err reading.Memory → other ≢ Err reading.Memory → ReadsDump set text one → ReadsDump set text other → one ≡ other
+pub one_dump : (set : TableRows) (text : List ℕ) (one other : Result Dump DumpFault) → one ≢ Err reading.Memory → other ≢ Err reading.Memory
+    → ReadsDump set text one → ReadsDump set text other → one ≡ other
 one_dump set text (Ok dump) (Ok dump') t u a b = ap Ok (one_bank set (bits_of_hex text) dump dump' a.1 b.1)
 one_dump set text (Ok dump) (Err error) t u a b = absurd (no_dump set text error dump b (λ e. u (ap Err e)) a.0 a.1)
 one_dump set text (Err error) (Ok dump) t u a b = absurd (no_dump set text error dump a (λ e. t (ap Err e)) b.0 b.1)
@@ -149,7 +151,8 @@ word_there b0 are0 long =
       word_with w u e t a,
       b5,
       word_taken w u e t a b0 b1 b2 b3 b4 b5
-          (taken_small 5 w b0 are0 r0 refl) (taken_small 1 u b1 are1 r1 refl) (taken_small 1 e b2 are2 r2 refl) (taken_small 1 t b3 are3 r3 refl) (taken_small 8 a b4 are4 r4 refl)
+          (taken_small 5 w b0 are0 r0 refl) (taken_small 1 u b1 are1 r1 refl) (taken_small 1 e b2 are2 r2 refl)
+          (taken_small 1 t b3 are3 r3 refl) (taken_small 8 a b4 are4 r4 refl)
           (record {
             words_are = taken_joined 5 w b0 b1 are0 r0 refl refl;
             user_is = taken_joined 1 u b1 b2 are1 r1 refl refl;
@@ -166,7 +169,8 @@ dump_enough : (dump : Dump) → Ok dump ≡ Err reading.Memory → ⊥
 dump_enough dump e = cc
 
 module _ (set : TableRows) (text : List ℕ) (whole : SomeKnown epc.Memory (ReadsHex set text)) (behind : SomeKnown epc.Memory (ReadsHex set (drop 4 text))) where
-  behind_read : (word : ControlWord) → IsHeadOf text word → (said : Result Epc EpcFault) → said ≢ Err epc.Memory → ReadsHex set (drop 4 text) said → SomeDump set text
+  behind_read : (word : ControlWord) → IsHeadOf text word → (said : Result Epc EpcFault) → said ≢ Err epc.Memory
+      → ReadsHex set (drop 4 text) said → SomeDump set text
   behind_read word head (Ok e) t r = (Ok (record { user = word.user; attributes = word.attributes; epc = e }), dump_enough _, bank_read set text word e head r)
   behind_read word head (Err epc.NoReading) t r = (Err reading.NoReading, (λ e. cc), none_read set text (drop 4 text) word epc.NoReading head refl refl r)
   behind_read word head (Err (epc.Hex fault)) t r = absurd (never_hex set text (drop 4 text) word (epc.Hex fault) fault head refl refl r)
@@ -181,7 +185,8 @@ module _ (set : TableRows) (text : List ℕ) (whole : SomeKnown epc.Memory (Read
     | inr other ↦ (Err (reading.Words word.words (length bits)), (λ e. cc), word_rejected set text bits word (reading.Words word.words (length bits)) hex begins (plain, refl, refl, other))
   ]
 
-  with_flags : (word : ControlWord) (bits : List ℕ) (extended toggle : Bool) → word.extended ≡ extended → word.toggle ≡ toggle → IsHex text → BeginsWith (bits_of_hex text) word bits → SomeDump set text
+  with_flags : (word : ControlWord) (bits : List ℕ) (extended toggle : Bool) → word.extended ≡ extended → word.toggle ≡ toggle → IsHex text
+      → BeginsWith (bits_of_hex text) word bits → SomeDump set text
   with_flags word bits true toggle p q hex begins = (Err reading.Extended, (λ e. cc), word_rejected set text bits word reading.Extended hex begins p)
   with_flags word bits false true p q hex begins = (Err reading.Toggle, (λ e. cc), word_rejected set text bits word reading.Toggle hex begins (p, q))
   with_flags word bits false false p q hex begins = with_plain word bits hex begins (record { extended = p; toggle = q })

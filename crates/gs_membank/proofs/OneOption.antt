@@ -4,11 +4,10 @@ use Rattle.std.specs.Prelude.{option_to_list}
 use Rattle.std.proofs.lemmas.Bool.Decides.{nat_tests}
 use Rattle.std.proofs.lemmas.Option.{slice_get-map}
 use Rattle.gs_chars.specs.Answers.{error_if}
-use Rattle.gs_chars.proofs.TruthsAndLists.{and_true, equal_bytes, get_take, mapped_some, nil_parts, none_behind, same_at, same_bytes}
+use Rattle.gs_chars.proofs.TruthsAndLists.{equal_bytes, get_take, mapped_some, nil_parts, none_behind, same_at, same_bytes}
 use Rattle.gs_ai.specs.declared.row.AiRow.{AiRow}
 use Rattle.gs_ai.specs.Tables.{table_errors}
 use Rattle.gs_ai.proofs.RuleLemmas.{none_at}
-use Rattle.gs_ai.proofs.Searches.{passes_none, position_some}
 use Rattle.gs_grammar.specs.Items.{size_of_all}
 use Rattle.gs_grammar.specs.Limits.{most_symbols}
 use Rattle.gs_tables_document.specs.declared.document.Document.{Document}
@@ -24,6 +23,8 @@ use Rattle.gs_tables.specs.Tables.{IsShaped, TableRows, fits, info_of, is_bad_it
 use Rattle.gs_tables.specs.TablesSupport.{rule_rejections}
 use Rattle.gs_tables.proofs.KeptRows.{placed, row_at, none_listed}
 use Rattle.gs_tables.proofs.SetLemmas.{sound}
+use Rattle.gs_chars.proofs.Searches.{passes_none, position_some}
+use Rattle.std.proofs.lemmas.Bool.{and_from}
 
 no_rejections : (document : Document) → row_rejections document ≡ [] → level_rejections document.ais document.kinds Binary document.binary ≡ []
 unfolding row_rejections
@@ -31,7 +32,8 @@ no_rejections document none =
     let rows = none_behind (limit_rejections document) (map Ai (table_errors document.ais) ++ rule_rejections document.ais document.kinds document.binary document.tag document.pure) none in
     (sound document.ais document.kinds document.binary document.tag document.pure (none_behind (map Ai (table_errors document.ais)) (rule_rejections document.ais document.kinds document.binary document.tag document.pure) rows)).binary_kept
 
-not_again : (ais : List AiRow) (kinds : List KindRow) (rows : List OptionRow) (j : ℕ) (row : OptionRow) → option_rejections ais kinds Binary rows (j, row) ≡ [] → position (λ other. is_same other row) (take j rows) ≡ None
+not_again : (ais : List AiRow) (kinds : List KindRow) (rows : List OptionRow) (j : ℕ) (row : OptionRow)
+    → option_rejections ais kinds Binary rows (j, row) ≡ [] → position (λ other. is_same other row) (take j rows) ≡ None
 unfolding option_rejections
 not_again ais kinds rows j row h =
     let bad = option_to_list (option_map (λ k. BadItem Binary j k) (position (is_bad_item (is_bits Binary)) row.items)) in
@@ -40,7 +42,9 @@ not_again ais kinds rows j row h =
     let again = option_to_list (option_map (λ i. Duplicate Binary i j) (position (λ other. is_same other row) (take j rows))) in
     none_listed (λ i. Duplicate Binary i j) (position (λ other. is_same other row) (take j rows)) (nil_parts (bad ++ long ++ misfit) again h).1
 
-differ : (ais : List AiRow) (kinds : List KindRow) (rows : List OptionRow) (i j : ℕ) (one other : OptionRow) → level_rejections ais kinds Binary rows ≡ [] → slice_get rows i ≡ Some one → slice_get rows j ≡ Some other → i < j → is_same one other ≡ false
+differ : (ais : List AiRow) (kinds : List KindRow) (rows : List OptionRow) (i j : ℕ) (one other : OptionRow)
+    → level_rejections ais kinds Binary rows ≡ [] → slice_get rows i ≡ Some one → slice_get rows j ≡ Some other → i < j
+    → is_same one other ≡ false
 unfolding level_rejections
 differ ais kinds rows i j one other none first second low =
     let zero_plus : 0 + j ≡ j = omega arith in
@@ -54,7 +58,8 @@ same_row one other kind encoding gcp =
     let number : (one.gcp == other.gcp) ≡ true = grind (arith, nat_tests) in
     let kinds : bytes_eq one.kind other.kind ≡ true = rw kind (same_bytes other.kind) in
     let encodings : bytes_eq one.encoding other.encoding ≡ true = rw encoding (same_bytes other.encoding) in
-    and_true (bytes_eq one.kind other.kind && bytes_eq one.encoding other.encoding) (one.gcp == other.gcp) (and_true (bytes_eq one.kind other.kind) (bytes_eq one.encoding other.encoding) kinds encodings) number
+    and_from (bytes_eq one.kind other.kind && bytes_eq one.encoding other.encoding) (one.gcp == other.gcp)
+    (and_from (bytes_eq one.kind other.kind) (bytes_eq one.encoding other.encoding) kinds encodings) number
 
 -- the kind of a row, by its place among the kinds
 record KindAt (kinds : List KindRow) (row : OptionRow) : Type 0 where
@@ -62,7 +67,8 @@ record KindAt (kinds : List KindRow) (row : OptionRow) : Type 0 where
   at : slice_get kinds (info_of kinds row).kind ≡ Some kind
   name : row.kind ≡ kind.name
 
-kind_placed : (ais : List AiRow) (kinds : List KindRow) (rows : List OptionRow) (i : ℕ) (row : OptionRow) → level_rejections ais kinds Binary rows ≡ [] → slice_get rows i ≡ Some row → KindAt kinds row
+kind_placed : (ais : List AiRow) (kinds : List KindRow) (rows : List OptionRow) (i : ℕ) (row : OptionRow)
+    → level_rejections ais kinds Binary rows ≡ [] → slice_get rows i ≡ Some row → KindAt kinds row
 kind_placed ais kinds rows i row none at =
     let kept = row_at ais kinds Binary rows i row none at in
     let place = placed (has_name row.kind) kinds kept.kind kept.named in
@@ -70,7 +76,9 @@ kind_placed ais kinds rows i row none at =
     let same : named.0 ≡ kept.kind = same_at kinds place.0 place.0 named.0 kept.kind named.1 place.2 refl in
     record { kind = kept.kind; at = rw place.1 place.2; name = equal_bytes row.kind kept.kind.name (rw same at named.2) }
 
-none_twice : (ais : List AiRow) (kinds : List KindRow) (rows : List OptionRow) (i j : ℕ) (one other : OptionRow) → level_rejections ais kinds Binary rows ≡ [] → slice_get rows i ≡ Some one → slice_get rows j ≡ Some other → i < j → (info_of kinds one).kind ≡ (info_of kinds other).kind → one.encoding ≡ other.encoding → one.gcp ≡ other.gcp → ⊥
+none_twice : (ais : List AiRow) (kinds : List KindRow) (rows : List OptionRow) (i j : ℕ) (one other : OptionRow)
+    → level_rejections ais kinds Binary rows ≡ [] → slice_get rows i ≡ Some one → slice_get rows j ≡ Some other → i < j
+    → (info_of kinds one).kind ≡ (info_of kinds other).kind → one.encoding ≡ other.encoding → one.gcp ≡ other.gcp → ⊥
 none_twice ais kinds rows i j one other none first second low kind encoding gcp =
     let a = kind_placed ais kinds rows i one none first in
     let b = kind_placed ais kinds rows j other none second in
@@ -81,7 +89,9 @@ none_twice ais kinds rows i j one other none first second low kind encoding gcp 
     cc
 
 -- two options of the binary level of a set do not say one kind, one encoding and one prefix length
-pub one_option : (set : TableRows) (i j : ℕ) (one other : OptInfo) → IsShaped set → slice_get (level_rows Binary set).info i ≡ Some one → slice_get (level_rows Binary set).info j ≡ Some other → i < j → one.kind ≡ other.kind → one.encoding ≡ other.encoding → one.gcp ≡ other.gcp → ⊥
+pub one_option : (set : TableRows) (i j : ℕ) (one other : OptInfo) → IsShaped set → slice_get (level_rows Binary set).info i ≡ Some one
+    → slice_get (level_rows Binary set).info j ≡ Some other → i < j → one.kind ≡ other.kind → one.encoding ≡ other.encoding
+    → one.gcp ≡ other.gcp → ⊥
 one_option set i j one other shaped first second low kind encoding gcp =
     let document = shaped.document in
     let none = no_rejections document shaped.in_order in

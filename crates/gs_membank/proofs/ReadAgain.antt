@@ -6,7 +6,7 @@ use Rattle.std.proofs.lemmas.Bool.Decides.{nat_tests}
 use Rattle.std.proofs.lemmas.List.Elements.{All-head, All-tail}
 use Rattle.gs_ai.specs.Tables.{is_empty}
 use Rattle.gs_chars.specs.Escapes.{hex_digit, hex_value}
-use Rattle.gs_chars.proofs.TruthsAndLists.{and_first, and_parts, and_true, equal_bytes, false_from_not, or_true, same_bytes}
+use Rattle.gs_chars.proofs.TruthsAndLists.{and_first, equal_bytes, or_true, same_bytes, same_number}
 use Rattle.gs_bits.specs.Bits.{AreBits, number_of}
 use Rattle.gs_bits.specs.HexText.{bits_of_hex, hex_of_bits, is_hex_digit}
 use Rattle.gs_grammar.specs.declared.item.Item.{Item}
@@ -37,6 +37,7 @@ use Rattle.gs_membank.proofs.FieldsAgain.{nothing_left_out, values_again}
 use Rattle.gs_membank.proofs.FullWords.{InBounds, full_words, words_held}
 use Rattle.gs_membank.proofs.OneOption.{one_option}
 use Rattle.gs_bits.proofs.HexBits.{hex_of_four}
+use Rattle.std.proofs.lemmas.Bool.{and_from, and_parts, not-true}
 
 -- ---- digits in upper case
 
@@ -69,15 +70,12 @@ encoding_named : (encoding : List ℕ) (parts : List FieldItem) → keeps_level 
 unfolding keeps_level
 encoding_named encoding parts h =
     let front = and_first (not (is_empty encoding) && is_one is_filter (items_of_field Filter parts)) (size_of_all (alone parts) % 16 == 0) h in
-    false_from_not (is_empty encoding) (and_first (not (is_empty encoding)) (is_one is_filter (items_of_field Filter parts)) front)
-
-same_number : (n : ℕ) → (n == n) ≡ true
-same_number n = grind (arith, nat_tests)
+    not-true (is_empty encoding) (and_first (not (is_empty encoding)) (is_one is_filter (items_of_field Filter parts)) front)
 
 passes_again : (info : OptInfo) (values : List (List ℕ)) → is_candidate Binary (epc_of info values) info ≡ true
 passes_again info values =
-    and_true ((info.kind == info.kind) && (info.gcp == info.gcp)) (is_empty info.encoding || bytes_eq info.encoding info.encoding)
-    (and_true (info.kind == info.kind) (info.gcp == info.gcp) (same_number info.kind) (same_number info.gcp))
+    and_from ((info.kind == info.kind) && (info.gcp == info.gcp)) (is_empty info.encoding || bytes_eq info.encoding info.encoding)
+    (and_from (info.kind == info.kind) (info.gcp == info.gcp) (same_number info.kind) (same_number info.gcp))
     (or_true (is_empty info.encoding) (bytes_eq info.encoding info.encoding) (same_bytes info.encoding))
 
 record IsSame (one other : OptInfo) : Type 0 where
@@ -85,7 +83,8 @@ record IsSame (one other : OptInfo) : Type 0 where
   encoding : one.encoding ≡ other.encoding
   gcp : one.gcp ≡ other.gcp
 
-same_option : (one other : OptInfo) (values : List (List ℕ)) → is_empty other.encoding ≡ false → is_candidate Binary (epc_of other values) one ≡ true → IsSame one other
+same_option : (one other : OptInfo) (values : List (List ℕ)) → is_empty other.encoding ≡ false
+    → is_candidate Binary (epc_of other values) one ≡ true → IsSame one other
 same_option one other values named passes =
     let parts = and_parts ((one.kind == other.kind) && (one.gcp == other.gcp)) (is_empty other.encoding || bytes_eq other.encoding one.encoding) passes in
     let numbers = and_parts (one.kind == other.kind) (one.gcp == other.gcp) parts.0 in
@@ -98,8 +97,10 @@ as_many_values : (items : List Item) (values words : List (List ℕ)) → EachWo
 as_many_values _ _ _ no_item = refl
 as_many_values _ _ _ (one_item item value w items values words word each) = let rest = as_many_values items values words each in omega arith
 
-writes_again : (set : TableRows) (option : ℕ) (items : List Item) (info : OptInfo) (values words : List (List ℕ)) → IsShaped set → slice_get (options_of Binary set) option ≡ Some items → slice_get (level_rows Binary set).info option ≡ Some info
-    → (kept : KeptOption set Binary items info) → EachWord items values words → All InBounds items → Writes set Binary (epc_of info values) (hex_of_bits (written items values))
+writes_again : (set : TableRows) (option : ℕ) (items : List Item) (info : OptInfo) (values words : List (List ℕ)) → IsShaped set
+    → slice_get (options_of Binary set) option ≡ Some items → slice_get (level_rows Binary set).info option ≡ Some info
+    → (kept : KeptOption set Binary items info) → EachWord items values words → All InBounds items → Writes set Binary (epc_of info values)
+    (hex_of_bits (written items values))
 writes_again set option items info values words shaped at said kept each all =
     let count = as_many set Binary items info kept ∙ as_many_values items values words each in
     let same = values_again set items info values words kept each count in
@@ -114,7 +115,8 @@ writes_again set option items info values words shaped at said kept each all =
       text_is = ap (λ v. hex_of_bits (written items v)) (sym same);
     }
 
-pub read_again : (set : TableRows) (text : List ℕ) (dump : Dump) → IsLoaded set → IsHex text → (bank : IsBank set (bits_of_hex text) dump) → size_of_all bank.says.read.derivation.items ≡ 16 * bank.words → WrittenDump set dump (map to_ascii_uppercase text)
+pub read_again : (set : TableRows) (text : List ℕ) (dump : Dump) → IsLoaded set → IsHex text → (bank : IsBank set (bits_of_hex text) dump)
+    → size_of_all bank.says.read.derivation.items ≡ 16 * bank.words → WrittenDump set dump (map to_ascii_uppercase text)
 read_again set text dump loaded hex bank size =
     let says = bank.says in
     let d = says.read.derivation in

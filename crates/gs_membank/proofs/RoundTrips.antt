@@ -40,7 +40,8 @@ word_bits word =
 
 -- ---- a dump that is written
 
-pub dump_back : (set : TableRows) (dump : Dump) (text : List ℕ) → IsLoaded set → IsOfSet set dump.epc → HasFilter dump.epc.filter → dump.attributes < 256 → WrittenDump set dump text → ReadsDump set text (Ok dump)
+pub dump_back : (set : TableRows) (dump : Dump) (text : List ℕ) → IsLoaded set → IsOfSet set dump.epc → HasFilter dump.epc.filter
+    → dump.attributes < 256 → WrittenDump set dump text → ReadsDump set text (Ok dump)
 dump_back set dump text loaded of has attributes w =
     let word = word_of w.words dump in
     let front = hex_of_bits (control_bits word) in
@@ -57,7 +58,8 @@ dump_back set dump text loaded of has attributes w =
     let few = w.few in
     let all = hex_length w.encoding in
     let read : bits_of_hex text ≡ control_bits word ++ bits_of_hex w.encoding =
-    ap bits_of_hex w.text_is ∙ hex_joined front w.encoding ∙ ap (λ bits. bits ++ bits_of_hex w.encoding) (hex_read (control_bits word) (word_bits word) whole) in (
+    ap bits_of_hex w.text_is ∙ hex_joined front w.encoding ∙ ap (λ bits. bits ++ bits_of_hex w.encoding)
+    (hex_read (control_bits word) (word_bits word) whole) in (
       record {
         even = omega arith;
         short = omega arith;
@@ -74,7 +76,8 @@ dump_back set dump text loaded of has attributes w =
 
 -- ---- a line that is shown
 
-pub shown_back : (set : TableRows) (dump : Dump) (text : List ℕ) → IsLoaded set → IsOfSet set dump.epc → HasFilter dump.epc.filter → dump.attributes < 256 → ShownDump set dump text → IsShown set text dump
+pub shown_back : (set : TableRows) (dump : Dump) (text : List ℕ) → IsLoaded set → IsOfSet set dump.epc → HasFilter dump.epc.filter
+    → dump.attributes < 256 → ShownDump set dump text → IsShown set text dump
 shown_back set dump text loaded of has attributes w =
     let back : Says set Tag w.tag (same_fields Tag w.written.candidate.info dump.epc) = read_back set Tag dump.epc w.tag loaded has w.written in
     let same = same_in_tags dump.epc w.written.candidate.info w.written.candidate.passes (names_encoding set dump.epc loaded.shaped of has) in
@@ -96,7 +99,8 @@ shown_back set dump text loaded of has attributes w =
 
 -- ---- a text begins as one line
 
-pub one_start : (text rest behind : List ℕ) (user other : Bool) (attributes others : ℕ) → IsShownStart text user attributes rest → IsShownStart text other others behind → (user ≡ other) × (attributes ≡ others) × (rest ≡ behind)
+pub one_start : (text rest behind : List ℕ) (user other : Bool) (attributes others : ℕ) → IsShownStart text user attributes rest
+    → IsShownStart text other others behind → (user ≡ other) × (attributes ≡ others) × (rest ≡ behind)
 one_start text rest behind user other attributes others a b =
     let same : 117 ∷ (48 + bit_of user) ∷ 32 ∷ 97 ∷ a.high ∷ a.low ∷ 32 ∷ rest ≡ 117 ∷ (48 + bit_of other) ∷ 32 ∷ 97 ∷ b.high ∷ b.low ∷ 32 ∷ behind = sym a.joined ∙ b.joined in
     let digit : 48 + bit_of user ≡ 48 + bit_of other = cc in

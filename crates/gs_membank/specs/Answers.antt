@@ -1,5 +1,5 @@
--- The answers to dumps and to the lines that show them: TDS 2.0, sections 9 (the control word), 12 (tag URIs), 14 (bits) and 15
--- (the contents of the bank). The order of errors and the form of the lines are this project's own.
+-- The answers to dumps and to the lines that show them. They follow TDS 2.0, sections 9 (the control word), 12 (tag URIs), 14
+-- (bits) and 15 (the contents of the bank). The order of errors and the form of the lines are this project's own.
 use Rattle.std.specs.Prelude.{◌≡◌, ◌<◌, ◌≤◌, ◌*◌, ℕ, Bool, true, false, List, ◌++◌, length, Result, Ok, Err}
 use Rattle.gs_bits.specs.HexText.{bits_of_hex, hex_of_bits}
 use Rattle.gs_grammar.specs.Derivations.{Derivation}
@@ -28,8 +28,8 @@ abbrev pub word_of : ℕ → Dump → ControlWord
 word_of words dump =
     record { words = words; user = dump.user; extended = false; toggle = false; attributes = dump.attributes }
 
--- trusted, TDS 2.0, sections 9, 14 and 15: The memory bank relation. The bits are the control word of the dump, and 16 times
--- as many bits as it says, which say the dump's EPC.
+-- trusted, TDS 2.0, sections 9, 14 and 15: Holds if `bits` are the control word of `dump`, and 16 times as many bits as it
+-- says. These say the EPC of `dump`.
 pub record IsBank (set : TableRows) (bits : List ℕ) (dump : Dump) : Type 0 where
   pub words : ℕ
   pub encoding : List ℕ
@@ -37,8 +37,8 @@ pub record IsBank (set : TableRows) (bits : List ℕ) (dump : Dump) : Type 0 whe
   pub size : length encoding ≡ 16 * words
   pub says : Says set Binary encoding dump.epc
 
--- trusted, TDS 2.0, section 9; the order is own: why a control word and the bits after it are not a dump: the first reason that
--- applies
+-- trusted, TDS 2.0, section 9; the order is own: holds if the fault is the first reason why a control word, `word`, and the
+-- bits after it, `behind`, are not a dump
 abbrev pub IsWordError : TableRows → ControlWord → List ℕ → DumpFault → Type 0
 IsWordError set word behind Extended = word.extended ≡ true
 IsWordError set word behind Toggle = (word.extended ≡ false) × (word.toggle ≡ true)
@@ -48,16 +48,16 @@ IsWordError set word behind NoReading =
     IsPlain word × (length behind ≡ 16 * word.words) × (Derivation (options_of Binary set) behind → ⊥)
 IsWordError set word behind error = ⊥
 
--- trusted, own: the bits begin with a control word, and this is why they are not a dump
+-- trusted, own: holds if `bits` begin with a control word, and `error` is the reason why they are not a dump
 pub record IsBankError (set : TableRows) (bits : List ℕ) (error : DumpFault) : Type 0 where
   pub word : ControlWord
   pub behind : List ℕ
   pub begins : BeginsWith bits word behind
   pub reason : IsWordError set word behind error
 
--- trusted, TDS 2.0, sections 9, 14 and 15; the order of errors is own: The result of reading a text: why it is not a
--- hexadecimal text of at most 128 digits; that it is shorter than a control word; why its bits are not a dump; or their dump.
--- `Memory` may be returned instead.
+-- trusted, TDS 2.0, sections 9, 14 and 15; the order of errors is own: Holds if the result is the dump of `text`, or the first
+-- reason against it. It is not a hexadecimal text of at most 128 digits, is shorter than a control word, or its bits are not a
+-- dump. `Memory` may be returned instead.
 abbrev pub ReadsDump : TableRows → List ℕ → Result Dump DumpFault → Type 0
 ReadsDump set text (Ok dump) = IsHex text × IsBank set (bits_of_hex text) dump
 ReadsDump set text (Err (Hex error)) = IsHexFault text error
@@ -67,14 +67,14 @@ ReadsDump set text (Err error) = IsHex text × IsBankError set (bits_of_hex text
 
 -- ---- dumps that are written
 
--- trusted, own: why a dump is not written if its EPC is not
+-- trusted, own: the reason why a dump is not written if its EPC is not
 abbrev pub of_writing : EpcWriteFault → DumpWriteFault
 of_writing NoOptionOf = NoOption
 of_writing (CannotHoldOf field why) = CannotHold field why
 of_writing MemoryOf = WriteMemory
 
--- trusted, TDS 2.0, section 9: The text of a dump: the control word, which says four digits a word, and at most 31 words of
--- the EPC's encoding.
+-- trusted, TDS 2.0, section 9: Holds if `text` is the control word of `dump` and the encoding of its EPC. The control word says
+-- the number of words of four digits, at most 31.
 pub record WrittenDump (set : TableRows) (dump : Dump) (text : List ℕ) : Type 0 where
   pub encoding : List ℕ
   pub words : ℕ
@@ -83,7 +83,7 @@ pub record WrittenDump (set : TableRows) (dump : Dump) (text : List ℕ) : Type 
   pub few : words ≤ 31
   pub text_is : text ≡ hex_of_bits (control_bits (word_of words dump)) ++ encoding
 
--- trusted, own: the encoding that is written of a dump's EPC has more than 31 words, of four digits each
+-- trusted, own: holds if the encoding that is written of the EPC of `dump` has more than 31 words, of four digits each
 pub record IsTooLong (set : TableRows) (dump : Dump) : Type 0 where
   pub encoding : List ℕ
   pub words : ℕ
@@ -91,7 +91,7 @@ pub record IsTooLong (set : TableRows) (dump : Dump) : Type 0 where
   pub size : length encoding ≡ 4 * words
   pub many : 31 < words
 
--- trusted, TDS 2.0, sections 9, 14 and 15: The result of writing a dump: its text, that its encoding is too long, or why its
+-- trusted, TDS 2.0, sections 9, 14 and 15: Holds if the result is the text of `dump`, that its encoding is too long, or why its
 -- EPC is not written in bits. `Memory` may be returned instead.
 abbrev pub WritesDump : TableRows → Dump → Result (List ℕ) DumpWriteFault → Type 0
 WritesDump set dump (Ok text) = WrittenDump set dump text
@@ -102,14 +102,15 @@ WritesDump set dump (Err WriteMemory) = Unit {0}
 
 -- ---- lines
 
--- trusted, TDS 2.0, section 12; the form is own: the line of a dump, with the tag URI that is written of its EPC
+-- trusted, TDS 2.0, section 12; the form is own: holds if `text` is the line of `dump`, with the tag URI that is written of its
+-- EPC
 pub record ShownDump (set : TableRows) (dump : Dump) (text : List ℕ) : Type 0 where
   pub tag : List ℕ
   pub written : Writes set Tag dump.epc tag
   pub text_is : text ≡ shown_line dump.user dump.attributes tag
 
--- trusted, TDS 2.0, section 12; the form is own: The result of showing a dump: its line, or why its EPC is not written as a tag
--- URI. `Memory` may be returned instead.
+-- trusted, TDS 2.0, section 12; the form is own: Holds if the result is the line of `dump`, or why its EPC is not written as a
+-- tag URI. `Memory` may be returned instead.
 abbrev pub ShowsDump : TableRows → Dump → Result (List ℕ) DumpWriteFault → Type 0
 ShowsDump set dump (Ok text) = ShownDump set dump text
 ShowsDump set dump (Err TooLong) = ⊥
@@ -117,14 +118,14 @@ ShowsDump set dump (Err NoOption) = WritesAs set Tag dump.epc (Err NoOptionOf)
 ShowsDump set dump (Err (CannotHold field why)) = WritesAs set Tag dump.epc (Err (CannotHoldOf field why))
 ShowsDump set dump (Err WriteMemory) = Unit {0}
 
--- trusted, TDS 2.0, section 12; the form is own: holds if the text begins as a line of the dump, and the rest is a tag URI of its
+-- trusted, TDS 2.0, section 12; the form is own: holds if `text` begins as the line of `dump`, and the rest is a tag URI of its
 -- EPC
 pub record IsShown (set : TableRows) (text : List ℕ) (dump : Dump) : Type 0 where
   pub rest : List ℕ
   pub start : IsShownStart text dump.user dump.attributes rest
   pub says : Says set Tag rest dump.epc
 
--- trusted, own: holds if the text begins as a line of a dump, and the rest has no derivation in the level of tag URIs
+-- trusted, own: holds if `text` begins as a line of a dump, and the rest has no derivation in the level of tag URIs
 pub record ShowsNoTag (set : TableRows) (text : List ℕ) : Type 0 where
   pub user : Bool
   pub attributes : ℕ
@@ -132,8 +133,8 @@ pub record ShowsNoTag (set : TableRows) (text : List ℕ) : Type 0 where
   pub start : IsShownStart text user attributes rest
   pub none : Derivation (options_of Tag set) rest → ⊥
 
--- trusted, TDS 2.0, section 12; the form is own: The result of reading a line: that it does not begin as a line of a dump, that
--- it has no tag URI, or its dump. `Memory` may be returned instead.
+-- trusted, TDS 2.0, section 12; the form is own: Holds if the result is the dump of the line `text`, or that it does not begin
+-- as such a line or has no tag. `Memory` may be returned instead.
 abbrev pub ReadsShown : TableRows → List ℕ → Result Dump DumpLineFault → Type 0
 ReadsShown set text (Ok dump) = IsShown set text dump
 ReadsShown set text (Err Line) = (user : Bool) (attributes : ℕ) (rest : List ℕ) → IsShownStart text user attributes rest → ⊥

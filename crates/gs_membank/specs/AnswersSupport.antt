@@ -8,7 +8,7 @@ use Rattle.gs_membank.specs.declared.error.DumpFault.{DumpFault}
 use Rattle.gs_membank.specs.Answers.{ReadsDump}
 use Rattle.gs_membank.specs.Banks.{BeginsWith, IsPlain}
 
--- a hexadecimal text begins with a plain control word, which says as many words as there are after it
+-- holds if a hexadecimal text begins with a plain control word, which says as many words as there are after it
 pub record IsHeadOf (text : List ℕ) (word : ControlWord) : Type 0 where
   pub hex : IsHex text
   pub behind : List ℕ
@@ -16,6 +16,6 @@ pub record IsHeadOf (text : List ℕ) (word : ControlWord) : Type 0 where
   pub plain : IsPlain word
   pub whole : length behind ≡ 16 * word.words
 
--- the text is rejected, whatever the tables
+-- holds if the text is rejected with `error`, whatever the tables
 abbrev pub RejectsHead : List ℕ → DumpFault → Type 0
 RejectsHead text error = (set : TableRows) → ReadsDump set text (Err error)

@@ -15,8 +15,8 @@ shown_start user attributes = start_with user (hex_digit (attributes / 16)) (hex
 abbrev pub shown_line : Bool → ℕ → List ℕ → List ℕ
 shown_line user attributes tag = shown_start user attributes ++ tag
 
--- trusted, own: Holds if the text begins as a line with this user memory bit and these attribute bits, and this is the rest.
--- The digits are read case-insensitively.
+-- trusted, own: Holds if `text` begins as a line with the user memory bit `user` and the attribute bits `attributes`, and
+-- `rest` is left. The digits are read case-insensitively.
 pub record IsShownStart (text : List ℕ) (user : Bool) (attributes : ℕ) (rest : List ℕ) : Type 0 where
   pub high : ℕ
   pub low : ℕ

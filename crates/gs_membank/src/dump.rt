@@ -30,7 +30,7 @@ pub struct Dump {
 /// The contents of a protocol control word (TDS 2.0, section 9).
 #[derive(Clone, Copy)]
 struct ControlWord {
-    /// How many words of 16 bits the encoding after it has, at most 31.
+    /// The number of words of 16 bits of the encoding after it, at most 31.
     pub words: u8,
     /// Whether user memory has contents.
     pub user: bool,
@@ -144,10 +144,15 @@ fn read_word(text: &[u8]) -> Result<ControlWord, DumpFault>
     Ok(word)
 }
 
-/// Reads a dump of the EPC memory bank: a text of at most 128 hexadecimal digits in either case that begins with the protocol
-/// control word (TDS 2.0, section 9). The errors are tried in the order of `DumpFault`: the text is not such a hexadecimal text;
-/// it has fewer than 16 bits; the extended bit is 1; the toggle bit is 1; the bits after the word are not 16 times the length in
-/// it, and the error has both numbers; these bits have no derivation in the level of bits.
+/// Reads a dump of the EPC memory bank. It is a text of at most 128 hexadecimal digits in either case that begins with the
+/// protocol control word (TDS 2.0, section 9). The errors are tried in the order of `DumpFault`:
+///
+/// - The text is not such a hexadecimal text.
+/// - It has fewer than 16 bits.
+/// - The extended bit is 1.
+/// - The toggle bit is 1.
+/// - The bits after the word are not 16 times the length in it. The error has both numbers.
+/// - These bits have no derivation in the level of bits.
 pub fn read_dump(alloc: Global, set: &TableSet, text: &[u8]) -> Result<Dump, DumpFault>
     ensures answer { ReadsDump set.now text.now result }
     ensures of_set { IfOk result (λ dump. IsOfSet set.now dump.epc) }
@@ -173,10 +178,10 @@ pub fn read_dump(alloc: Global, set: &TableSet, text: &[u8]) -> Result<Dump, Dum
 /// The most words of 16 bits that a control word can say.
 const MOST_WORDS: usize = 31;
 
-/// Returns the text of a dump, in upper-case hexadecimal digits: the protocol control word and the encoding of the EPC after it
-/// (TDS 2.0, sections 9 and 15). The extended bit and the toggle bit are 0. Returns `NoOption` and `CannotHold` as
-/// `gs_epc::write_hex` does, and `TooLong` if and only if that encoding has more than 31 words. The EPC has a filter value of at
-/// most 7.
+/// Returns the text of a dump, in upper-case hexadecimal digits (TDS 2.0, sections 9 and 15). It is the protocol control word
+/// and the encoding of the EPC after it. The extended bit and the toggle bit are 0. Returns `NoOption` and `CannotHold` as
+/// `gs_epc::write_hex` does, and `TooLong` if and only if that encoding has more than 31 words. The EPC has a filter value of
+/// at most 7.
 pub fn write_dump(alloc: Global, set: &TableSet, dump: &Dump) -> Result<Text, DumpWriteFault>
     requires { HasFilter dump.now.epc.filter }
     ensures { WritesDump set.now dump.now result }

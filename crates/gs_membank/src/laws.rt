@@ -19,7 +19,7 @@ pub fn bits_are_one_dump()
         → IsBank set bits other → one ≡ other }
 {}
 
-/// States that a text that `read_dump` rejects, other than by `Memory`, is not a dump: it has other characters than hexadecimal
+/// States that a text that `read_dump` rejects, other than by `Memory`, is not a dump. It has other characters than hexadecimal
 /// digits, or its digits are not a dump. So `read_dump` returns a dump if and only if the text's bits are one.
 pub fn what_is_rejected_is_no_dump()
     ensures { (set : TableRows) (text : List ℕ) (error : DumpFault) (dump : Dump)

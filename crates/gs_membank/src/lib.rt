@@ -15,7 +15,7 @@
 //!
 //! # Differences from the standards
 //!
-//! - Of GS1 EPC Tag Data Standard 2.0 it has the bank of an EPC without an extended control word: a word whose extended bit or
+//! - Of GS1 EPC Tag Data Standard 2.0 it has the bank of an EPC without an extended control word. A word whose extended bit or
 //!   toggle bit is 1 is rejected. The CRC before the word and the contents of user memory are not part of a dump.
 //! - The length in the word is that of the encoding, which is whole words: bits beyond it are rejected.
 //! - The attribute bits are a number of 8 bits, for every version of the standard.

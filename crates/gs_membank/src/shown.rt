@@ -81,8 +81,8 @@ fn shown_start(user: bool, attributes: u8) -> [u8; 7]
     [b'u', digit, b' ', b'a', high, low, b' ']
 }
 
-/// Returns the line that shows a dump, `uU aHH TAG`: the user memory bit as 0 or 1, the attribute bits as two upper-case
-/// hexadecimal digits, and the EPC tag URI (TDS 2.0, section 12). Returns `NoOption` and `CannotHold` as `gs_epc::write_tag`
+/// Returns the line that shows a dump, `uU aHH TAG` (TDS 2.0, section 12). It has the user memory bit as 0 or 1, the attribute
+/// bits as two upper-case hexadecimal digits, and the EPC tag URI. Returns `NoOption` and `CannotHold` as `gs_epc::write_tag`
 /// does, and never `TooLong`. The EPC has a filter value of at most 7.
 pub fn show_dump(alloc: Global, set: &TableSet, dump: &Dump) -> Result<Text, DumpWriteFault>
     requires { HasFilter dump.now.epc.filter }

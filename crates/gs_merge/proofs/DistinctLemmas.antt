@@ -4,13 +4,15 @@ use Rattle.std.specs.Prelude.{if◌then◌else◌}
 use Rattle.std.specs.List.{list_all, list_any}
 use Rattle.std.proofs.lemmas.List.{append-nil}
 use Rattle.std.proofs.lemmas.List.Elements.{filter-append}
-use Rattle.gs_chars.proofs.TruthsAndLists.{and_first, and_second, and_true}
+use Rattle.gs_chars.proofs.TruthsAndLists.{and_first, and_second}
 use Rattle.gs_merge.specs.Distinct.{distinct_by, without}
+use Rattle.std.proofs.lemmas.Bool.{and_from}
 
 -- ---- filters
 
 module _ {X : Type 0} where
-  filter_swap_at : (p q : X → Bool) (x : X) (xs : List X) (a b : Bool) → p x ≡ a → q x ≡ b → filter p (filter q xs) ≡ filter q (filter p xs) → filter p (if b then x ∷ filter q xs else filter q xs) ≡ filter q (if a then x ∷ filter p xs else filter p xs)
+  filter_swap_at : (p q : X → Bool) (x : X) (xs : List X) (a b : Bool) → p x ≡ a → q x ≡ b → filter p (filter q xs) ≡ filter q (filter p xs)
+      → filter p (if b then x ∷ filter q xs else filter q xs) ≡ filter q (if a then x ∷ filter p xs else filter p xs)
   filter_swap_at p q x xs true true f g h = rw (f, g, h) refl
   filter_swap_at p q x xs true false f g h = rw (g, h) refl
   filter_swap_at p q x xs false true f g h = rw (f, h) refl
@@ -20,7 +22,8 @@ module _ {X : Type 0} where
   filter_swap p q [] = refl
   filter_swap p q (x ∷ xs) = filter_swap_at p q x xs (p x) (q x) refl refl (filter_swap p q xs)
 
-  filter_again_at : (p : X → Bool) (x : X) (xs : List X) (a : Bool) → p x ≡ a → filter p (filter p xs) ≡ filter p xs → filter p (if a then x ∷ filter p xs else filter p xs) ≡ (if a then x ∷ filter p xs else filter p xs)
+  filter_again_at : (p : X → Bool) (x : X) (xs : List X) (a : Bool) → p x ≡ a → filter p (filter p xs) ≡ filter p xs
+      → filter p (if a then x ∷ filter p xs else filter p xs) ≡ (if a then x ∷ filter p xs else filter p xs)
   filter_again_at p x xs true f h = rw (f, h) refl
   filter_again_at p x xs false f h = h
 
@@ -28,8 +31,9 @@ module _ {X : Type 0} where
   filter_again p [] = refl
   filter_again p (x ∷ xs) = filter_again_at p x xs (p x) refl (filter_again p xs)
 
-  filter_all_at : (t p : X → Bool) (x : X) (xs : List X) (a : Bool) → t x ≡ true → list_all t (filter p xs) ≡ true → list_all t (if a then x ∷ filter p xs else filter p xs) ≡ true
-  filter_all_at t p x xs true own h = and_true (t x) _ own h
+  filter_all_at : (t p : X → Bool) (x : X) (xs : List X) (a : Bool) → t x ≡ true → list_all t (filter p xs) ≡ true
+      → list_all t (if a then x ∷ filter p xs else filter p xs) ≡ true
+  filter_all_at t p x xs true own h = and_from (t x) _ own h
   filter_all_at t p x xs false own h = h
 
   -- a test that all pass holds for those that pass another
@@ -73,7 +77,8 @@ module _ {X : Type 0} (same : X → X → Bool) (itself : (x : X) → same x x �
       ap (λ zs. x ∷ without same x zs) (distinct_without x (distinct_by same xs) ∙ ap (λ zs. without same x zs) (distinct_again xs))
       ∙ ap (λ zs. x ∷ zs) (filter_again (λ z. not (same x z)) (distinct_by same xs))
 
-  without_both_at : (x y : X) (ys zs : List X) (b : Bool) → same x y ≡ b → without same x (without_all (without same x ys) zs) ≡ without same x (without_all ys zs)
+  without_both_at : (x y : X) (ys zs : List X) (b : Bool) → same x y ≡ b
+      → without same x (without_all (without same x ys) zs) ≡ without same x (without_all ys zs)
       → without same x (without_all (if not b then y ∷ without same x ys else without same x ys) zs) ≡ without same x (without same y (without_all ys zs))
   without_both_at x y ys zs true e h = h ∙ sym (without_same x y (without_all ys zs) e)
   without_both_at x y ys zs false e h =
@@ -145,7 +150,7 @@ module _ {X : Type 0} (same : X → X → Bool) (itself : (x : X) → same x x �
   pub all_distinct : (t : X → Bool) (xs : List X) → list_all t xs ≡ true → list_all t (distinct_by same xs) ≡ true
   all_distinct t [] h = refl
   all_distinct t (x ∷ xs) h =
-      and_true (t x) _ (and_first (t x) (list_all t xs) h) (filter_holds t (λ y. not (same x y)) (distinct_by same xs) (all_distinct t xs (and_second (t x) (list_all t xs) h)))
+      and_from (t x) _ (and_first (t x) (list_all t xs) h) (filter_holds t (λ y. not (same x y)) (distinct_by same xs) (all_distinct t xs (and_second (t x) (list_all t xs) h)))
 
   pub some_distinct : (xs : List X) → has_some (distinct_by same xs) ≡ has_some xs
   some_distinct [] = refl
@@ -166,7 +171,8 @@ module _ {X : Type 0} (same : X → X → Bool) (itself : (x : X) → same x x �
   more_by xs y true = append-nil xs
   more_by xs y false = refl
 
-  pub distinct_more : (xs : List X) (y : X) → distinct_by same (xs ++ y ∷ []) ≡ (if list_any (λ z. same z y) (distinct_by same xs) then distinct_by same xs else distinct_by same xs ++ y ∷ [])
+  pub distinct_more : (xs : List X) (y : X)
+      → distinct_by same (xs ++ y ∷ []) ≡ (if list_any (λ z. same z y) (distinct_by same xs) then distinct_by same xs else distinct_by same xs ++ y ∷ [])
   distinct_more xs y =
       append_distinct xs (y ∷ [])
       ∙ ap (λ zs. distinct_by same xs ++ zs) (sym (without_distinct xs (y ∷ [])) ∙ one_left (distinct_by same xs) y)

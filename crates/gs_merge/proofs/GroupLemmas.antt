@@ -33,7 +33,8 @@ use Rattle.gs_merge.proofs.SameTargets.{same_texts, target_itself, target_one}
 
 -- ---- the results of each name
 
-pub named_more : {E N R : Type 0} (f : N → R) (name : E → N) (xs : List E) (x : E) (old new : List R) (r : R) → old ≡ map f (map name xs) → r ≡ f (name x) → new ≡ old ++ r ∷ [] → new ≡ map f (map name (xs ++ x ∷ []))
+pub named_more : {E N R : Type 0} (f : N → R) (name : E → N) (xs : List E) (x : E) (old new : List R) (r : R) → old ≡ map f (map name xs)
+    → r ≡ f (name x) → new ≡ old ++ r ∷ [] → new ≡ map f (map name (xs ++ x ∷ []))
 named_more f name xs x old new r h own e = rw (e, h, own, map-append, map-append) refl
 
 -- ---- the links of a store
@@ -41,10 +42,12 @@ named_more f name xs x old new r h own e = rw (e, h, own, map-append, map-append
 abbrev is_relation_link : Link → Bool
 is_relation_link link = not (bytes_eq link.relation (codes "anchor"))
 
-pub links_kept : (first xs : List Link) (i : ℕ) (link : Link) (old new : List Link) → slice_get xs i ≡ Some link → bytes_eq link.relation (codes "anchor") ≡ false
+pub links_kept : (first xs : List Link) (i : ℕ) (link : Link) (old new : List Link) → slice_get xs i ≡ Some link
+    → bytes_eq link.relation (codes "anchor") ≡ false
     → old ≡ first ++ with_relation (take i xs) → new ≡ old ++ link ∷ [] → new ≡ first ++ with_relation (take (i + 1) xs)
 links_kept first xs i link old new at own so_far e =
-    rw (e, so_far, take_next xs i link at, filter-append is_relation_link (take i xs) (link ∷ []), own) (append_assoc first (with_relation (take i xs)) (link ∷ []))
+    rw (e, so_far, take_next xs i link at, filter-append is_relation_link (take i xs) (link ∷ []), own)
+    (append_assoc first (with_relation (take i xs)) (link ∷ []))
 
 pub links_passed : (first xs : List Link) (i : ℕ) (link : Link) (old : List Link) → slice_get xs i ≡ Some link → bytes_eq link.relation (codes "anchor") ≡ true
     → old ≡ first ++ with_relation (take i xs) → old ≡ first ++ with_relation (take (i + 1) xs)
@@ -65,7 +68,8 @@ module _ {G : Type 0} (seen : G → List Link) where
       → option_map seen (found_at new q) ≡ (if bytes_eq text q then Some (first ++ link ∷ []) else option_map seen (found_at old q))
   put_seen text q old mid new g first link put taken own = rw (put, taken, at_is_same text q) (by (bytes_eq text q))
     where
-      by : (b : Bool) → option_map seen (cond b (Some g) (if b then None else found_at old q)) ≡ (if b then Some (first ++ link ∷ []) else option_map seen (found_at old q))
+      by : (b : Bool)
+          → option_map seen (cond b (Some g) (if b then None else found_at old q)) ≡ (if b then Some (first ++ link ∷ []) else option_map seen (found_at old q))
       by true = ap Some own
       by false = refl
 
@@ -92,7 +96,9 @@ module _ {G : Type 0} (seen : G → List Link) where
       let rest = entries_by f es s.1 (λ t h. later t (bytes_eq t e.0) refl h (each t)) in
       rw (own, rest) refl
     where
-      later : (t : List ℕ) (b : Bool) → bytes_eq t e.0 ≡ b → has t (keys_of es) ≡ true → (has t (keys_of (e ∷ es)) ≡ true → option_map seen (found_at (e ∷ es) t) ≡ Some (f t)) → option_map seen (found_at es t) ≡ Some (f t)
+      later : (t : List ℕ) (b : Bool) → bytes_eq t e.0 ≡ b → has t (keys_of es) ≡ true
+          → (has t (keys_of (e ∷ es)) ≡ true → option_map seen (found_at (e ∷ es) t) ≡ Some (f t))
+          → option_map seen (found_at es t) ≡ Some (f t)
       later t true is h own =
           let same = equal_bytes t e.0 is in
           let none = below_is_none e.0 (keys_of es) s.0 in
@@ -107,7 +113,8 @@ pub has_key : (key : Link → List ℕ) (t : List ℕ) (links : List Link) → h
 has_key key t [] = refl
 has_key key t (link ∷ links) = rw (equal_swapped t (key link), has_key key t links) (by (bytes_eq (key link) t))
   where
-    by : (b : Bool) → (b || has_some (filter (λ l. bytes_eq (key l) t) links)) ≡ has_some (if b then link ∷ filter (λ l. bytes_eq (key l) t) links else filter (λ l. bytes_eq (key l) t) links)
+    by : (b : Bool)
+        → (b || has_some (filter (λ l. bytes_eq (key l) t) links)) ≡ has_some (if b then link ∷ filter (λ l. bytes_eq (key l) t) links else filter (λ l. bytes_eq (key l) t) links)
     by true = refl
     by false = refl
 
@@ -123,28 +130,32 @@ group_from : (links : List Link) → has_some links ≡ true → some_group link
 group_from [] h = absurd (cc)
 group_from (link ∷ links) h = refl
 
-pub groups_are : {G : Type 0} (seen : G → List Link) (by : Grouping) (links : List Link) (es : List (List ℕ × G)) → Ascend (keys_of es) → AreGroups by links (λ q. option_map seen (found_at es q))
+pub groups_are : {G : Type 0} (seen : G → List Link) (by : Grouping) (links : List Link) (es : List (List ℕ × G)) → Ascend (keys_of es)
+    → AreGroups by links (λ q. option_map seen (found_at es q))
     → map (entry_seen seen) es ≡ groups_of by links
 groups_are seen by links es s each =
     let found : (t : List ℕ) → has t (keys_of es) ≡ has_some (grouped by links t) = (λ t. keys_found seen t es ∙ sym (seen_is_some seen (found_at es t)) ∙ ap is_some (each t) ∙ some_is (grouped by links t)) in
     let names = one_list (keys_of es) (ascending (map (key_of by) links)) s (ascending_ascends (map (key_of by) links)) (λ t. found t ∙ sym (has_key (key_of by) t links) ∙ sym (has_ascending t (map (key_of by) links))) in
     entries_by seen (grouped by links) es s (λ t h. each t ∙ group_from (grouped by links t) (sym (found t) ∙ h)) ∙ ap (map (group_at (grouped by links))) names
 
-group_more : (links : List Link) (link : Link) (b : Bool) → (if b then Some (unwrap_or (some_group links) [] ++ link ∷ []) else some_group links) ≡ some_group (links ++ (if b then link ∷ [] else []))
+group_more : (links : List Link) (link : Link) (b : Bool)
+    → (if b then Some (unwrap_or (some_group links) [] ++ link ∷ []) else some_group links) ≡ some_group (links ++ (if b then link ∷ [] else []))
 group_more [] link true = refl
 group_more (x ∷ links) link true = refl
 group_more [] link false = refl
 group_more (x ∷ links) link false = rw (append-nil links) refl
 
 -- the groups of the links, with one more
-pub groups_more : (by : Grouping) (links : List Link) (i : ℕ) (link : Link) (text : List ℕ) (old new : List ℕ → Option (List Link)) → slice_get links i ≡ Some link → text ≡ key_of by link
+pub groups_more : (by : Grouping) (links : List Link) (i : ℕ) (link : Link) (text : List ℕ) (old new : List ℕ → Option (List Link))
+    → slice_get links i ≡ Some link → text ≡ key_of by link
     → AreGroups by (take i links) old → ((q : List ℕ) → new q ≡ (if bytes_eq text q then Some (unwrap_or (old text) [] ++ link ∷ []) else old q)) → AreGroups by (take (i + 1) links) new
 groups_more by links i link text old new at own so_far put q =
     let more : grouped by (take (i + 1) links) q ≡ grouped by (take i links) q ++ (if bytes_eq text q then link ∷ [] else []) =
     rw (take_next links i link at, filter-append (λ l. bytes_eq (key_of by l) q) (take i links) (link ∷ []), own) refl in
     put q ∙ at_text (bytes_eq text q) refl ∙ group_more (grouped by (take i links) q) link (bytes_eq text q) ∙ ap some_group (sym more)
   where
-    at_text : (b : Bool) → bytes_eq text q ≡ b → (if b then Some (unwrap_or (old text) [] ++ link ∷ []) else old q) ≡ (if b then Some (unwrap_or (some_group (grouped by (take i links) q)) [] ++ link ∷ []) else some_group (grouped by (take i links) q))
+    at_text : (b : Bool) → bytes_eq text q ≡ b
+        → (if b then Some (unwrap_or (old text) [] ++ link ∷ []) else old q) ≡ (if b then Some (unwrap_or (some_group (grouped by (take i links) q)) [] ++ link ∷ []) else some_group (grouped by (take i links) q))
     at_text true e = let same = equal_bytes text q e in rw (same, so_far q) refl
     at_text false e = so_far q
 
@@ -171,7 +182,8 @@ texts_more old new targets target text own put so_far q =
         or_shift true b c = refl
         or_shift false b c = refl
 
-        any_end : (ts : List Target) → list_any (λ (t : Target). bytes_eq (target_text t) q) (ts ++ target ∷ []) ≡ (list_any (λ (t : Target). bytes_eq (target_text t) q) ts || bytes_eq (target_text target) q)
+        any_end : (ts : List Target)
+            → list_any (λ (t : Target). bytes_eq (target_text t) q) (ts ++ target ∷ []) ≡ (list_any (λ (t : Target). bytes_eq (target_text t) q) ts || bytes_eq (target_text target) q)
         any_end [] = or_none (bytes_eq (target_text target) q)
         any_end (t ∷ ts) = rw (any_end ts) (or_shift (bytes_eq (target_text t) q) (list_any (λ (u : Target). bytes_eq (target_text u) q) ts) (bytes_eq (target_text target) q))
 
@@ -192,28 +204,36 @@ texts_same old new targets text put there so_far q = rw (put q, at_is_same text 
     by false e = so_far q
 
 -- whether the same target is in the map, by its text
-pub text_there : (entries : List (List ℕ × Unit {0})) (targets : List Target) (target : Target) (text : List ℕ) → text ≡ target_text target → AreTextsOf entries targets
+pub text_there : (entries : List (List ℕ × Unit {0})) (targets : List Target) (target : Target) (text : List ℕ) → text ≡ target_text target
+    → AreTextsOf entries targets
     → list_all is_target targets ≡ true → is_target target ≡ true → is_some (found_at entries text) ≡ list_any (λ other. is_same_target other target) targets
-text_there entries targets target text own so_far all shape = ap (λ t. is_some (found_at entries t)) own ∙ so_far (target_text target) ∙ same_texts targets target all shape
+text_there entries targets target text own so_far all shape = ap (λ t. is_some (found_at entries t)) own ∙ so_far
+    (target_text target) ∙ same_texts targets target all shape
 
-pub target_kept : (targets : List Target) (target : Target) → list_any (λ other. is_same_target other target) targets ≡ true → targets ≡ with_target targets target
+pub target_kept : (targets : List Target) (target : Target) → list_any (λ other. is_same_target other target) targets ≡ true
+    → targets ≡ with_target targets target
 target_kept targets target h = rw h refl
 
-pub target_added : (targets : List Target) (target : Target) → list_any (λ other. is_same_target other target) targets ≡ false → targets ++ target ∷ [] ≡ with_target targets target
+pub target_added : (targets : List Target) (target : Target) → list_any (λ other. is_same_target other target) targets ≡ false
+    → targets ++ target ∷ [] ≡ with_target targets target
 target_added targets target h = rw h refl
 
 -- the targets of links, with one more
-pub targets_more : (links : List Link) (i : ℕ) (link : Link) (old new : List Target) → slice_get links i ≡ Some link → old ≡ distinct (targets_of (take i links)) → new ≡ with_target old link.target
+pub targets_more : (links : List Link) (i : ℕ) (link : Link) (old new : List Target) → slice_get links i ≡ Some link
+    → old ≡ distinct (targets_of (take i links)) → new ≡ with_target old link.target
     → new ≡ distinct (targets_of (take (i + 1) links))
 unfolding distinct
 targets_more links i link old new at so_far e =
-    rw (e, so_far, take_next links i link at, map-append (λ (l : Link). l.target) (take i links) (link ∷ [])) (sym (distinct_more is_same_target target_itself target_one (targets_of (take i links)) link.target))
+    rw (e, so_far, take_next links i link at, map-append (λ (l : Link). l.target) (take i links) (link ∷ []))
+    (sym (distinct_more is_same_target target_itself target_one (targets_of (take i links)) link.target))
 
-with_shape_by : (targets : List Target) (target : Target) (b : Bool) → list_all is_target targets ≡ true → is_target target ≡ true → list_all is_target (if b then targets else targets ++ target ∷ []) ≡ true
+with_shape_by : (targets : List Target) (target : Target) (b : Bool) → list_all is_target targets ≡ true → is_target target ≡ true
+    → list_all is_target (if b then targets else targets ++ target ∷ []) ≡ true
 with_shape_by targets target true all own = all
 with_shape_by targets target false all own = rw (list_all-append is_target targets (target ∷ []), all, own) refl
 
-pub targets_shape : (old new : List Target) (target : Target) → list_all is_target old ≡ true → is_target target ≡ true → new ≡ with_target old target → list_all is_target new ≡ true
+pub targets_shape : (old new : List Target) (target : Target) → list_all is_target old ≡ true → is_target target ≡ true
+    → new ≡ with_target old target → list_all is_target new ≡ true
 targets_shape old new target all own e = rw e (with_shape_by old target (list_any (λ other. is_same_target other target) old) all own)
 
 -- ---- values that are mapped from groups
@@ -236,9 +256,11 @@ made_relation group = record { name = group.0; targets = distinct (targets_of gr
 abbrev pub made_context : List ℕ × List Link → Context
 made_context group = record { anchor = group.0; relations = relations_of group.1 }
 
-pub relations_made : (links : List Link) (groups : List (List ℕ × List Link)) (relations : List Relation) → groups ≡ groups_of ByRelation links → relations ≡ map made_relation groups → relations ≡ relations_of links
+pub relations_made : (links : List Link) (groups : List (List ℕ × List Link)) (relations : List Relation)
+    → groups ≡ groups_of ByRelation links → relations ≡ map made_relation groups → relations ≡ relations_of links
 relations_made links groups relations own e = rw (e, own) (map_twice made_relation (group_at (grouped ByRelation links)) (ascending (map (key_of ByRelation) links)))
 
-pub contexts_made : (links : List Link) (groups : List (List ℕ × List Link)) (contexts : List Context) → groups ≡ groups_of ByAnchor links → contexts ≡ map made_context groups → contexts ≡ contexts_of links
+pub contexts_made : (links : List Link) (groups : List (List ℕ × List Link)) (contexts : List Context) → groups ≡ groups_of ByAnchor links
+    → contexts ≡ map made_context groups → contexts ≡ contexts_of links
 unfolding contexts_of
 contexts_made links groups contexts own e = rw (e, own) (map_twice made_context (group_at (grouped ByAnchor links)) (ascending (map (key_of ByAnchor) links)))

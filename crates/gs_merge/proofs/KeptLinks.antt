@@ -9,11 +9,10 @@ use Rattle.std.specs.Str.{bytes_eq}
 use Rattle.std.proofs.lemmas.List.{append_assoc}
 use Rattle.std.proofs.lemmas.List.Elements.{All-append, All-cons, All-filter, All-head, All-map, All-nil, All-tail, All-weaker}
 use Rattle.std.proofs.lemmas.Map.Views.{All-insert_key}
-use Rattle.gs_ai.proofs.Searches.{cons_none, position_none}
 use Rattle.gs_ai.specs.Tables.{KeepsRules, is_empty}
 use Rattle.gs_ai.specs.declared.pair.Pair.{Pair}
 use Rattle.gs_ai.specs.declared.row.AiRow.{AiRow}
-use Rattle.gs_chars.proofs.TruthsAndLists.{and_first, and_second, and_true, nil_parts, none_of_both, not_true, true_from_not}
+use Rattle.gs_chars.proofs.TruthsAndLists.{and_first, and_second, nil_parts, none_of_both}
 use Rattle.gs_dlink.specs.Answers.{by_authority, link_answer, target_answer}
 use Rattle.gs_dlink.specs.Uris.{authority_end}
 use Rattle.gs_dlink.specs.declared.error.LinkFault.{LinkFault}
@@ -43,14 +42,18 @@ use Rattle.gs_merge.specs.Stores.{targets_at, targets_in}
 use Rattle.gs_merge.proofs.DistinctLemmas.{all_distinct}
 use Rattle.gs_merge.proofs.SameTargets.{target_itself, target_one}
 use Rattle.gs_merge.proofs.TargetsAt.{targets_append}
+use Rattle.gs_chars.proofs.Searches.{cons_none, position_none}
+use Rattle.std.proofs.lemmas.Bool.{and_from, not_from_true, not-false}
 
 -- ---- anchors are read again
 
-pair_list_in_order : (table : List AiRow) (text : List ℕ) (o : Option ℕ) (pairs : List Pair) → by_authority table text o ≡ Ok pairs → All (IsInOrder table) pairs
+pair_list_in_order : (table : List AiRow) (text : List ℕ) (o : Option ℕ) (pairs : List Pair) → by_authority table text o ≡ Ok pairs
+    → All (IsInOrder table) pairs
 pair_list_in_order table text None pairs h = absurd (let bad : Err NotHttp ≡ Ok pairs = h in cc)
 pair_list_in_order table text (Some at) pairs h = target_in_order table at _ pairs h
 
-anchor_pairs_by : (table : List AiRow) (text : List ℕ) (pairs : List Pair) (b : Bool) → (if b then target_answer table 0 text else link_answer table text) ≡ Ok pairs → All (IsInOrder table) pairs
+anchor_pairs_by : (table : List AiRow) (text : List ℕ) (pairs : List Pair) (b : Bool)
+    → (if b then target_answer table 0 text else link_answer table text) ≡ Ok pairs → All (IsInOrder table) pairs
 unfolding link_answer
 anchor_pairs_by table text pairs true h = target_in_order table 0 text pairs h
 anchor_pairs_by table text pairs false h = pair_list_in_order table text (authority_end text) pairs h
@@ -59,7 +62,8 @@ anchor_pairs : (table : List AiRow) (text : List ℕ) (pairs : List Pair) → pa
 unfolding pairs_answer
 anchor_pairs table text pairs h = anchor_pairs_by table text pairs (is_path text) h
 
-bare_is : (identity x : Elements) (b : Bool) → is_empty identity.attributes ≡ b → (if b then Ok identity else Err Attributes) ≡ Ok x → (identity ≡ x) × (is_empty identity.attributes ≡ true)
+bare_is : (identity x : Elements) (b : Bool) → is_empty identity.attributes ≡ b → (if b then Ok identity else Err Attributes) ≡ Ok x
+    → (identity ≡ x) × (is_empty identity.attributes ≡ true)
 bare_is identity x true e h = (let g : Ok identity ≡ Ok x = h in cc, e)
 bare_is identity x false e h = absurd (let bad : Err Attributes ≡ Ok x = h in cc)
 
@@ -69,7 +73,8 @@ made_by_identity (Ok identity) x h =
     (ap (λ (e : Elements). Ok e) parts.0, (ap (λ (e : Elements). is_empty e.attributes) (sym parts.0)) ∙ parts.1)
 made_by_identity (Err error) x h = absurd (let bad : Err (Ident error) ≡ Ok x = h in cc)
 
-made_anchor_by : (table : List AiRow) (r : Result (List Pair) LinkFault) (x : Elements) → by_pairs table r ≡ Ok x → ((pairs : List Pair) → r ≡ Ok pairs → All (IsInOrder table) pairs) → IsMadeWith table x × (is_empty x.attributes ≡ true)
+made_anchor_by : (table : List AiRow) (r : Result (List Pair) LinkFault) (x : Elements) → by_pairs table r ≡ Ok x
+    → ((pairs : List Pair) → r ≡ Ok pairs → All (IsInOrder table) pairs) → IsMadeWith table x × (is_empty x.attributes ≡ true)
 made_anchor_by table (Ok pairs) x h in_order =
     let parts = made_by_identity (identity_of_pairs table pairs) x h in
     (made_with table pairs x (in_order pairs refl) parts.0, parts.1)
@@ -84,7 +89,8 @@ unfolding pairs_answer
 canonical_pairs table rules x made = link_read table rules x made (codes "https://id.gs1.org") canonical_stem_ok
 
 -- an anchor's canonical link is an anchor, and the same
-pub anchor_again : (table : List AiRow) → KeepsRules table → (text : List ℕ) (x : Elements) → anchor_answer table text ≡ Ok x → anchor_answer table (canonical_link x) ≡ Ok x
+pub anchor_again : (table : List AiRow) → KeepsRules table → (text : List ℕ) (x : Elements) → anchor_answer table text ≡ Ok x
+    → anchor_answer table (canonical_link x) ≡ Ok x
 unfolding anchor_answer
 anchor_again table rules text x h =
     let parts = made_anchor table text x h in
@@ -98,28 +104,36 @@ pub record IsKept (table : List AiRow) (voc : List ℕ) (link : Link) : Type 0 w
   pub settled : expanded voc link.relation ≡ link.relation
   pub reference : is_reference link.target.href ≡ true
 
-no_target : (targets : List Target) → position (λ target. not (is_reference target.href)) targets ≡ None → list_all (λ target. is_reference target.href) targets ≡ true
+no_target : (targets : List Target) → position (λ target. not (is_reference target.href)) targets ≡ None
+    → list_all (λ target. is_reference target.href) targets ≡ true
 no_target [] h = refl
 no_target (t ∷ targets) h =
     let parts = cons_none (λ (target : Target). not (is_reference target.href)) t targets h in
-    and_true (is_reference t.href) _ (true_from_not (is_reference t.href) parts.0) (no_target targets parts.1)
+    and_from (is_reference t.href) _ (not-false (is_reference t.href) parts.0) (no_target targets parts.1)
 
-all_targets : (targets : List Target) → list_all (λ target. is_reference target.href) targets ≡ true → position (λ target. not (is_reference target.href)) targets ≡ None
+all_targets : (targets : List Target) → list_all (λ target. is_reference target.href) targets ≡ true
+    → position (λ target. not (is_reference target.href)) targets ≡ None
 all_targets targets h =
-    position_none (λ (target : Target). not (is_reference target.href)) targets (λ j t at. not_true (is_reference t.href) (true_at (λ (target : Target). is_reference target.href) targets j t h at))
+    position_none (λ (target : Target). not (is_reference target.href)) targets
+    (λ j t at. not_from_true (is_reference t.href) (true_at (λ (target : Target). is_reference target.href) targets j t h at))
 
 relation_good : (i r : ℕ) (relation : Relation) (o : Option ℕ) → bad_target relation ≡ o → relation_errors i r relation ≡ [] → bad_target relation ≡ None
 relation_good i r relation None e h = e
 relation_good i r relation (Some t) e h = absurd (let g = rw e at h in cc)
 
 -- the references of relations without errors
-good_relations : (i n : ℕ) (relations : List Relation) → flat_map (λ row. relation_errors i row.0 row.1) (enumerate_from n relations) ≡ [] → list_all (λ relation. list_all (λ target. is_reference target.href) relation.targets) relations ≡ true
+good_relations : (i n : ℕ) (relations : List Relation) → flat_map (λ row. relation_errors i row.0 row.1) (enumerate_from n relations) ≡ []
+    → list_all (λ relation. list_all (λ target. is_reference target.href) relation.targets) relations ≡ true
 good_relations i n [] h = refl
 good_relations i n (relation ∷ relations) h =
     let parts = nil_parts (relation_errors i n relation) (flat_map (λ row. relation_errors i row.0 row.1) (enumerate_from (n + 1) relations)) h in
-    and_true (list_all (λ (target : Target). is_reference target.href) relation.targets) _ (no_target relation.targets (relation_good i n relation (bad_target relation) refl parts.0)) (good_relations i (n + 1) relations parts.1)
+    and_from (list_all (λ (target : Target). is_reference target.href) relation.targets) _
+    (no_target relation.targets (relation_good i n relation (bad_target relation) refl parts.0))
+    (good_relations i (n + 1) relations parts.1)
 
-relations_good : (i n : ℕ) (relations : List Relation) → list_all (λ relation. list_all (λ target. is_reference target.href) relation.targets) relations ≡ true → flat_map (λ row. relation_errors i row.0 row.1) (enumerate_from n relations) ≡ []
+relations_good : (i n : ℕ) (relations : List Relation)
+    → list_all (λ relation. list_all (λ target. is_reference target.href) relation.targets) relations ≡ true
+    → flat_map (λ row. relation_errors i row.0 row.1) (enumerate_from n relations) ≡ []
 relations_good i n [] h = refl
 relations_good i n (relation ∷ relations) h =
     let none = all_targets relation.targets (and_first (list_all (λ (target : Target). is_reference target.href) relation.targets) _ h) in
@@ -130,7 +144,9 @@ good_anchor i (Ok x) h = (x, refl)
 good_anchor i (Err why) h = absurd (cc)
 
 module _ (table : List AiRow) (rules : KeepsRules table) (voc : List ℕ) (keeps : keeps_names voc ≡ true) where
-  target_links_kept : (x : Elements) (name : List ℕ) (targets : List Target) → anchor_answer table (canonical_link x) ≡ Ok x → list_all (λ target. is_reference target.href) targets ≡ true → All (IsKept table voc) (map (link_with x (expanded voc name)) targets)
+  target_links_kept : (x : Elements) (name : List ℕ) (targets : List Target) → anchor_answer table (canonical_link x) ≡ Ok x
+      → list_all (λ target. is_reference target.href) targets ≡ true
+      → All (IsKept table voc) (map (link_with x (expanded voc name)) targets)
   target_links_kept x name [] own h = All-nil (IsKept table voc)
   target_links_kept x name (t ∷ targets) own h =
       let kept : IsKept table voc (link_with x (expanded voc name) t) = record {
@@ -138,9 +154,11 @@ module _ (table : List AiRow) (rules : KeepsRules table) (voc : List ℕ) (keeps
         settled = expanded_once voc name keeps;
         reference = and_first (is_reference t.href) _ h;
       } in
-      All-cons (IsKept table voc) (link_with x (expanded voc name) t) (map (link_with x (expanded voc name)) targets) kept (target_links_kept x name targets own (and_second (is_reference t.href) _ h))
+      All-cons (IsKept table voc) (link_with x (expanded voc name) t) (map (link_with x (expanded voc name)) targets) kept
+      (target_links_kept x name targets own (and_second (is_reference t.href) _ h))
 
-  relation_links_kept : (x : Elements) (relations : List Relation) → anchor_answer table (canonical_link x) ≡ Ok x → list_all (λ relation. list_all (λ target. is_reference target.href) relation.targets) relations ≡ true
+  relation_links_kept : (x : Elements) (relations : List Relation) → anchor_answer table (canonical_link x) ≡ Ok x
+      → list_all (λ relation. list_all (λ target. is_reference target.href) relation.targets) relations ≡ true
       → All (IsKept table voc) (flat_map (relation_links voc x) relations)
   relation_links_kept x [] own h = All-nil (IsKept table voc)
   relation_links_kept x (relation ∷ relations) own h =
@@ -157,11 +175,13 @@ module _ (table : List AiRow) (rules : KeepsRules table) (voc : List ℕ) (keeps
       let kept = relation_links_kept anchor.0 context.relations again (good_relations i 0 context.relations parts.1) in
       rw (links_are table voc context anchor.0 (sym anchor.1)) kept
 
-  all_links_kept : (n : ℕ) (contexts : List Context) → flat_map (λ row. context_errors table row.0 row.1) (enumerate_from n contexts) ≡ [] → All (IsKept table voc) (flat_map (context_links table voc) contexts)
+  all_links_kept : (n : ℕ) (contexts : List Context) → flat_map (λ row. context_errors table row.0 row.1) (enumerate_from n contexts) ≡ []
+      → All (IsKept table voc) (flat_map (context_links table voc) contexts)
   all_links_kept n [] h = All-nil (IsKept table voc)
   all_links_kept n (context ∷ contexts) h =
       let parts = nil_parts (context_errors table n context) (flat_map (λ row. context_errors table row.0 row.1) (enumerate_from (n + 1) contexts)) h in
-      All-append (IsKept table voc) (context_links table voc context) (flat_map (context_links table voc) contexts) (context_links_kept n context parts.0) (all_links_kept (n + 1) contexts parts.1)
+      All-append (IsKept table voc) (context_links table voc context) (flat_map (context_links table voc) contexts)
+      (context_links_kept n context parts.0) (all_links_kept (n + 1) contexts parts.1)
 
   loaded_by : (errors : List StoreFault) (made links : List Link) → first_or errors made ≡ Ok links → (errors ≡ []) × (made ≡ links)
   loaded_by [] made links h = (refl, let g : Ok made ≡ Ok links = h in cc)
@@ -206,19 +226,23 @@ module _ (table : List AiRow) (voc : List ℕ) where
   kept_references : (links : List Link) → All (IsKept table voc) links → list_all (λ target. is_reference target.href) (targets_of links) ≡ true
   kept_references [] h = refl
   kept_references (link ∷ links) h =
-      and_true (is_reference link.target.href) _ (All-head (IsKept table voc) link links h).reference (kept_references links (All-tail (IsKept table voc) link links h))
+      and_from (is_reference link.target.href) _ (All-head (IsKept table voc) link links h).reference
+      (kept_references links (All-tail (IsKept table voc) link links h))
 
-  relation_settled : (links : List Link) → All (IsKept table voc) links → (name : List ℕ) → expanded voc name ≡ name → IsSettledRelation voc (relation_with links name)
+  relation_settled : (links : List Link) → All (IsKept table voc) links → (name : List ℕ) → expanded voc name ≡ name
+      → IsSettledRelation voc (relation_with links name)
   unfolding distinct
   relation_settled links h name e = record {
     settled = e;
-    references = all_distinct is_same_target target_itself target_one (λ target. is_reference target.href) (targets_of (links_by name links)) (kept_references (links_by name links) (All-filter (λ l. bytes_eq l.relation name) (IsKept table voc) links h));
+    references = all_distinct is_same_target target_itself target_one (λ target. is_reference target.href)
+        (targets_of (links_by name links)) (kept_references (links_by name links) (All-filter (λ l. bytes_eq l.relation name) (IsKept table voc) links h));
   }
 
   relations_settled : (links : List Link) → All (IsKept table voc) links → All (IsSettledRelation voc) (relations_of links)
   relations_settled links h =
       let names = all_ascending (λ n. expanded voc n ≡ n) (map (λ (l : Link). l.relation) links) (All-map (λ n. expanded voc n ≡ n) (λ (l : Link). l.relation) links (All-weaker (IsKept table voc) (λ l. expanded voc l.relation ≡ l.relation) (λ l k. k.settled) links h)) in
-      All-map (IsSettledRelation voc) (relation_with links) (ascending (map (λ (l : Link). l.relation) links)) (All-weaker (λ n. expanded voc n ≡ n) (λ n. IsSettledRelation voc (relation_with links n)) (relation_settled links h) (ascending (map (λ (l : Link). l.relation) links)) names)
+      All-map (IsSettledRelation voc) (relation_with links) (ascending (map (λ (l : Link). l.relation) links))
+      (All-weaker (λ n. expanded voc n ≡ n) (λ n. IsSettledRelation voc (relation_with links n)) (relation_settled links h) (ascending (map (λ (l : Link). l.relation) links)) names)
 
   -- a text that is the canonical link of its identity
   record IsAnchorText (text : List ℕ) : Type 0 where
@@ -238,26 +262,33 @@ module _ (table : List AiRow) (voc : List ℕ) where
   unfolding contexts_of
   contexts_settled links h =
       let texts = all_ascending IsAnchorText (map anchor_text links) (All-map IsAnchorText anchor_text links (All-weaker (IsKept table voc) (λ l. IsAnchorText (anchor_text l)) (λ l k. record { identity = l.anchor; answer = k.answer; own = refl }) links h)) in
-      All-map (IsSettled table voc) (context_with links) (ascending (map anchor_text links)) (All-weaker IsAnchorText (λ t. IsSettled table voc (context_with links t)) (context_settled links h) (ascending (map anchor_text links)) texts)
+      All-map (IsSettled table voc) (context_with links) (ascending (map anchor_text links))
+      (All-weaker IsAnchorText (λ t. IsSettled table voc (context_with links t)) (context_settled links h) (ascending (map anchor_text links)) texts)
 
   -- ---- they load
 
-  settled_references : (relations : List Relation) → All (IsSettledRelation voc) relations → list_all (λ relation. list_all (λ target. is_reference target.href) relation.targets) relations ≡ true
+  settled_references : (relations : List Relation) → All (IsSettledRelation voc) relations
+      → list_all (λ relation. list_all (λ target. is_reference target.href) relation.targets) relations ≡ true
   settled_references [] h = refl
   settled_references (relation ∷ relations) h =
-      and_true (list_all (λ (target : Target). is_reference target.href) relation.targets) _ (All-head (IsSettledRelation voc) relation relations h).references (settled_references relations (All-tail (IsSettledRelation voc) relation relations h))
+      and_from (list_all (λ (target : Target). is_reference target.href) relation.targets) _
+      (All-head (IsSettledRelation voc) relation relations h).references
+      (settled_references relations (All-tail (IsSettledRelation voc) relation relations h))
 
   no_context_error : (i : ℕ) (context : Context) → IsSettled table voc context → context_errors table i context ≡ []
   unfolding context_errors
   no_context_error i context h = rw (h.answer) (relations_good i 0 context.relations (settled_references context.relations h.relations))
 
-  no_errors : (n : ℕ) (contexts : List Context) → All (IsSettled table voc) contexts → flat_map (λ row. context_errors table row.0 row.1) (enumerate_from n contexts) ≡ []
+  no_errors : (n : ℕ) (contexts : List Context) → All (IsSettled table voc) contexts
+      → flat_map (λ row. context_errors table row.0 row.1) (enumerate_from n contexts) ≡ []
   no_errors n [] h = refl
   no_errors n (context ∷ contexts) h =
       none_of_both (context_errors table n context) (flat_map (λ row. context_errors table row.0 row.1) (enumerate_from (n + 1) contexts))
-      (no_context_error n context (All-head (IsSettled table voc) context contexts h)) (no_errors (n + 1) contexts (All-tail (IsSettled table voc) context contexts h))
+      (no_context_error n context (All-head (IsSettled table voc) context contexts h))
+      (no_errors (n + 1) contexts (All-tail (IsSettled table voc) context contexts h))
 
-  pub settled_load : (contexts : List Context) → All (IsSettled table voc) contexts → is_too_many contexts ≡ false → load_answer table voc contexts ≡ Ok (links_of table voc contexts)
+  pub settled_load : (contexts : List Context) → All (IsSettled table voc) contexts → is_too_many contexts ≡ false
+      → load_answer table voc contexts ≡ Ok (links_of table voc contexts)
   unfolding load_answer store_errors
   settled_load contexts h few = rw (few, no_errors 0 contexts h) refl
 
@@ -291,10 +322,12 @@ module _ (table : List AiRow) (voc : List ℕ) where
         targets_append (relation_links voc x relation) (flat_map (relation_links voc x) relations) text name
         ∙ ap (λ ts. ts ++ targets_at (flat_map (relation_links voc x) relations) text name)
         (ap (λ n. targets_at (map (link_with x n) relation.targets) text name) settled ∙ target_links_by x relation.name a (bytes_eq relation.name name) e refl relation.targets)
-        ∙ ap (λ ts. (if a then (if bytes_eq relation.name name then relation.targets else []) else []) ++ ts) (relation_links_at x a e relations (All-tail (IsSettledRelation voc) relation relations h))
+        ∙ ap (λ ts. (if a then (if bytes_eq relation.name name then relation.targets else []) else []) ++ ts)
+        (relation_links_at x a e relations (All-tail (IsSettledRelation voc) relation relations h))
         ∙ more_by relation relations a (bytes_eq relation.name name) refl
 
-    context_links_at : (context : Context) → IsSettled table voc context → targets_at (context_links table voc context) text name ≡ (if bytes_eq context.anchor text then named_targets context.relations else [])
+    context_links_at : (context : Context) → IsSettled table voc context
+        → targets_at (context_links table voc context) text name ≡ (if bytes_eq context.anchor text then named_targets context.relations else [])
     context_links_at context h =
         ap (λ ls. targets_at ls text name) (links_are table voc context h.identity (sym h.answer))
         ∙ relation_links_at h.identity (bytes_eq (canonical_link h.identity) text) refl context.relations h.relations
@@ -315,15 +348,19 @@ module _ (table : List AiRow) (voc : List ℕ) where
             named_by r xs ys false h = h
     contexts_by context contexts false e = rw e refl
 
-    settled_targets : (contexts : List Context) → All (IsSettled table voc) contexts → targets_at (flat_map (context_links table voc) contexts) text name ≡ targets_in contexts text name
+    settled_targets : (contexts : List Context) → All (IsSettled table voc) contexts
+        → targets_at (flat_map (context_links table voc) contexts) text name ≡ targets_in contexts text name
     settled_targets [] h = refl
     settled_targets (context ∷ contexts) h =
         targets_append (context_links table voc context) (flat_map (context_links table voc) contexts) text name
-        ∙ ap (λ ts. ts ++ targets_at (flat_map (context_links table voc) contexts) text name) (context_links_at context (All-head (IsSettled table voc) context contexts h))
-        ∙ ap (λ ts. (if bytes_eq context.anchor text then named_targets context.relations else []) ++ ts) (settled_targets contexts (All-tail (IsSettled table voc) context contexts h))
+        ∙ ap (λ ts. ts ++ targets_at (flat_map (context_links table voc) contexts) text name)
+        (context_links_at context (All-head (IsSettled table voc) context contexts h))
+        ∙ ap (λ ts. (if bytes_eq context.anchor text then named_targets context.relations else []) ++ ts)
+        (settled_targets contexts (All-tail (IsSettled table voc) context contexts h))
         ∙ contexts_by context contexts (bytes_eq context.anchor text) refl
 
     -- the links of the contexts have the targets that the contexts have
-    pub loaded_targets : (contexts : List Context) → All (IsSettled table voc) contexts → targets_at (links_of table voc contexts) text name ≡ targets_in contexts text name
+    pub loaded_targets : (contexts : List Context) → All (IsSettled table voc) contexts
+        → targets_at (links_of table voc contexts) text name ≡ targets_in contexts text name
     unfolding links_of
     loaded_targets contexts h = settled_targets contexts h

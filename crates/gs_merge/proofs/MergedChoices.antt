@@ -3,12 +3,12 @@ use Rattle.std.proofs.Common.{◌≡◌, ◌≤◌, ◌&&◌, ◌||◌, ◌==◌
 use Rattle.std.specs.Prelude.{Ok, if◌then◌else◌}
 use Rattle.std.specs.List.{enumerate_from, list_any}
 use Rattle.std.specs.Str.{bytes_eq}
-use Rattle.std.proofs.lemmas.Bool.{eq-eqb, eqb-true}
+use Rattle.std.proofs.lemmas.Bool.{eq-eqb, eqb-true, and_from, or_parts}
 use Rattle.std.proofs.lemmas.List.Elements.{All-append, All-head, All-tail}
 use Rattle.std.proofs.lemmas.List.Folds.{list_any-append}
 use Rattle.gs_ai.specs.Tables.{KeepsRules}
 use Rattle.gs_ai.specs.declared.row.AiRow.{AiRow}
-use Rattle.gs_chars.proofs.TruthsAndLists.{and_first, and_second, and_true, equal_bytes, or_parts, or_true, same_bytes, one_truth}
+use Rattle.gs_chars.proofs.TruthsAndLists.{and_first, and_second, equal_bytes, or_true, same_bytes, one_truth}
 use Rattle.gs_ident.specs.Elements.{Elements}
 use Rattle.gs_linkset.specs.declared.link_types.Target.{Target}
 use Rattle.gs_links.specs.Choices.{chosen_depth, depth_of, is_candidate, is_chosen, is_prefix, numbers_from}
@@ -31,7 +31,8 @@ use Rattle.gs_merge.proofs.TargetsAt.{targets_are}
 -- ---- the links of chosen numbers
 
 module _ (t : Link → Bool) where
-  linked_by : (all : List Link) (n : ℕ) (xs : List Link) → ((i : ℕ) (x : Link) → slice_get xs i ≡ Some x → slice_get all (n + i) ≡ Some x) → linked all (numbers_from n t xs) ≡ filter t xs
+  linked_by : (all : List Link) (n : ℕ) (xs : List Link) → ((i : ℕ) (x : Link) → slice_get xs i ≡ Some x → slice_get all (n + i) ≡ Some x)
+      → linked all (numbers_from n t xs) ≡ filter t xs
   linked_by all n [] there = refl
   linked_by all n (x ∷ xs) there =
       let here : n + 0 ≡ n = omega arith in
@@ -41,11 +42,13 @@ module _ (t : Link → Bool) where
       rows : List (ℕ × Link)
       rows = filter (λ row. t row.1) (enumerate_from (n + 1) xs)
 
-      by : (b : Bool) → slice_get all n ≡ Some x → linked all (map (λ row. row.0) rows) ≡ filter t xs → linked all (map (λ row. row.0) (if b then (n, x) ∷ rows else rows)) ≡ (if b then x ∷ filter t xs else filter t xs)
+      by : (b : Bool) → slice_get all n ≡ Some x → linked all (map (λ row. row.0) rows) ≡ filter t xs
+          → linked all (map (λ row. row.0) (if b then (n, x) ∷ rows else rows)) ≡ (if b then x ∷ filter t xs else filter t xs)
       by true first h = rw (first, h) refl
       by false first h = h
 
-chosen_are : (links : List Link) (identity : Elements) (want : Want) (d : ℕ) → chosen_targets links identity want d ≡ targets_of (filter (is_chosen identity want d) links)
+chosen_are : (links : List Link) (identity : Elements) (want : Want) (d : ℕ)
+    → chosen_targets links identity want d ≡ targets_of (filter (is_chosen identity want d) links)
 chosen_are links identity want d =
     ap targets_of (linked_by (is_chosen identity want d) links 0 links (λ i x at. (let same : 0 + i ≡ i = omega arith in ap (slice_get links) same ∙ at)))
 
@@ -64,7 +67,8 @@ filter_agrees : (p q : Link → Bool) → ((x : Link) → p x ≡ q x) → (xs :
 filter_agrees p q each [] = refl
 filter_agrees p q each (x ∷ xs) = rw (each x, filter_agrees p q each xs) refl
 
-filter_none_at : (p : Link → Bool) (x : Link) (xs : List Link) (a : Bool) → (a || list_any p xs) ≡ false → (list_any p xs ≡ false → filter p xs ≡ []) → (if a then x ∷ filter p xs else filter p xs) ≡ []
+filter_none_at : (p : Link → Bool) (x : Link) (xs : List Link) (a : Bool) → (a || list_any p xs) ≡ false
+    → (list_any p xs ≡ false → filter p xs ≡ []) → (if a then x ∷ filter p xs else filter p xs) ≡ []
 filter_none_at p x xs true h rest = absurd (let bad : true ≡ false = h in cc)
 filter_none_at p x xs false h rest = rest h
 
@@ -77,7 +81,8 @@ some_any : (p : Link → Bool) (xs : List Link) → has_some (targets_of (filter
 some_any p [] = refl
 some_any p (x ∷ xs) = by (p x) (some_any p xs)
   where
-    by : (a : Bool) → has_some (targets_of (filter p xs)) ≡ list_any p xs → has_some (targets_of (if a then x ∷ filter p xs else filter p xs)) ≡ (a || list_any p xs)
+    by : (a : Bool) → has_some (targets_of (filter p xs)) ≡ list_any p xs
+        → has_some (targets_of (if a then x ∷ filter p xs else filter p xs)) ≡ (a || list_any p xs)
     by true h = refl
     by false h = h
 
@@ -125,7 +130,8 @@ module _ (table : List AiRow) (voc : List ℕ) (identity : Elements) (d : ℕ) w
   unfolding is_candidate
   by_anchor x y same = rw same refl
 
-  kept_at : (x : Link) → IsKept table voc x → is_at_prefix x ≡ true → (link : Link) → IsKept table voc link → is_at_prefix link ≡ bytes_eq (anchor_text link) (anchor_text x)
+  kept_at : (x : Link) → IsKept table voc x → is_at_prefix x ≡ true → (link : Link) → IsKept table voc link
+      → is_at_prefix link ≡ bytes_eq (anchor_text link) (anchor_text x)
   kept_at x kept own link kept_link =
       one_truth (is_at_prefix link) (bytes_eq (anchor_text link) (anchor_text x))
       (λ h. (let same : link.anchor ≡ x.anchor = chosen_anchor identity Any d link h ∙ sym (chosen_anchor identity Any d x own) in rw same (same_bytes (anchor_text x))))
@@ -135,7 +141,8 @@ module _ (table : List AiRow) (voc : List ℕ) (identity : Elements) (d : ℕ) w
       let same : link.anchor ≡ x.anchor = cc in
       by_anchor link x same ∙ own))
 
-  links_at_prefix : (x : Link) → IsKept table voc x → is_at_prefix x ≡ true → (links : List Link) → All (IsKept table voc) links → filter is_at_prefix links ≡ links_at (anchor_text x) links
+  links_at_prefix : (x : Link) → IsKept table voc x → is_at_prefix x ≡ true → (links : List Link) → All (IsKept table voc) links
+      → filter is_at_prefix links ≡ links_at (anchor_text x) links
   links_at_prefix x kept own [] h = refl
   links_at_prefix x kept own (link ∷ links) h =
       rw (kept_at x kept own link (All-head (IsKept table voc) link links h), links_at_prefix x kept own links (All-tail (IsKept table voc) link links h)) refl
@@ -185,7 +192,9 @@ and_turned true false true = refl
 and_turned true false false = refl
 and_turned false b c = refl
 
-chosen_by : (identity : Elements) (name : List ℕ) (want : Want) (d : ℕ) → ((link : Link) → is_candidate identity want link ≡ (is_prefix link.anchor identity && bytes_eq name link.relation)) → (links : List Link)
+chosen_by : (identity : Elements) (name : List ℕ) (want : Want) (d : ℕ)
+    → ((link : Link) → is_candidate identity want link ≡ (is_prefix link.anchor identity && bytes_eq name link.relation))
+    → (links : List Link)
     → targets_of (filter (is_chosen identity want d) links) ≡ targets_of (links_by name (filter (is_chosen identity Any d) links))
 unfolding is_candidate
 chosen_by identity name want d is links =
@@ -197,7 +206,8 @@ chosen_by identity name want d is links =
 
 module _ (table : List AiRow) (rules : KeepsRules table) (voc : List ℕ) (keeps : keeps_names voc ≡ true) (a b m : List Link)
     (store_a : IsStore table voc a) (store_b : IsStore table voc b) (loaded : load_answer table voc (merged a b) ≡ Ok m) (identity : Elements) (want : Want)
-    (name : List ℕ) (other : bytes_eq name (codes "anchor") ≡ false) (is : (link : Link) → is_candidate identity want link ≡ (is_prefix link.anchor identity && bytes_eq name link.relation)) where
+    (name : List ℕ) (other : bytes_eq name (codes "anchor") ≡ false)
+    (is : (link : Link) → is_candidate identity want link ≡ (is_prefix link.anchor identity && bytes_eq name link.relation)) where
   abbrev chosen_links : ℕ → List Link → List Target
   chosen_links d links = targets_of (filter (is_chosen identity want d) links)
 
@@ -219,7 +229,7 @@ module _ (table : List AiRow) (rules : KeepsRules table) (voc : List ℕ) (keeps
       ∙ ap (λ t. list_any (is_chosen identity want d) a || t) (some_any (is_chosen identity want d) b)
 
   chosen_itself : (link : Link) → is_candidate identity want link ≡ true → is_chosen identity want (depth_of link) link ≡ true
-  chosen_itself link h = and_true (is_candidate identity want link) (depth_of link == depth_of link) h (eq-eqb (depth_of link) (depth_of link) refl)
+  chosen_itself link h = and_from (is_candidate identity want link) (depth_of link == depth_of link) h (eq-eqb (depth_of link) (depth_of link) refl)
 
   -- a depth at which a link is chosen is at most the depth of the choice
   depth_reached : (d : ℕ) (links : List Link) → list_any (is_chosen identity want d) links ≡ true → d ≤ chosen_depth links identity want
@@ -259,7 +269,8 @@ module _ (table : List AiRow) (rules : KeepsRules table) (voc : List ℕ) (keeps
         rw (chosen_are a identity want d, chosen_are b identity want d, chosen_are m identity want d) (merged_at_depth d),
       )
 
-pub chooses : (table : List AiRow) → KeepsRules table → (voc : List ℕ) → keeps_names voc ≡ true → (a b m : List Link) → IsStore table voc a → IsStore table voc b → load_answer table voc (merged a b) ≡ Ok m
+pub chooses : (table : List AiRow) → KeepsRules table → (voc : List ℕ) → keeps_names voc ≡ true → (a b m : List Link) → IsStore table voc a
+    → IsStore table voc b → load_answer table voc (merged a b) ≡ Ok m
     → (identity : Elements) (want : Want) → IsOfRelation want
     → (chosen_depth m identity want ≡ larger_depth a b identity want)
     × (chosen_targets m identity want (larger_depth a b identity want) ≡ distinct (chosen_targets a identity want (larger_depth a b identity want) ++ chosen_targets b identity want (larger_depth a b identity want)))

@@ -9,22 +9,19 @@ use Rattle.std.specs.Ordering.{is_eq, is_lt, nat_cmp, ordering_reverse}
 use Rattle.std.specs.Str.{bytes_eq}
 use Rattle.std.proofs.lemmas.Cmp.{nat_list_cmp_total, tied_itself}
 use Rattle.std.proofs.lemmas.Map.Lookups.{exact_bytes}
-use Rattle.gs_chars.proofs.TruthsAndLists.{and_true, equal_bytes, false_from, or_false, same_bytes, one_truth}
+use Rattle.gs_chars.proofs.TruthsAndLists.{equal_bytes, or_false, same_bytes, one_truth}
 use Rattle.gs_linkset.specs.LinkShapes.{ascend, is_below_first}
 use Rattle.gs_linkset.proofs.NameSets.{Ascend, IsBelow, ascend_put, below_trans, has, has_put}
 use Rattle.gs_links.proofs.RunLemmas.{equal_swapped}
 use Rattle.gs_merge.specs.MergedDocuments.{ascending}
-
-equal_from : (o : Ordering) → is_eq o ≡ true → o ≡ Equal
-equal_from Less h = absurd (cc)
-equal_from Equal h = refl
-equal_from Greater h = absurd (cc)
+use Rattle.gs_ident.proofs.CodeOrder.{equal_order}
+use Rattle.std.proofs.lemmas.Bool.{and_from, false_from_ne_true}
 
 -- a map finds a name at itself
 pub at_is_same : (a b : List ℕ) → is_at (slice_cmp nat_cmp a) b ≡ bytes_eq a b
 at_is_same a b =
     one_truth (is_at (slice_cmp nat_cmp a) b) (bytes_eq a b)
-    (λ h. (let e = exact_bytes a b (equal_from (slice_cmp nat_cmp a b) h) in rw e (same_bytes b)))
+    (λ h. (let e = exact_bytes a b (equal_order (slice_cmp nat_cmp a b) h) in rw e (same_bytes b)))
     (λ h. (let e = equal_bytes a b h in rw e (ap is_eq (tied_itself nat_list_cmp_total b))))
 
 -- ---- names each once
@@ -35,7 +32,8 @@ or_front true false c = refl
 or_front false true c = refl
 or_front false false c = refl
 
-has_fold : (t : List ℕ) (names : List (List ℕ)) (texts : List (List ℕ)) → has t (fold (insert_key (slice_cmp nat_cmp)) names texts) ≡ (has t names || has t texts)
+has_fold : (t : List ℕ) (names : List (List ℕ)) (texts : List (List ℕ))
+    → has t (fold (insert_key (slice_cmp nat_cmp)) names texts) ≡ (has t names || has t texts)
 has_fold t names [] = sym (or_false (has t names))
 has_fold t names (x ∷ texts) =
     has_fold t (insert_key (slice_cmp nat_cmp) names x) texts
@@ -58,13 +56,13 @@ pub ascend_test : (names : List (List ℕ)) → Ascend names → ascend names �
 unfolding IsStrictlySortedBy
 ascend_test [] h = refl
 ascend_test (a ∷ []) h = refl
-ascend_test (a ∷ b ∷ names) h = and_true (is_below_first a (b ∷ names)) (ascend (b ∷ names)) (ap is_lt h.0.0) (ascend_test (b ∷ names) h.1)
+ascend_test (a ∷ b ∷ names) h = and_from (is_below_first a (b ∷ names)) (ascend (b ∷ names)) (ap is_lt h.0.0) (ascend_test (b ∷ names) h.1)
 
 -- ---- names that ascend and are the same are one list
 
 not_below_itself : (a b : List ℕ) → slice_cmp nat_cmp a b ≡ Less → bytes_eq a b ≡ false
 not_below_itself a b less =
-    false_from (bytes_eq a b) (λ h. (
+    false_from_ne_true (bytes_eq a b) (λ h. (
     let e = equal_bytes a b h in
     let tied = tied_itself nat_list_cmp_total b in
     let g : Less ≡ Equal = sym (rw e at less) ∙ tied in
@@ -77,7 +75,8 @@ below_is_none a [] h = refl
 below_is_none a (b ∷ names) h = rw (not_below_itself a b h.0) (below_is_none a names h.1)
 
 -- the first of two lists with the same names
-first_same : (a b : List ℕ) (xs ys : List (List ℕ)) → IsBelow a xs → IsBelow b ys → has a (b ∷ ys) ≡ true → has b (a ∷ xs) ≡ true → (o : Ordering) → slice_cmp nat_cmp a b ≡ o → a ≡ b
+first_same : (a b : List ℕ) (xs ys : List (List ℕ)) → IsBelow a xs → IsBelow b ys → has a (b ∷ ys) ≡ true → has b (a ∷ xs) ≡ true
+    → (o : Ordering) → slice_cmp nat_cmp a b ≡ o → a ≡ b
 first_same a b xs ys below above ha hb Equal is = exact_bytes a b is
 first_same a b xs ys below above ha hb Less is =
     let none = below_is_none a ys (below_trans a b ys is above) in
@@ -87,13 +86,15 @@ first_same a b xs ys below above ha hb Greater is =
     let none = below_is_none b xs (below_trans b a xs less below) in
     absurd (let g = rw (not_below_itself b a less, none) at hb in let bad : false ≡ true = g in cc)
 
-rest_by : (a t : List ℕ) (xs ys : List (List ℕ)) (x : Bool) → bytes_eq t a ≡ x → IsBelow a xs → IsBelow a ys → (x || has t xs) ≡ (x || has t ys) → has t xs ≡ has t ys
+rest_by : (a t : List ℕ) (xs ys : List (List ℕ)) (x : Bool) → bytes_eq t a ≡ x → IsBelow a xs → IsBelow a ys
+    → (x || has t xs) ≡ (x || has t ys) → has t xs ≡ has t ys
 rest_by a t xs ys true e below above h =
     let same = equal_bytes t a e in
     rw same (below_is_none a xs below ∙ sym (below_is_none a ys above))
 rest_by a t xs ys false e below above h = h
 
-rest_same : (a : List ℕ) (xs ys : List (List ℕ)) → IsBelow a xs → IsBelow a ys → ((t : List ℕ) → has t (a ∷ xs) ≡ has t (a ∷ ys)) → (t : List ℕ) → has t xs ≡ has t ys
+rest_same : (a : List ℕ) (xs ys : List (List ℕ)) → IsBelow a xs → IsBelow a ys → ((t : List ℕ) → has t (a ∷ xs) ≡ has t (a ∷ ys))
+    → (t : List ℕ) → has t xs ≡ has t ys
 rest_same a xs ys below above each t = rest_by a t xs ys (bytes_eq t a) refl below above (each t)
 
 pub one_list : (xs ys : List (List ℕ)) → Ascend xs → Ascend ys → ((t : List ℕ) → has t xs ≡ has t ys) → xs ≡ ys
@@ -112,7 +113,8 @@ one_list (a ∷ xs) (b ∷ ys) ha hb each =
 
 -- ---- one name of them
 
-only_at : (t n : List ℕ) (names : List (List ℕ)) (b : Bool) → bytes_eq n t ≡ b → IsBelow n names → filter (λ m. bytes_eq m t) names ≡ (if has t names then t ∷ [] else [])
+only_at : (t n : List ℕ) (names : List (List ℕ)) (b : Bool) → bytes_eq n t ≡ b → IsBelow n names
+    → filter (λ m. bytes_eq m t) names ≡ (if has t names then t ∷ [] else [])
     → (if b then n ∷ filter (λ m. bytes_eq m t) names else filter (λ m. bytes_eq m t) names) ≡ (if b || has t names then t ∷ [] else [])
 only_at t n names true e below h =
     let same = equal_bytes n t e in

@@ -3,7 +3,7 @@ use Rattle.std.proofs.Common.{◌≡◌, ℕ, Bool, true, List, [], ◌∷◌, r
 use Rattle.std.specs.Cmp.Lexicographic.{pointwise}
 use Rattle.std.specs.List.{list_all, list_any}
 use Rattle.std.specs.Str.{bytes_eq}
-use Rattle.gs_chars.proofs.TruthsAndLists.{and_first, and_second, and_true, equal_bytes, same_bytes, one_truth}
+use Rattle.gs_chars.proofs.TruthsAndLists.{and_first, and_second, equal_bytes, same_bytes, one_truth}
 use Rattle.gs_linkset.specs.LinkShapes.{is_target}
 use Rattle.gs_linkset.specs.WrittenTrees.{target_text}
 use Rattle.gs_linkset.specs.declared.link_types.Attr.{Attr}
@@ -12,11 +12,12 @@ use Rattle.gs_linkset.specs.declared.link_types.AttrValue.TheVariants.{One, Many
 use Rattle.gs_linkset.specs.declared.link_types.Target.{Target}
 use Rattle.gs_linkset.proofs.RoundTrip.{same_by_text}
 use Rattle.gs_merge.specs.Distinct.{is_same_attr, is_same_pair, is_same_target, is_same_value}
+use Rattle.std.proofs.lemmas.Bool.{and_from}
 
 module _ {X : Type 0} (same : X → X → Bool) where
   all_same : ((x : X) → same x x ≡ true) → (xs : List X) → pointwise same xs xs ≡ true
   all_same itself [] = refl
-  all_same itself (x ∷ xs) = and_true (same x x) (pointwise same xs xs) (itself x) (all_same itself xs)
+  all_same itself (x ∷ xs) = and_from (same x x) (pointwise same xs xs) (itself x) (all_same itself xs)
 
   all_one : ((x y : X) → same x y ≡ true → x ≡ y) → (xs ys : List X) → pointwise same xs ys ≡ true → xs ≡ ys
   all_one one [] [] h = refl
@@ -28,7 +29,7 @@ module _ {X : Type 0} (same : X → X → Bool) where
       rw (first, rest) refl
 
 pair_itself : (a : List ℕ × List ℕ) → is_same_pair a a ≡ true
-pair_itself a = and_true (bytes_eq a.0 a.0) (bytes_eq a.1 a.1) (same_bytes a.0) (same_bytes a.1)
+pair_itself a = and_from (bytes_eq a.0 a.0) (bytes_eq a.1 a.1) (same_bytes a.0) (same_bytes a.1)
 
 pair_one : (a b : List ℕ × List ℕ) → is_same_pair a b ≡ true → a ≡ b
 pair_one (t, l) (u, m) h =
@@ -53,7 +54,7 @@ value_one (Tagged a) (One b) h = absurd (cc)
 value_one (Tagged a) (Many b) h = absurd (cc)
 
 attr_itself : (a : Attr) → is_same_attr a a ≡ true
-attr_itself a = and_true (bytes_eq a.name a.name) (is_same_value a.value a.value) (same_bytes a.name) (value_itself a.value)
+attr_itself a = and_from (bytes_eq a.name a.name) (is_same_value a.value a.value) (same_bytes a.name) (value_itself a.value)
 
 attr_one : (a b : Attr) → is_same_attr a b ≡ true → a ≡ b
 attr_one a b h =
@@ -63,7 +64,7 @@ attr_one a b h =
 
 pub target_itself : (a : Target) → is_same_target a a ≡ true
 unfolding is_same_target
-target_itself a = and_true (bytes_eq a.href a.href) (pointwise is_same_attr a.attrs a.attrs) (same_bytes a.href) (all_same is_same_attr attr_itself a.attrs)
+target_itself a = and_from (bytes_eq a.href a.href) (pointwise is_same_attr a.attrs a.attrs) (same_bytes a.href) (all_same is_same_attr attr_itself a.attrs)
 
 pub target_one : (a b : Target) → is_same_target a b ≡ true → a ≡ b
 unfolding is_same_target

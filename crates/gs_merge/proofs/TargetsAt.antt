@@ -45,12 +45,14 @@ some_mapped f (x ∷ xs) = refl
 
 -- ---- the targets of a document
 
-relation_targets_by : (links : List Link) (name : List ℕ) (b : Bool) → has_some (links_by name links) ≡ b → flat_map (λ (r : Relation). r.targets) (map (relation_with links) (if b then name ∷ [] else [])) ≡ distinct (targets_of (links_by name links))
+relation_targets_by : (links : List Link) (name : List ℕ) (b : Bool) → has_some (links_by name links) ≡ b
+    → flat_map (λ (r : Relation). r.targets) (map (relation_with links) (if b then name ∷ [] else [])) ≡ distinct (targets_of (links_by name links))
 unfolding distinct
 relation_targets_by links name true e = append-nil (distinct (targets_of (links_by name links)))
 relation_targets_by links name false e = rw (nothing (links_by name links) e) refl
 
-relation_targets : (links : List Link) (name : List ℕ) → flat_map (λ (r : Relation). r.targets) (filter (λ (r : Relation). bytes_eq r.name name) (relations_of links)) ≡ distinct (targets_of (links_by name links))
+relation_targets : (links : List Link) (name : List ℕ)
+    → flat_map (λ (r : Relation). r.targets) (filter (λ (r : Relation). bytes_eq r.name name) (relations_of links)) ≡ distinct (targets_of (links_by name links))
 relation_targets links name =
     let names = map (λ (l : Link). l.relation) links in
     let here = has_ascending name names ∙ has_key (λ l. l.relation) name links in
@@ -63,7 +65,8 @@ context_targets_by : (links : List Link) (text name : List ℕ) (b : Bool) → h
     → flat_map (λ (r : Relation). r.targets) (filter (λ (r : Relation). bytes_eq r.name name) (flat_map (λ (c : Context). c.relations) (map (context_with links) (if b then text ∷ [] else [])))) ≡ distinct (targets_at links text name)
 unfolding distinct
 context_targets_by links text name true e =
-    ap (λ rs. flat_map (λ (r : Relation). r.targets) (filter (λ (r : Relation). bytes_eq r.name name) rs)) (append-nil (relations_of (links_at text links))) ∙ relation_targets (links_at text links) name
+    ap (λ rs. flat_map (λ (r : Relation). r.targets) (filter (λ (r : Relation). bytes_eq r.name name) rs))
+    (append-nil (relations_of (links_at text links))) ∙ relation_targets (links_at text links) name
 context_targets_by links text name false e = rw (nothing (links_at text links) e) refl
 
 pub document_targets : (links : List Link) (text name : List ℕ) → targets_in (contexts_of links) text name ≡ distinct (targets_at links text name)
@@ -79,19 +82,23 @@ document_targets links text name =
 
 -- ---- a document is known by its targets
 
-has_name : (links : List Link) (name : List ℕ) → has name (ascending (map (λ (l : Link). l.relation) links)) ≡ has_some (distinct (targets_of (links_by name links)))
+has_name : (links : List Link) (name : List ℕ)
+    → has name (ascending (map (λ (l : Link). l.relation) links)) ≡ has_some (distinct (targets_of (links_by name links)))
 unfolding distinct
 has_name links name =
     has_ascending name (map (λ (l : Link). l.relation) links) ∙ has_key (λ l. l.relation) name links
     ∙ sym (some_mapped (λ (l : Link). l.target) (links_by name links))
     ∙ sym (some_distinct is_same_target target_itself target_one (targets_of (links_by name links)))
 
-same_relations : (xs ys : List Link) → ((name : List ℕ) → distinct (targets_of (links_by name xs)) ≡ distinct (targets_of (links_by name ys))) → relations_of xs ≡ relations_of ys
+same_relations : (xs ys : List Link)
+    → ((name : List ℕ) → distinct (targets_of (links_by name xs)) ≡ distinct (targets_of (links_by name ys)))
+    → relations_of xs ≡ relations_of ys
 same_relations xs ys each =
     let names_x = map (λ (l : Link). l.relation) xs in
     let names_y = map (λ (l : Link). l.relation) ys in
     let names = one_list (ascending names_x) (ascending names_y) (ascending_ascends names_x) (ascending_ascends names_y) (λ t. has_name xs t ∙ ap has_some (each t) ∙ sym (has_name ys t)) in
-    map_agree (relation_with xs) (relation_with ys) (λ n. ap (λ ts. record { name = n; targets = ts }) (each n)) (ascending names_x) ∙ ap (map (relation_with ys)) names
+    map_agree (relation_with xs) (relation_with ys) (λ n. ap (λ ts. record { name = n; targets = ts }) (each n)) (ascending names_x) ∙ ap
+    (map (relation_with ys)) names
 
 some_has : (t : List ℕ) (names : List (List ℕ)) → has t names ≡ true → has_some names ≡ true
 some_has t [] h = absurd (let bad : false ≡ true = h in cc)
@@ -103,19 +110,22 @@ some_ascending (t ∷ texts) = some_has t (ascending (t ∷ texts)) (has_ascendi
 
 some_relations : (links : List Link) → has_some (relations_of links) ≡ has_some links
 some_relations links =
-    some_mapped (relation_with links) (ascending (map (λ (l : Link). l.relation) links)) ∙ some_ascending (map (λ (l : Link). l.relation) links) ∙ some_mapped (λ (l : Link). l.relation) links
+    some_mapped (relation_with links) (ascending (map (λ (l : Link). l.relation) links)) ∙ some_ascending
+    (map (λ (l : Link). l.relation) links) ∙ some_mapped (λ (l : Link). l.relation) links
 
 has_text : (links : List Link) (text : List ℕ) → has text (ascending (map anchor_text links)) ≡ has_some (relations_of (links_at text links))
 has_text links text = has_ascending text (map anchor_text links) ∙ has_key anchor_text text links ∙ sym (some_relations (links_at text links))
 
-pub same_contexts : (xs ys : List Link) → ((text name : List ℕ) → distinct (targets_at xs text name) ≡ distinct (targets_at ys text name)) → contexts_of xs ≡ contexts_of ys
+pub same_contexts : (xs ys : List Link) → ((text name : List ℕ) → distinct (targets_at xs text name) ≡ distinct (targets_at ys text name))
+    → contexts_of xs ≡ contexts_of ys
 unfolding contexts_of
 same_contexts xs ys each =
     let texts_x = map anchor_text xs in
     let texts_y = map anchor_text ys in
     let relations : (t : List ℕ) → relations_of (links_at t xs) ≡ relations_of (links_at t ys) = (λ t. same_relations (links_at t xs) (links_at t ys) (each t)) in
     let texts = one_list (ascending texts_x) (ascending texts_y) (ascending_ascends texts_x) (ascending_ascends texts_y) (λ t. has_text xs t ∙ ap has_some (relations t) ∙ sym (has_text ys t)) in
-    map_agree (context_with xs) (context_with ys) (λ t. ap (λ rs. record { anchor = t; relations = rs }) (relations t)) (ascending texts_x) ∙ ap (map (context_with ys)) texts
+    map_agree (context_with xs) (context_with ys) (λ t. ap (λ rs. record { anchor = t; relations = rs }) (relations t))
+    (ascending texts_x) ∙ ap (map (context_with ys)) texts
 
 -- ---- concatenated links, and links of a relation
 
@@ -125,7 +135,8 @@ targets_append xs ys text name =
     ∙ ap targets_of (filter-append (λ l. bytes_eq l.relation name) (links_at text xs) (links_at text ys))
     ∙ map-append (λ (l : Link). l.target) (links_by name (links_at text xs)) (links_by name (links_at text ys))
 
-named_at : (name : List ℕ) (link : Link) (links : List Link) (b : Bool) → bytes_eq link.relation name ≡ b → bytes_eq name (codes "anchor") ≡ false → with_relation (links_by name links) ≡ links_by name links
+named_at : (name : List ℕ) (link : Link) (links : List Link) (b : Bool) → bytes_eq link.relation name ≡ b
+    → bytes_eq name (codes "anchor") ≡ false → with_relation (links_by name links) ≡ links_by name links
     → with_relation (if b then link ∷ links_by name links else links_by name links) ≡ (if b then link ∷ links_by name links else links_by name links)
 named_at name link links true e other h = let same = equal_bytes link.relation name e in rw (same, other, h) refl
 named_at name link links false e other h = h
@@ -135,18 +146,22 @@ named_kept name [] other = refl
 named_kept name (link ∷ links) other = named_at name link links (bytes_eq link.relation name) refl other (named_kept name links other)
 
 -- the links of other relations than `anchor` have the targets of each of these
-pub targets_with_relation : (links : List Link) (text name : List ℕ) → bytes_eq name (codes "anchor") ≡ false → targets_at (with_relation links) text name ≡ targets_at links text name
+pub targets_with_relation : (links : List Link) (text name : List ℕ) → bytes_eq name (codes "anchor") ≡ false
+    → targets_at (with_relation links) text name ≡ targets_at links text name
 targets_with_relation links text name other =
     ap (λ ls. targets_of (links_by name ls)) (filter_swap (λ l. bytes_eq (anchor_text l) text) (λ l. not (bytes_eq l.relation (codes "anchor"))) links)
     ∙ ap targets_of (filter_swap (λ l. bytes_eq l.relation name) (λ l. not (bytes_eq l.relation (codes "anchor"))) (links_at text links) ∙ named_kept name (links_at text links) other)
 
-merged_at : (a b : List Link) (text name : List ℕ) → targets_at (with_relation (a ++ b)) text name ≡ targets_at (with_relation a) text name ++ targets_at (with_relation b) text name
+merged_at : (a b : List Link) (text name : List ℕ)
+    → targets_at (with_relation (a ++ b)) text name ≡ targets_at (with_relation a) text name ++ targets_at (with_relation b) text name
 merged_at a b text name =
-    ap (λ ls. targets_at ls text name) (filter-append (λ l. not (bytes_eq l.relation (codes "anchor"))) a b) ∙ targets_append (with_relation a) (with_relation b) text name
+    ap (λ ls. targets_at ls text name) (filter-append (λ l. not (bytes_eq l.relation (codes "anchor"))) a b) ∙ targets_append
+    (with_relation a) (with_relation b) text name
 
 -- ---- the laws
 
-pub targets_are : (a b : List Link) (text name : List ℕ) → bytes_eq name (codes "anchor") ≡ false → targets_in (merged a b) text name ≡ distinct (targets_at a text name ++ targets_at b text name)
+pub targets_are : (a b : List Link) (text name : List ℕ) → bytes_eq name (codes "anchor") ≡ false
+    → targets_in (merged a b) text name ≡ distinct (targets_at a text name ++ targets_at b text name)
 unfolding merged
 targets_are a b text name other =
     document_targets (with_relation (a ++ b)) text name
@@ -167,7 +182,8 @@ or_turned true false = refl
 or_turned false true = refl
 or_turned false false = refl
 
-any_merged : (a b : List Link) (text name : List ℕ) (t : Target) → has_target (targets_in (merged a b) text name) t ≡ (has_target (targets_at (with_relation a) text name) t || has_target (targets_at (with_relation b) text name) t)
+any_merged : (a b : List Link) (text name : List ℕ) (t : Target)
+    → has_target (targets_in (merged a b) text name) t ≡ (has_target (targets_at (with_relation a) text name) t || has_target (targets_at (with_relation b) text name) t)
 unfolding merged distinct
 any_merged a b text name t =
     ap (list_any (is_same_target t)) (document_targets (with_relation (a ++ b)) text name)
@@ -175,22 +191,29 @@ any_merged a b text name t =
     ∙ ap (list_any (is_same_target t)) (merged_at a b text name)
     ∙ list_any-append (is_same_target t) (targets_at (with_relation a) text name) (targets_at (with_relation b) text name)
 
-pub either_order : (a b : List Link) (text name : List ℕ) (t : Target) → has_target (targets_in (merged a b) text name) t ≡ has_target (targets_in (merged b a) text name) t
+pub either_order : (a b : List Link) (text name : List ℕ) (t : Target)
+    → has_target (targets_in (merged a b) text name) t ≡ has_target (targets_in (merged b a) text name) t
 either_order a b text name t =
     any_merged a b text name t
     ∙ or_turned (has_target (targets_at (with_relation a) text name) t) (has_target (targets_at (with_relation b) text name) t)
     ∙ sym (any_merged b a text name t)
 
 -- of links that have, at each anchor and relation but `anchor`, the targets of the merged document of others
-pub merged_first : (a b ab c : List Link) → ((text name : List ℕ) → bytes_eq name (codes "anchor") ≡ false → targets_at ab text name ≡ targets_in (merged a b) text name)
-    → (text name : List ℕ) → bytes_eq name (codes "anchor") ≡ false → distinct (targets_at ab text name ++ targets_at c text name) ≡ distinct ((targets_at a text name ++ targets_at b text name) ++ targets_at c text name)
+pub merged_first : (a b ab c : List Link)
+    → ((text name : List ℕ) → bytes_eq name (codes "anchor") ≡ false → targets_at ab text name ≡ targets_in (merged a b) text name)
+    → (text name : List ℕ) → bytes_eq name (codes "anchor") ≡ false → distinct
+    (targets_at ab text name ++ targets_at c text name) ≡ distinct
+    ((targets_at a text name ++ targets_at b text name) ++ targets_at c text name)
 unfolding distinct
 merged_first a b ab c is text name other =
     ap (λ ts. distinct (ts ++ targets_at c text name)) (is text name other ∙ targets_are a b text name other)
     ∙ distinct_first is_same_target target_itself target_one (targets_at a text name ++ targets_at b text name) (targets_at c text name)
 
-pub merged_last : (a b c bc : List Link) → ((text name : List ℕ) → bytes_eq name (codes "anchor") ≡ false → targets_at bc text name ≡ targets_in (merged b c) text name)
-    → (text name : List ℕ) → bytes_eq name (codes "anchor") ≡ false → distinct (targets_at a text name ++ targets_at bc text name) ≡ distinct (targets_at a text name ++ (targets_at b text name ++ targets_at c text name))
+pub merged_last : (a b c bc : List Link)
+    → ((text name : List ℕ) → bytes_eq name (codes "anchor") ≡ false → targets_at bc text name ≡ targets_in (merged b c) text name)
+    → (text name : List ℕ) → bytes_eq name (codes "anchor") ≡ false → distinct
+    (targets_at a text name ++ targets_at bc text name) ≡ distinct
+    (targets_at a text name ++ (targets_at b text name ++ targets_at c text name))
 unfolding distinct
 merged_last a b c bc is text name other =
     ap (λ ts. distinct (targets_at a text name ++ ts)) (is text name other ∙ targets_are b c text name other)
@@ -206,12 +229,14 @@ no_anchor [] = refl
 no_anchor (link ∷ links) = no_anchor_at link links (bytes_eq link.relation (codes "anchor")) refl (no_anchor links)
 
 -- two merged documents are equal if they have the same targets at each anchor and each relation except `anchor`
-pub one_merged : (a b c d : List Link) → ((text name : List ℕ) → bytes_eq name (codes "anchor") ≡ false → distinct (targets_at a text name ++ targets_at b text name) ≡ distinct (targets_at c text name ++ targets_at d text name))
+pub one_merged : (a b c d : List Link)
+    → ((text name : List ℕ) → bytes_eq name (codes "anchor") ≡ false → distinct (targets_at a text name ++ targets_at b text name) ≡ distinct (targets_at c text name ++ targets_at d text name))
     → merged a b ≡ merged c d
 unfolding merged
 one_merged a b c d each = same_contexts (with_relation (a ++ b)) (with_relation (c ++ d)) (λ text name. by text name (bytes_eq name (codes "anchor")) refl)
   where
-    known : (x y : List Link) (text name : List ℕ) → bytes_eq name (codes "anchor") ≡ false → targets_at (with_relation (x ++ y)) text name ≡ targets_at x text name ++ targets_at y text name
+    known : (x y : List Link) (text name : List ℕ) → bytes_eq name (codes "anchor") ≡ false
+        → targets_at (with_relation (x ++ y)) text name ≡ targets_at x text name ++ targets_at y text name
     known x y text name other =
         merged_at x y text name
         ∙ ap (λ ts. ts ++ targets_at (with_relation y) text name) (targets_with_relation x text name other)
@@ -221,7 +246,8 @@ one_merged a b c d each = same_contexts (with_relation (a ++ b)) (with_relation 
     none x text =
         ap targets_of (filter_swap (λ l. bytes_eq l.relation (codes "anchor")) (λ l. bytes_eq (anchor_text l) text) (with_relation x) ∙ ap (links_at text) (no_anchor x))
 
-    by : (text name : List ℕ) (t : Bool) → bytes_eq name (codes "anchor") ≡ t → distinct (targets_at (with_relation (a ++ b)) text name) ≡ distinct (targets_at (with_relation (c ++ d)) text name)
+    by : (text name : List ℕ) (t : Bool) → bytes_eq name (codes "anchor") ≡ t
+        → distinct (targets_at (with_relation (a ++ b)) text name) ≡ distinct (targets_at (with_relation (c ++ d)) text name)
     by text name false other = ap distinct (known a b text name other) ∙ each text name other ∙ ap distinct (sym (known c d text name other))
     by text name true e =
         let same = equal_bytes name (codes "anchor") e in

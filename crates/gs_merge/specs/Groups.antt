@@ -45,7 +45,7 @@ abbrev pub some_group : List Link → Option (List Link)
 some_group [] = None
 some_group (link ∷ links) = Some (link ∷ links)
 
--- a map has at each text that has a link the links of it, and no others
+-- holds if a map has at each text that has a link the links of it, and no others
 abbrev pub AreGroups : Grouping → List Link → (List ℕ → Option (List Link)) → Type 0
 AreGroups by links found = (text : List ℕ) → found text ≡ some_group (grouped by links text)
 
@@ -53,6 +53,6 @@ AreGroups by links found = (text : List ℕ) → found text ≡ some_group (grou
 abbrev pub with_target : List Target → Target → List Target
 with_target targets target = if list_any (λ other. is_same_target other target) targets then targets else targets ++ target ∷ []
 
--- a map has the texts of the targets, and no others
+-- holds if a map has the texts of the targets, and no others
 abbrev pub AreTextsOf : List (List ℕ × Unit {0}) → List Target → Type 0
 AreTextsOf entries targets = (text : List ℕ) → is_some (found_at entries text) ≡ list_any (λ target. bytes_eq (target_text target) text) targets

@@ -1,5 +1,5 @@
--- The merged document of the links of stores: RFC 9264, section 4.2, with the canonical link of an anchor as its one name
--- (GS1 Digital Link URI Syntax, section 5). No standard says how link documents are merged: this is the project's own.
+-- The merged document of the links of stores (RFC 9264, section 4.2). An anchor is written only by its canonical link (GS1
+-- Digital Link URI Syntax, section 5). No standard says how link documents are merged: this is the project's own.
 use Rattle.std.specs.Prelude.{◌≡◌, ◌⊎◌, ℕ, Bool, not, nat_lt, if◌then◌else◌, List, [], ◌++◌, codes, filter, fold, map, Result, Ok, Err}
 use Rattle.std.specs.BTreeSet.{insert_key}
 use Rattle.std.specs.Cmp.Lexicographic.{slice_cmp}
@@ -16,7 +16,7 @@ use Rattle.gs_merge.specs.Distinct.{distinct}
 use Rattle.gs_merge.specs.declared.error.MergeFault.{MergeFault}
 use Rattle.gs_merge.specs.declared.error.MergeFault.TheVariants.{TooMany, Memory}
 
--- trusted, own: texts in ascending order of their bytes, each once
+-- trusted, own: the texts in ascending order of their bytes, each once
 abbrev pub ascending : List (List ℕ) → List (List ℕ)
 ascending texts = fold (insert_key (slice_cmp nat_cmp)) [] texts
 
@@ -24,7 +24,7 @@ ascending texts = fold (insert_key (slice_cmp nat_cmp)) [] texts
 abbrev pub anchor_text : Link → List ℕ
 anchor_text link = canonical_link link.anchor
 
--- trusted, RFC 9264, section 4.2.2: `anchor` is not a relation's name, so links of it are left out
+-- trusted, RFC 9264, section 4.2.2: the links with a relation that a document can have, that is, other than `anchor`
 abbrev pub with_relation : List Link → List Link
 with_relation links = filter (λ link. not (bytes_eq link.relation (codes "anchor"))) links
 
@@ -40,7 +40,7 @@ links_by name links = filter (λ link. bytes_eq link.relation name) links
 abbrev pub targets_of : List Link → List Target
 targets_of links = map (λ link. link.target) links
 
--- trusted, RFC 9264, section 4.2.3: a relation with the targets of its links, each equal one once
+-- trusted, RFC 9264, section 4.2.3: the relation `name` with the targets of its links, each equal one once
 abbrev pub relation_with : List Link → List ℕ → Relation
 relation_with links name = record { name = name; targets = distinct (targets_of (links_by name links)) }
 
@@ -48,7 +48,7 @@ relation_with links name = record { name = name; targets = distinct (targets_of 
 abbrev pub relations_of : List Link → List Relation
 relations_of links = map (relation_with links) (ascending (map (λ link. link.relation) links))
 
--- trusted, RFC 9264, section 4.2.2: an anchor with the relations of its links
+-- trusted, RFC 9264, section 4.2.2: the context of the anchor `text` with the relations of its links
 abbrev pub context_with : List Link → List ℕ → Context
 context_with links text = record { anchor = text; relations = relations_of (links_at text links) }
 
@@ -60,7 +60,7 @@ contexts_of links = map (context_with links) (ascending (map anchor_text links))
 unfoldable pub merged : List Link → List Link → List Context
 merged a b = contexts_of (with_relation (a ++ b))
 
--- trusted, own: a document has more targets than a store may have links
+-- trusted, own: holds if `contexts` have more targets than a store may have links
 abbrev pub is_too_many : List Context → Bool
 is_too_many contexts = nat_lt most_links (targets_count contexts)
 
@@ -68,6 +68,6 @@ is_too_many contexts = nat_lt most_links (targets_count contexts)
 unfoldable pub merge_answer : List Link → List Link → Result (List Context) MergeFault
 merge_answer a b = if is_too_many (merged a b) then Err TooMany else Ok (merged a b)
 
--- trusted, own: the answer, or out of memory
+-- trusted, own: holds if `result` is `answer` or the error `Memory`
 abbrev pub OrMemory : Result (List Context) MergeFault → Result (List Context) MergeFault → Type 0
 OrMemory result answer = (result ≡ Err Memory) ⊎ (result ≡ answer)

@@ -17,12 +17,12 @@ use Rattle.gs_links.specs.declared.link.Want.TheVariants.{All, Relation}
 use Rattle.gs_merge.specs.Distinct.{is_same_target}
 use Rattle.gs_merge.specs.MergedDocuments.{links_at, links_by, targets_of}
 
--- trusted, own: the links of a store: those of a document that loads
+-- trusted, own: holds if `links` are those of a store: a document that loads gives them
 abbrev pub IsStore : List AiRow → List ℕ → List Link → Type 0
 IsStore table voc links = (contexts : List Context) × (load_answer table voc contexts ≡ Ok links)
 
--- trusted, own: Holds if the document loads to its links, by each table and vocabulary by which both lists are the links of a store.
--- The table satisfies the rules, and the vocabulary keeps names.
+-- trusted, own: Holds if `contexts` load to their links, by each table and vocabulary by which `a` and `b` are the links of a
+-- store. The table satisfies the rules, and the vocabulary keeps names.
 abbrev pub LoadsForBoth : List Link → List Link → List Context → Type 0
 LoadsForBoth a b contexts =
     (table : List AiRow) (voc : List ℕ) → KeepsRules table → keeps_names voc ≡ true → IsStore table voc a → IsStore table voc b
@@ -39,7 +39,7 @@ targets_in contexts text name =
     (filter (λ relation. bytes_eq relation.name name)
     (flat_map (λ context. context.relations) (filter (λ context. bytes_eq context.anchor text) contexts)))
 
--- trusted, own: a target is one of the targets
+-- trusted, own: holds if `target` is one of `targets`
 abbrev pub has_target : List Target → Target → Bool
 has_target targets target = list_any (is_same_target target) targets
 
@@ -47,7 +47,7 @@ has_target targets target = list_any (is_same_target target) targets
 abbrev pub chosen_targets : List Link → Elements → Want → ℕ → List Target
 chosen_targets links identity want depth = targets_of (linked links (chosen_at links identity want depth))
 
--- trusted, own: the request wants one relation, and it is not `anchor`
+-- trusted, own: holds if the request wants one relation, and it is not `anchor`
 abbrev pub IsOfRelation : Want → Type 0
 IsOfRelation All = ⊥
 IsOfRelation (Relation wanted) = bytes_eq wanted.now (codes "anchor") ≡ false

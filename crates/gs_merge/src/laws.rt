@@ -53,9 +53,9 @@ pub fn merging_is_associative(table: &AiTable)
     let _ = table.rows();
 }
 
-/// States what the store of the merged document chooses for every identity and every relation except `anchor`. It chooses at the
-/// larger of the two stores' depths: the targets of the first store at this depth, and then those of the second, without
-/// duplicates. So it chooses none if neither has any.
+/// States what the store of the merged document chooses for every identity and every relation except `anchor`. It chooses at
+/// the larger of the two stores' depths. The targets are those of the first store at this depth, and then those of the second,
+/// without duplicates. So it chooses none if neither has any.
 pub fn merged_store_chooses(table: &AiTable)
     ensures depth { (voc : List ℕ) (a b m : List Link) → keeps_names voc ≡ true
         → IsStore table.now voc a → IsStore table.now voc b → load_answer table.now voc (merged a b) ≡ Ok m

@@ -20,21 +20,25 @@ module _ {K : Type 0} (f : K → List ℕ) where
     | inr h ↦ rw h (looked_up p es)
   ]
 
-  inserted : (k : K) (v : ℕ) (es : List (K × ℕ)) → list_any (has_prefix (f k)) (map entry es) ≡ false → insert_entry (λ a b. bytes_eq (f a) (f b)) es k v ≡ es ++ (k, v) ∷ []
+  inserted : (k : K) (v : ℕ) (es : List (K × ℕ)) → list_any (has_prefix (f k)) (map entry es) ≡ false
+      → insert_entry (λ a b. bytes_eq (f a) (f b)) es k v ≡ es ++ (k, v) ∷ []
   inserted k v [] h = refl
   inserted k v (e ∷ es) h = elim (true_or_false (bytes_eq (f k) (f e.0))) [
     | inl t ↦ absurd (let g = rw t at h in let bad : true ≡ false = g in cc)
     | inr t ↦ let g = rw t at h in rw t (ap (λ (rest : List (K × ℕ)). e ∷ rest) (inserted k v es g))
   ]
 
-  pub added : (es new : List (K × ℕ)) (k : K) (v : ℕ) (old : List PrefixEntry) (p : List ℕ) → new ≡ insert_entry (λ a b. bytes_eq (f a) (f b)) es k v → f k ≡ p → map entry es ≡ old → list_any (has_prefix p) old ≡ false → map entry new ≡ old ++ (record { prefix = p; length = v }) ∷ []
+  pub added : (es new : List (K × ℕ)) (k : K) (v : ℕ) (old : List PrefixEntry) (p : List ℕ) → new ≡ insert_entry
+      (λ a b. bytes_eq (f a) (f b)) es k v → f k ≡ p → map entry es ≡ old → list_any (has_prefix p) old ≡ false
+      → map entry new ≡ old ++ (record { prefix = p; length = v }) ∷ []
   added es new k v old p n e m h =
       let fresh : list_any (has_prefix (f k)) (map entry es) ≡ false = rw (m, e) h in
       let last : new ≡ es ++ (k, v) ∷ [] = n ∙ inserted k v es fresh in
       rw (last, map-append, m, e)
 
 -- an entry is found if and only if one has the prefix
-pub found_any : (p : List ℕ) (es : List PrefixEntry) → is_some (option_map (λ (e : PrefixEntry). e.length) (find (has_prefix p) es)) ≡ list_any (has_prefix p) es
+pub found_any : (p : List ℕ) (es : List PrefixEntry)
+    → is_some (option_map (λ (e : PrefixEntry). e.length) (find (has_prefix p) es)) ≡ list_any (has_prefix p) es
 found_any p [] = refl
 found_any p (e ∷ es) = elim (true_or_false (has_prefix p e)) [
   | inl h ↦ rw h refl

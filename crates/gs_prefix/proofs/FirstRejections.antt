@@ -16,7 +16,8 @@ use Rattle.gs_prefix.specs.declared.error.PrefixFault.TheVariants.{Json, Memory}
 -- ---- one list after another
 
 module _ {F : Type 0} (memory : F) where
-  pub first_in_front : {X Y : Type 0} (a b : List F) (x : X) (y : Y) (e : F) → OrError memory (Err e) (first_or a x) → OrError memory (Err e) (first_or (a ++ b) y)
+  pub first_in_front : {X Y : Type 0} (a b : List F) (x : X) (y : Y) (e : F) → OrError memory (Err e) (first_or a x)
+      → OrError memory (Err e) (first_or (a ++ b) y)
   first_in_front a b x y e (inl h) = inl (let same : e ≡ memory = cc in ap Err same)
   first_in_front [] b x y e (inr h) = absurd (let g : Err e ≡ Ok x = h in cc)
   first_in_front (f ∷ a) b x y e (inr h) = inr (let same : e ≡ f = cc in ap Err same)
@@ -26,7 +27,8 @@ module _ {F : Type 0} (memory : F) where
   nothing_in_front [] x z (inr h) = refl
   nothing_in_front (f ∷ a) x z (inr h) = absurd (let g : Ok z ≡ Err f = h in cc)
 
-  pub first_behind : {X Y : Type 0} (a b : List F) (x z : X) (y : Y) (answer : Result Y F) → OrError memory (Ok z) (first_or a x) → OrError memory answer (first_or b y) → OrError memory answer (first_or (a ++ b) y)
+  pub first_behind : {X Y : Type 0} (a b : List F) (x z : X) (y : Y) (answer : Result Y F) → OrError memory (Ok z) (first_or a x)
+      → OrError memory answer (first_or b y) → OrError memory answer (first_or (a ++ b) y)
   first_behind a b x z y answer none h = rw (nothing_in_front a x z none) h
 
 -- the same of answers that are never out of memory
@@ -42,7 +44,8 @@ rejected_in_front (f ∷ a) b x y e h = let same : e ≡ f = cc in ap Err same
 
 module _ {X E : Type 0} (f : ℕ × X → List E) where
   -- the rejections of rows that are counted from n; only the row at index i has any
-  split_from : (n : ℕ) (xs : List X) (i : ℕ) (x : X) → slice_get xs i ≡ Some x → flat_map f (enumerate_from n (take i xs)) ≡ [] → (rest : List E) × (flat_map f (enumerate_from n xs) ≡ f (n + i, x) ++ rest)
+  split_from : (n : ℕ) (xs : List X) (i : ℕ) (x : X) → slice_get xs i ≡ Some x → flat_map f (enumerate_from n (take i xs)) ≡ []
+      → (rest : List E) × (flat_map f (enumerate_from n xs) ≡ f (n + i, x) ++ rest)
   split_from n [] i x at none = absurd (let g : None ≡ Some x = at in cc)
   split_from n (y ∷ ys) zero x at none =
       let same : y ≡ x = cc in
@@ -54,7 +57,8 @@ module _ {X E : Type 0} (f : ℕ × X → List E) where
       let rest = split_from (n + 1) ys i x at parts.1 in
       rw (parts.0, here) (rest.0, rest.1)
 
-  more_from : (n : ℕ) (xs : List X) (i : ℕ) (x : X) → slice_get xs i ≡ Some x → flat_map f (enumerate_from n (take i xs)) ≡ [] → f (n + i, x) ≡ [] → flat_map f (enumerate_from n (take (suc i) xs)) ≡ []
+  more_from : (n : ℕ) (xs : List X) (i : ℕ) (x : X) → slice_get xs i ≡ Some x → flat_map f (enumerate_from n (take i xs)) ≡ []
+      → f (n + i, x) ≡ [] → flat_map f (enumerate_from n (take (suc i) xs)) ≡ []
   more_from n [] i x at none h = absurd (let g : None ≡ Some x = at in cc)
   more_from n (y ∷ ys) zero x at none h =
       let same : y ≡ x = cc in
@@ -68,10 +72,12 @@ module _ {X E : Type 0} (f : ℕ × X → List E) where
       rw parts.0 (more_from (n + 1) ys i x at parts.1 h')
 
   -- the row at a place is the first that may have a rejection
-  pub split_at : (xs : List X) (i : ℕ) (x : X) → slice_get xs i ≡ Some x → flat_map f (enumerate_from 0 (take i xs)) ≡ [] → (rest : List E) × (flat_map f (enumerate_from 0 xs) ≡ f (i, x) ++ rest)
+  pub split_at : (xs : List X) (i : ℕ) (x : X) → slice_get xs i ≡ Some x → flat_map f (enumerate_from 0 (take i xs)) ≡ []
+      → (rest : List E) × (flat_map f (enumerate_from 0 xs) ≡ f (i, x) ++ rest)
   split_at xs i x at none = let own : 0 + i ≡ i = omega arith in rw own at (split_from 0 xs i x at none)
 
-  pub one_more : (xs : List X) (i : ℕ) (x : X) → slice_get xs i ≡ Some x → flat_map f (enumerate_from 0 (take i xs)) ≡ [] → f (i, x) ≡ [] → flat_map f (enumerate_from 0 (take (i + 1) xs)) ≡ []
+  pub one_more : (xs : List X) (i : ℕ) (x : X) → slice_get xs i ≡ Some x → flat_map f (enumerate_from 0 (take i xs)) ≡ [] → f (i, x) ≡ []
+      → flat_map f (enumerate_from 0 (take (i + 1) xs)) ≡ []
   one_more xs i x at none h =
       let own : i ≡ 0 + i = omega arith in
       let next : i + 1 ≡ suc i = omega arith in
@@ -97,7 +103,8 @@ judged_by (f ∷ errors) (json.Lacks p) h = inr (let same : json.Lacks p ≡ f =
 judged_by (f ∷ errors) (json.Kind p) h = inr (let same : json.Kind p ≡ f = cc in rw same refl)
 judged_by (f ∷ errors) (json.Unknown p) h = inr (let same : json.Unknown p ≡ f = cc in rw same refl)
 
-pub judged : (errors : List JsonFault) (error : JsonFault) → JsonOrMemory (Err error) (first_error errors) → OrMemory (Err (of_json error)) (first_or (map Json errors) unit)
+pub judged : (errors : List JsonFault) (error : JsonFault) → JsonOrMemory (Err error) (first_error errors)
+    → OrMemory (Err (of_json error)) (first_or (map Json errors) unit)
 judged errors error (inl h) = let same : error ≡ json.Memory = cc in rw same (inl refl)
 judged errors error (inr h) = judged_by errors error h
 
@@ -107,6 +114,7 @@ pub mapped_all : {X Y : Type 0} (f : X → Y) (xs : List X) (i : ℕ) (ys : List
 mapped_all f xs i ys all so_far = rw (take_all i xs all) at so_far
 
 -- one item more that was read
-pub mapped_step : {X Y : Type 0} (f : X → Y) (xs : List X) (i : ℕ) (x : X) (done new : List Y) (y : Y) → i < length xs → x ≡ get_or xs i x → done ≡ map f (take i xs) → new ≡ done ++ y ∷ [] → y ≡ f x
+pub mapped_step : {X Y : Type 0} (f : X → Y) (xs : List X) (i : ℕ) (x : X) (done new : List Y) (y : Y) → i < length xs → x ≡ get_or xs i x
+    → done ≡ map f (take i xs) → new ≡ done ++ y ∷ [] → y ≡ f x
     → new ≡ map f (take (i + 1) xs)
 mapped_step f xs i x done new y low here so_far e own = rw (e, so_far, own, take_more xs i x low, map-append) (ap (λ z. map f (take i xs) ++ f z ∷ []) here)

@@ -3,11 +3,12 @@ use Rattle.std.proofs.Common.{◌≡◌, ℕ, zero, suc, ◌+◌, ◌-◌, ◌<�
 use Rattle.std.specs.List.{list_all}
 use Rattle.std.specs.Option.{IfSome}
 use Rattle.std.proofs.lemmas.Bool.Decides.{nat_tests}
-use Rattle.gs_chars.proofs.TruthsAndLists.{and_first, and_second, and_true, equal_bytes, true_or_false, few_taken, one_truth as same_test}
+use Rattle.gs_chars.proofs.TruthsAndLists.{and_first, and_second, equal_bytes, true_or_false, few_taken, one_truth as same_test, one_or_none}
 use Rattle.gs_chars.specs.Characters.{are_digits}
 use Rattle.gs_prefix.specs.declared.entry.PrefixEntry.{PrefixEntry}
 use Rattle.gs_prefix.specs.Lengths.{begins, beginning, has_prefix, is_longest, is_prefix, longest_entry, length_of_longest}
 use Rattle.gs_prefix.specs.LengthsSupport.{is_entry}
+use Rattle.std.proofs.lemmas.Bool.{and_from}
 
 -- ---- tests
 
@@ -61,7 +62,7 @@ all_at p (y ∷ ys) x h (suc i, at) = all_at p ys x (and_second (p y) (list_all 
 all_of_filter : {X : Type 0} (p q : X → Bool) (xs : List X) → ((x : X) → IsIn x xs → q x ≡ true → p x ≡ true) → list_all p (filter q xs) ≡ true
 all_of_filter p q [] each = refl
 all_of_filter p q (x ∷ xs) each = elim (true_or_false (q x)) [
-  | inl h ↦ rw h (and_true (p x) (list_all p (filter q xs)) (each x (zero, refl) h) (all_of_filter p q xs (λ y there. each y (later y x xs there))))
+  | inl h ↦ rw h (and_from (p x) (list_all p (filter q xs)) (each x (zero, refl) h) (all_of_filter p q xs (λ y there. each y (later y x xs there))))
   | inr h ↦ rw h (all_of_filter p q xs (λ y there. each y (later y x xs there)))
 ]
 
@@ -125,7 +126,8 @@ module _ (entries : List PrefixEntry) (digits : List ℕ) (ok : list_all is_entr
             absurd (true≢false (sym h ∙ found_none (has_prefix (take (length x.prefix) digits)) entries x (none (length x.prefix) longer low f.within) there))
       ]
 
-  pub longest_found : (n : ℕ) (e : PrefixEntry) → n ≤ length digits → NoneFrom (n + 1) → find (has_prefix (take n digits)) entries ≡ Some e → longest_entry entries digits ≡ Some e
+  pub longest_found : (n : ℕ) (e : PrefixEntry) → n ≤ length digits → NoneFrom (n + 1) → find (has_prefix (take n digits)) entries ≡ Some e
+      → longest_entry entries digits ≡ Some e
   unfolding longest_entry
   longest_found n e within none h =
       let there = found (has_prefix (take n digits)) entries e h in
@@ -145,7 +147,7 @@ module _ (entries : List PrefixEntry) (digits : List ℕ) (ok : list_all is_entr
       (λ t.
       let own = equal_bytes (take n digits) x.prefix t in
       let exact : length x.prefix ≡ n = sym (ap length own) ∙ length_take n digits within in
-      and_true (begins digits x) (is_longest (beginning entries digits) x) (rw exact t)
+      and_from (begins digits x) (is_longest (beginning entries digits) x) (rw exact t)
       (all_of_filter (λ other. nat_le (length other.prefix) (length x.prefix)) (begins digits) entries (λ y at begun.
       let most = no_longer n none y at begun in
       let few : length y.prefix ≤ length x.prefix = omega arith in
@@ -166,13 +168,9 @@ module _ (entries : List PrefixEntry) (digits : List ℕ) (ok : list_all is_entr
 
   -- ---- the length of the entry that is found
 
-  some_or_none : {X : Type 0} (o : Option X) → ((x : X) × (o ≡ Some x)) ⊎ (o ≡ None)
-  some_or_none (Some x) = inl (x, refl)
-  some_or_none None = inr refl
-
   module _ (n : ℕ) (r : Option ℕ) (h : r ≡ option_map (λ entry. entry.length) (find (has_prefix (take n digits)) entries)) (some : is_some r ≡ true) where
     found_entry : (e : PrefixEntry) × (find (has_prefix (take n digits)) entries ≡ Some e) × (r ≡ Some e.length)
-    found_entry = elim (some_or_none (find (has_prefix (take n digits)) entries)) [
+    found_entry = elim (one_or_none (find (has_prefix (take n digits)) entries)) [
       | inl e ↦ (e.0, e.1, let f = rw e.1 at h in f)
       | inr e ↦ let f : r ≡ None = rw e at h in absurd (true≢false (sym some ∙ ap is_some f))
     ]
@@ -193,7 +191,8 @@ module _ (entries : List PrefixEntry) (digits : List ℕ) (ok : list_all is_entr
   length_none none = rw (longest_none none) refl
 
 -- one more prefix that is not an entry
-pub none_found : (entries : List PrefixEntry) (digits : List ℕ) (n : ℕ) (r : Option ℕ) → 1 ≤ n → r ≡ option_map (λ entry. entry.length) (find (has_prefix (take (n - 1) digits)) entries) → is_some r ≡ false
+pub none_found : (entries : List PrefixEntry) (digits : List ℕ) (n : ℕ) (r : Option ℕ) → 1 ≤ n
+    → r ≡ option_map (λ entry. entry.length) (find (has_prefix (take (n - 1) digits)) entries) → is_some r ≡ false
     → ((k : ℕ) → n ≤ k → k < 13 → k ≤ length digits → find (has_prefix (take k digits)) entries ≡ None)
     → (k : ℕ) → n - 1 ≤ k → k < 13 → k ≤ length digits → find (has_prefix (take k digits)) entries ≡ None
 none_found entries digits n r some h none above k low high within = elim (true_or_false (nat_le n k)) [

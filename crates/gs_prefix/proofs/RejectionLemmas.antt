@@ -40,11 +40,13 @@ module _ (earlier : List PrefixEntry) (i : ℕ) (e : PrefixEntry) where
   unfolding entry_rejections
   bad_length h long = let l : nat_lt 12 e.length ≡ true = grind (arith, nat_tests) in rw (h, l) refl
 
-  pub twice : is_prefix e.prefix ≡ true → e.length ≤ 12 → list_any (has_prefix e.prefix) earlier ≡ true → Err (Twice i) ≡ first_or (entry_rejections earlier i e) (tt {0})
+  pub twice : is_prefix e.prefix ≡ true → e.length ≤ 12 → list_any (has_prefix e.prefix) earlier ≡ true
+      → Err (Twice i) ≡ first_or (entry_rejections earlier i e) (tt {0})
   unfolding entry_rejections
   twice h short t = let l : nat_lt 12 e.length ≡ false = grind (arith, nat_tests) in rw (h, l, t) refl
 
-  pub in_order : is_prefix e.prefix ≡ true → e.length ≤ 12 → list_any (has_prefix e.prefix) earlier ≡ false → Ok (tt {0}) ≡ first_or (entry_rejections earlier i e) (tt {0})
+  pub in_order : is_prefix e.prefix ≡ true → e.length ≤ 12 → list_any (has_prefix e.prefix) earlier ≡ false
+      → Ok (tt {0}) ≡ first_or (entry_rejections earlier i e) (tt {0})
   unfolding entry_rejections
   in_order h short t = let l : nat_lt 12 e.length ≡ false = grind (arith, nat_tests) in rw (h, l, t) refl
 
@@ -94,14 +96,17 @@ unfolding rejections
 within_limit es h = let l : nat_lt 65536 (length es) ≡ false = grind (arith, nat_tests) in rw l refl
 
 -- an entry was rejected after entries that none rejects
-pub entry_rejected : (entries index : List PrefixEntry) (i : ℕ) (x : PrefixEntry) (e : PrefixFault) → length entries ≤ 65536 → SoFar entries index i → slice_get entries i ≡ Some x → OrMemory (Err e) (first_or (entry_rejections index i x) (tt {0})) → OrMemory {X = List PrefixEntry} (Err e) (first_or (rejections entries) entries)
+pub entry_rejected : (entries index : List PrefixEntry) (i : ℕ) (x : PrefixEntry) (e : PrefixFault) → length entries ≤ 65536
+    → SoFar entries index i → slice_get entries i ≡ Some x → OrMemory (Err e) (first_or (entry_rejections index i x) (tt {0}))
+    → OrMemory {X = List PrefixEntry} (Err e) (first_or (rejections entries) entries)
 entry_rejected entries index i x e few so_far at h =
     let own = rw so_far.held at h in
     let split = split_at (rejections_at entries) entries i x at so_far.none in
     rw (within_limit entries few, split.1) (first_in_front Memory (rejections_at entries (i, x)) split.0 (tt {0}) entries e own)
 
 -- an entry was added that no rule rejects
-pub one_entry_more : (entries index new : List PrefixEntry) (i : ℕ) (x : PrefixEntry) → SoFar entries index i → slice_get entries i ≡ Some x → AddsEntry (Ok (tt {0})) i index new x → SoFar entries new (i + 1)
+pub one_entry_more : (entries index new : List PrefixEntry) (i : ℕ) (x : PrefixEntry) → SoFar entries index i → slice_get entries i ≡ Some x
+    → AddsEntry (Ok (tt {0})) i index new x → SoFar entries new (i + 1)
 one_entry_more entries index new i x so_far at adds =
     let h = no_error Memory (tt {0}) (first_or (entry_rejections index i x) (tt {0})) adds.0 in
     let e = adds.1 in
@@ -112,7 +117,8 @@ one_entry_more entries index new i x so_far at adds =
       none = one_more (rejections_at entries) entries i x at so_far.none (nothing (take i entries) i x (rw so_far.held at h));
     }
 
-pub all_entries : (entries index : List PrefixEntry) (i : ℕ) → length entries ≤ 65536 → length entries ≤ i → SoFar entries index i → OrMemory {X = List PrefixEntry} (Ok index) (first_or (rejections entries) entries)
+pub all_entries : (entries index : List PrefixEntry) (i : ℕ) → length entries ≤ 65536 → length entries ≤ i → SoFar entries index i
+    → OrMemory {X = List PrefixEntry} (Ok index) (first_or (rejections entries) entries)
 all_entries entries index i few all so_far =
     let whole : index ≡ entries = so_far.held ∙ take_all i entries all in
     let none : rejections entries ≡ [] = within_limit entries few ∙ all_rows (rejections_at entries) entries i all so_far.none in
@@ -124,13 +130,15 @@ module _ (plan : List Entry) (place : List ℕ) (items : List Data) where
   abbrev errors_at : ℕ × Data → List JsonFault
   errors_at row = members_errors (item_place place row.0) plan (as_object row.1)
 
-  pub item_rejected : (i : ℕ) (x : Data) (e : JsonFault) → slice_get items i ≡ Some x → array_errors plan place (take i items) ≡ [] → IsFirstFault (Err e) (errors_at (i, x)) → IsFirstFault (Err e) (array_errors plan place items)
+  pub item_rejected : (i : ℕ) (x : Data) (e : JsonFault) → slice_get items i ≡ Some x → array_errors plan place (take i items) ≡ []
+      → IsFirstFault (Err e) (errors_at (i, x)) → IsFirstFault (Err e) (array_errors plan place items)
   unfolding array_errors
   item_rejected i x e at none h =
       let split = split_at errors_at items i x at none in
       rw split.1 (first_in_front json.Memory (errors_at (i, x)) split.0 (tt {0}) (tt {0}) e h)
 
-  pub one_item_more : (i : ℕ) (x : Data) (z : Unit {0}) → slice_get items i ≡ Some x → array_errors plan place (take i items) ≡ [] → IsFirstFault (Ok z) (errors_at (i, x)) → array_errors plan place (take (i + 1) items) ≡ []
+  pub one_item_more : (i : ℕ) (x : Data) (z : Unit {0}) → slice_get items i ≡ Some x → array_errors plan place (take i items) ≡ []
+      → IsFirstFault (Ok z) (errors_at (i, x)) → array_errors plan place (take (i + 1) items) ≡ []
   unfolding array_errors
   one_item_more i x z at none h = one_more errors_at items i x at none (nothing_in_front json.Memory (errors_at (i, x)) (tt {0}) z h)
 
@@ -145,20 +153,28 @@ module _ (d : Data) where
   abbrev object_errors : List JsonFault
   object_errors = members_errors [] list_plan (as_object d)
 
-  pub object_rejected : (e : PrefixFault) → OrMemory {X = Unit {0}} (Err e) (first_or (map Json object_errors) (tt {0})) → OrMemory {X = Unit {0}} (Err e) (first_or (map Json (form_errors d)) (tt {0}))
+  pub object_rejected : (e : PrefixFault) → OrMemory {X = Unit {0}} (Err e) (first_or (map Json object_errors) (tt {0}))
+      → OrMemory {X = Unit {0}} (Err e) (first_or (map Json (form_errors d)) (tt {0}))
   unfolding form_errors
-  object_rejected e h = rw (joined object_errors (version_errors d ++ entries_errors d)) (first_in_front Memory (map Json object_errors) (map Json (version_errors d ++ entries_errors d)) (tt {0}) (tt {0}) e h)
+  object_rejected e h = rw (joined object_errors (version_errors d ++ entries_errors d))
+      (first_in_front Memory (map Json object_errors) (map Json (version_errors d ++ entries_errors d)) (tt {0}) (tt {0}) e h)
 
-  pub version_rejected : (e : PrefixFault) (y : Unit {0}) → OrMemory {X = Unit {0}} (Ok y) (first_or (map Json object_errors) (tt {0})) → OrMemory {X = Unit {0}} (Err e) (first_or (map Json (version_errors d)) (tt {0})) → OrMemory {X = Unit {0}} (Err e) (first_or (map Json (form_errors d)) (tt {0}))
+  pub version_rejected : (e : PrefixFault) (y : Unit {0}) → OrMemory {X = Unit {0}} (Ok y) (first_or (map Json object_errors) (tt {0}))
+      → OrMemory {X = Unit {0}} (Err e) (first_or (map Json (version_errors d)) (tt {0})) → OrMemory {X = Unit {0}} (Err e)
+      (first_or (map Json (form_errors d)) (tt {0}))
   unfolding form_errors
   version_rejected e y none h =
-      rw (joined object_errors (version_errors d ++ entries_errors d), joined (version_errors d) (entries_errors d)) (first_behind Memory (map Json object_errors) (map Json (version_errors d) ++ map Json (entries_errors d)) (tt {0}) y (tt {0}) (Err e) none
+      rw (joined object_errors (version_errors d ++ entries_errors d), joined (version_errors d) (entries_errors d))
+      (first_behind Memory (map Json object_errors) (map Json (version_errors d) ++ map Json (entries_errors d)) (tt {0}) y (tt {0}) (Err e) none
       (first_in_front Memory (map Json (version_errors d)) (map Json (entries_errors d)) (tt {0}) (tt {0}) e h))
 
-  pub entries_judged : (answer : Result (Unit {0}) PrefixFault) (y z : Unit {0}) → OrMemory {X = Unit {0}} (Ok y) (first_or (map Json object_errors) (tt {0})) → OrMemory {X = Unit {0}} (Ok z) (first_or (map Json (version_errors d)) (tt {0})) → OrMemory answer (first_or (map Json (entries_errors d)) (tt {0})) → OrMemory answer (first_or (map Json (form_errors d)) (tt {0}))
+  pub entries_judged : (answer : Result (Unit {0}) PrefixFault) (y z : Unit {0}) → OrMemory {X = Unit {0}} (Ok y)
+      (first_or (map Json object_errors) (tt {0})) → OrMemory {X = Unit {0}} (Ok z) (first_or (map Json (version_errors d)) (tt {0}))
+      → OrMemory answer (first_or (map Json (entries_errors d)) (tt {0})) → OrMemory answer (first_or (map Json (form_errors d)) (tt {0}))
   unfolding form_errors
   entries_judged answer y z none same h =
-      rw (joined object_errors (version_errors d ++ entries_errors d), joined (version_errors d) (entries_errors d)) (first_behind Memory (map Json object_errors) (map Json (version_errors d) ++ map Json (entries_errors d)) (tt {0}) y (tt {0}) answer none
+      rw (joined object_errors (version_errors d ++ entries_errors d), joined (version_errors d) (entries_errors d))
+      (first_behind Memory (map Json object_errors) (map Json (version_errors d) ++ map Json (entries_errors d)) (tt {0}) y (tt {0}) answer none
       (first_behind Memory (map Json (version_errors d)) (map Json (entries_errors d)) (tt {0}) z (tt {0}) answer same h))
 
 -- ---- the answer to bytes
@@ -167,7 +183,8 @@ is_json : (bytes : List ℕ) (d : Data) → IsUtf8 bytes × (read_text bytes ≡
 unfolding load_answer document_of
 is_json bytes d h = let t = is_utf8-from_IsUtf8 bytes h.0 in rw (t, h.1) refl
 
-pub not_json : (bytes : List ℕ) (error : JsonFault) → (error ≡ json.Syntax → IsUtf8 bytes → read_text bytes ≡ None) → (error ≡ json.Syntax) ⊎ (error ≡ json.Memory) → OrMemory {X = List PrefixEntry} (Err (of_json error)) (load_answer bytes)
+pub not_json : (bytes : List ℕ) (error : JsonFault) → (error ≡ json.Syntax → IsUtf8 bytes → read_text bytes ≡ None)
+    → (error ≡ json.Syntax) ⊎ (error ≡ json.Memory) → OrMemory {X = List PrefixEntry} (Err (of_json error)) (load_answer bytes)
 unfolding load_answer document_of
 not_json bytes error none (inr m) = rw m (inl refl)
 not_json bytes error none (inl s) = elim (true_or_false (is_utf8 bytes)) [
@@ -175,14 +192,18 @@ not_json bytes error none (inl s) = elim (true_or_false (is_utf8 bytes)) [
   | inr t ↦ rw (s, t) (inr refl)
 ]
 
-pub document_is : (bytes : List ℕ) (d : Data) (answer : Result (List PrefixEntry) PrefixFault) → IsUtf8 bytes × (read_text bytes ≡ Some d) → OrMemory answer (document_answer d) → OrMemory answer (load_answer bytes)
+pub document_is : (bytes : List ℕ) (d : Data) (answer : Result (List PrefixEntry) PrefixFault) → IsUtf8 bytes × (read_text bytes ≡ Some d)
+    → OrMemory answer (document_answer d) → OrMemory answer (load_answer bytes)
 document_is bytes d answer is h = rw (is_json bytes d is) h
 
-pub form_rejected : (d : Data) (e : PrefixFault) → OrMemory {X = Unit {0}} (Err e) (first_or (map Json (form_errors d)) (tt {0})) → OrMemory {X = List PrefixEntry} (Err e) (document_answer d)
+pub form_rejected : (d : Data) (e : PrefixFault) → OrMemory {X = Unit {0}} (Err e) (first_or (map Json (form_errors d)) (tt {0}))
+    → OrMemory {X = List PrefixEntry} (Err e) (document_answer d)
 unfolding document_answer
 form_rejected d e h = first_in_front Memory (map Json (form_errors d)) (rejections (entries_of d)) (tt {0}) (entries_of d) e h
 
-pub entries_answer : (d : Data) (entries : List PrefixEntry) (z : Unit {0}) (answer : Result (List PrefixEntry) PrefixFault) → OrMemory {X = Unit {0}} (Ok z) (first_or (map Json (form_errors d)) (tt {0})) → entries ≡ entries_of d → OrMemory answer (first_or (rejections entries) entries) → OrMemory answer (document_answer d)
+pub entries_answer : (d : Data) (entries : List PrefixEntry) (z : Unit {0}) (answer : Result (List PrefixEntry) PrefixFault)
+    → OrMemory {X = Unit {0}} (Ok z) (first_or (map Json (form_errors d)) (tt {0})) → entries ≡ entries_of d → OrMemory answer
+    (first_or (rejections entries) entries) → OrMemory answer (document_answer d)
 unfolding document_answer
 entries_answer d entries z answer none e h =
     let own = rw e at h in

@@ -10,12 +10,12 @@ use Rattle.gs_prefix.specs.LengthsSupport.{with_entry}
 use Rattle.gs_prefix.specs.Rules.{entry_rejections}
 use Rattle.gs_prefix.specs.Answers.{OrMemory}
 
--- the result of adding an entry to the earlier ones: if no rule rejects it, it is the last entry
+-- Holds if this is the result of adding an entry to the earlier ones. If no rule rejects it, it is the last entry.
 abbrev pub AddsEntry : Result Unit PrefixFault → ℕ → List PrefixEntry → List PrefixEntry → PrefixEntry → Type 0
 AddsEntry result i earlier after entry =
     OrMemory result (first_or (entry_rejections earlier i entry) tt) × IfOk result (λ _. after ≡ with_entry earlier entry.prefix entry.length)
 
--- the answer is the first of these errors of JSON, or out of memory
+-- holds if the answer is the first of these errors of JSON, or `Memory`
 abbrev pub IsFirst : Result Unit PrefixFault → List JsonFault → Type 0
 IsFirst result errors = OrMemory result (first_or (map Json errors) tt)
 

@@ -6,15 +6,15 @@ use Rattle.std.specs.Str.{bytes_eq}
 use Rattle.gs_chars.specs.Characters.{are_digits}
 use Rattle.gs_prefix.specs.declared.entry.PrefixEntry.{PrefixEntry}
 
--- trusted, own: one to twelve digits
+-- trusted, own: holds if `text` is one to twelve digits
 abbrev pub is_prefix : List ℕ → Bool
 is_prefix text = are_digits text && nat_le 1 (length text) && nat_le (length text) 12
 
--- trusted, own: the entry is that of this prefix
+-- trusted, own: holds if the prefix of `entry` is `prefix`
 abbrev pub has_prefix : List ℕ → PrefixEntry → Bool
 has_prefix prefix entry = bytes_eq prefix entry.prefix
 
--- trusted, own: the digits begin with the entry's prefix
+-- trusted, own: holds if `digits` begin with the prefix of `entry`
 abbrev pub begins : List ℕ → PrefixEntry → Bool
 begins digits entry = has_prefix (take (length entry.prefix) digits) entry
 
@@ -22,7 +22,7 @@ begins digits entry = has_prefix (take (length entry.prefix) digits) entry
 abbrev pub beginning : List PrefixEntry → List ℕ → List PrefixEntry
 beginning entries digits = filter (begins digits) entries
 
--- trusted, own: none of the entries has a longer prefix
+-- trusted, own: holds if none of `entries` has a longer prefix than `entry`
 abbrev pub is_longest : List PrefixEntry → PrefixEntry → Bool
 is_longest entries entry = list_all (λ other. nat_le (length other.prefix) (length entry.prefix)) entries
 

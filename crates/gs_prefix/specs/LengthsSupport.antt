@@ -8,7 +8,7 @@ use Rattle.gs_prefix.specs.Lengths.{is_prefix}
 abbrev pub entries_of : List (Vec ℕ Global × ℕ) → List PrefixEntry
 entries_of pairs = map (λ pair. record { prefix = pair.0.items; length = pair.1 }) pairs
 
--- an entry that a list may have
+-- holds if a list may have `entry`
 abbrev pub is_entry : PrefixEntry → Bool
 is_entry entry = is_prefix entry.prefix && nat_le entry.length 12
 

@@ -22,7 +22,7 @@ entry_rejections earlier i entry =
 abbrev pub rejections_at : List PrefixEntry → ℕ × PrefixEntry → List PrefixFault
 rejections_at entries row = entry_rejections (take row.0 entries) row.0 row.1
 
--- trusted, own: all rejections of the entries, in the order in which they are reported
+-- trusted, own: the list of all rejections of `entries`, in the order in which they are reported
 unfoldable pub rejections : List PrefixEntry → List PrefixFault
 rejections entries =
     error_if (nat_lt most_entries (length entries)) Limit

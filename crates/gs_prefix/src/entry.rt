@@ -12,7 +12,7 @@ use gs_chars::{Text, are_digits};
 pub struct PrefixEntry {
     /// The first digits of keys.
     pub prefix: Text,
-    /// How many digits the company prefix of such a key has, and 0 if the digits belong to no company prefix.
+    /// The number of digits of the company prefix of such a key, and 0 if the digits belong to no company prefix.
     pub length: u64,
 }
 

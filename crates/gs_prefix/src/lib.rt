@@ -1,6 +1,6 @@
 //! Lists of company prefix lengths: which digits begin with a company prefix, and how many of them it has.
 //!
-//! - `PrefixList::load` reads a list, or gives its first error; `length_of` gives the number of digits of the company prefix
+//! - `PrefixList::load` reads a list, or gives its first error. `length_of` gives the number of digits of the company prefix
 //!   that digits begin with, by the longest row that fits.
 //! - `judge_rows` checks the items of an array against a plan, for gs_class too.
 //!

@@ -51,10 +51,10 @@ impl PrefixList {
         }
     }
 
-    /// Returns the list that a document in JSON gives: an object with exactly `version`, the number 1, and `prefixes`, an array
-    /// of objects with exactly `prefix`, a text, and `length`, a number. Of the rejections the first in this order is the answer.
-    /// `Json`: the bytes are not JSON text; the document, its version or an entry has not this form. `Limit`: more than 65,536
-    /// entries. Then entry by entry `BadPrefix`, `BadLength`, `Twice`. May return `Memory` instead.
+    /// Returns the list of a document in JSON. It is an object with exactly `version`, the number 1, and `prefixes`, an array
+    /// of objects with exactly `prefix`, a text, and `length`, a number. Of the rejections the first in this order is the
+    /// answer. `Json`: the bytes are not JSON text; the document, its version or an entry has not this form. `Limit`: more than
+    /// 65,536 entries. Then entry by entry `BadPrefix`, `BadLength`, `Twice`. May return `Memory` instead.
     pub fn load(alloc: Global, bytes: &[u8]) -> Result<PrefixList, PrefixFault>
         ensures { OrMemory result (load_answer bytes.now) }
     {
@@ -95,9 +95,9 @@ impl PrefixList {
         self.entries.len()
     }
 
-    /// Returns how many digits the company prefix has with which the digits begin: the length of the longest entry that is a
-    /// prefix of the digits. `None` is returned if and only if no entry is one, or the length of the longest is 0. Does not
-    /// allocate, and looks into the list at most twelve times.
+    /// Returns the length of the company prefix with which the digits begin: that of the longest entry that is a prefix of
+    /// them. `None` is returned if and only if no entry is one, or the length of the longest is 0. Does not allocate, and looks
+    /// into the list at most twelve times.
     #[tactic(auto, unfolding(crate::specs::Lengths::prefix_length))]
     pub fn length_of(&self, digits: &[u8]) -> Option<u8>
         ensures length { result ≡ prefix_length self.now digits.now }

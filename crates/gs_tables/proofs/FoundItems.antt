@@ -23,7 +23,8 @@ alone xs = map (λ (i : FieldItem). i.1) (there xs)
 
 -- ---- an item that is not absent
 
-there_split : (xs : List (Option FieldItem)) (i : ℕ) (x : FieldItem) → slice_get xs i ≡ Some (Some x) → (rest : List FieldItem) × (there xs ≡ there (take i xs) ++ x ∷ rest)
+there_split : (xs : List (Option FieldItem)) (i : ℕ) (x : FieldItem) → slice_get xs i ≡ Some (Some x)
+    → (rest : List FieldItem) × (there xs ≡ there (take i xs) ++ x ∷ rest)
 there_split [] i x at = absurd (let g : None ≡ Some (Some x) = at in cc)
 there_split (y ∷ xs) zero x at =
     let same : y ≡ Some x = cc in
@@ -62,20 +63,28 @@ of_field_append field xs ys =
 of_field_more : (field : Field) (item : Item) (xs : List FieldItem) → items_of_field field ((Some field, item) ∷ xs) ≡ item ∷ items_of_field field xs
 of_field_more field item xs = rw (field_itself field) refl
 
-many_of : (field : Field) (xs : List (Option FieldItem)) (i : ℕ) (entry : Option FieldItem) (second : Item) → i < length xs → entry ≡ get_or xs i entry → entry ≡ Some (Some field, second) → (rest : List Item) × (items_of_field field (there xs) ≡ items_of_field field (there (take i xs)) ++ second ∷ rest)
+many_of : (field : Field) (xs : List (Option FieldItem)) (i : ℕ) (entry : Option FieldItem) (second : Item) → i < length xs
+    → entry ≡ get_or xs i entry → entry ≡ Some (Some field, second)
+    → (rest : List Item) × (items_of_field field (there xs) ≡ items_of_field field (there (take i xs)) ++ second ∷ rest)
 many_of field xs i entry second low read is =
     let at : slice_get xs i ≡ Some (Some (Some field, second)) = read_at xs i entry low read ∙ ap Some is in
     let rest = there_split xs i (Some field, second) at in
     (items_of_field field rest.0, ap (items_of_field field) rest.1 ∙ of_field_append field (there (take i xs)) ((Some field, second) ∷ rest.0) ∙ ap (λ zs. items_of_field field (there (take i xs)) ++ zs) (of_field_more field second rest.0))
 
 -- an item of the field was found before, or more were, and here is one
-pub found_one : (field : Field) (xs : List (Option FieldItem)) (i : ℕ) (entry : Option FieldItem) (second : Item) (found : Found) (first : Bor Item) → i < length xs → entry ≡ get_or xs i entry → entry ≡ Some (Some field, second) → IsFound (items_of_field field (flat_map option_to_list (take i xs))) found → found ≡ One first → IsMany (items_of_field field (flat_map option_to_list xs))
+pub found_one : (field : Field) (xs : List (Option FieldItem)) (i : ℕ) (entry : Option FieldItem) (second : Item) (found : Found) (first : Bor Item)
+    → i < length xs → entry ≡ get_or xs i entry → entry ≡ Some (Some field, second)
+    → IsFound (items_of_field field (flat_map option_to_list (take i xs))) found → found ≡ One first
+    → IsMany (items_of_field field (flat_map option_to_list xs))
 found_one field xs i entry second found first low read is inv e =
     let front = rw e at inv in
     let all = many_of field xs i entry second low read is in
     record { first = first.now; second = second; others = all.0; list = all.1 ∙ ap (λ zs. zs ++ second ∷ all.0) front }
 
-pub found_more : (field : Field) (xs : List (Option FieldItem)) (i : ℕ) (entry : Option FieldItem) (second : Item) (found : Found) → i < length xs → entry ≡ get_or xs i entry → entry ≡ Some (Some field, second) → IsFound (items_of_field field (flat_map option_to_list (take i xs))) found → found ≡ More → IsMany (items_of_field field (flat_map option_to_list xs))
+pub found_more : (field : Field) (xs : List (Option FieldItem)) (i : ℕ) (entry : Option FieldItem) (second : Item) (found : Found)
+    → i < length xs → entry ≡ get_or xs i entry → entry ≡ Some (Some field, second)
+    → IsFound (items_of_field field (flat_map option_to_list (take i xs))) found → found ≡ More
+    → IsMany (items_of_field field (flat_map option_to_list xs))
 found_more field xs i entry second found low read is inv e =
     let front = rw e at inv in
     let all = many_of field xs i entry second low read is in
@@ -87,11 +96,16 @@ size_append : (xs ys : List Item) → size_of_all (xs ++ ys) ≡ size_of_all xs 
 size_append [] ys = omega arith
 size_append (x ∷ xs) ys = omega (arith, size_append xs ys)
 
-alone_append : (xs ys : List FieldItem) → size_of_all (map (λ (i : FieldItem). i.1) (xs ++ ys)) ≡ size_of_all (map (λ (i : FieldItem). i.1) xs) + size_of_all (map (λ (i : FieldItem). i.1) ys)
-alone_append xs ys = ap size_of_all (map-append (λ (i : FieldItem). i.1) xs ys) ∙ size_append (map (λ (i : FieldItem). i.1) xs) (map (λ (i : FieldItem). i.1) ys)
+alone_append : (xs ys : List FieldItem)
+    → size_of_all (map (λ (i : FieldItem). i.1) (xs ++ ys)) ≡ size_of_all (map (λ (i : FieldItem). i.1) xs) + size_of_all (map (λ (i : FieldItem). i.1) ys)
+alone_append xs ys = ap size_of_all (map-append (λ (i : FieldItem). i.1) xs ys) ∙ size_append (map (λ (i : FieldItem). i.1) xs)
+    (map (λ (i : FieldItem). i.1) ys)
 
 -- a prefix and the next item are too long, so that all are
-pub size_passed : (xs : List (Option FieldItem)) (i : ℕ) (entry : Option FieldItem) (x : FieldItem) (most : ℕ) → i < length xs → entry ≡ get_or xs i entry → entry ≡ Some x → most < size_of_all (map (λ (i : FieldItem). i.1) (flat_map option_to_list (take i xs))) + size_of x.1 → size_of_all (map (λ (i : FieldItem). i.1) (flat_map option_to_list xs)) ≤ most → ⊥
+pub size_passed : (xs : List (Option FieldItem)) (i : ℕ) (entry : Option FieldItem) (x : FieldItem) (most : ℕ) → i < length xs
+    → entry ≡ get_or xs i entry → entry ≡ Some x
+    → most < size_of_all (map (λ (i : FieldItem). i.1) (flat_map option_to_list (take i xs))) + size_of x.1
+    → size_of_all (map (λ (i : FieldItem). i.1) (flat_map option_to_list xs)) ≤ most → ⊥
 size_passed xs i entry x most low read is long short =
     let at : slice_get xs i ≡ Some (Some x) = read_at xs i entry low read ∙ ap Some is in
     let rest = there_split xs i x at in
@@ -99,12 +113,15 @@ size_passed xs i entry x most low read is long short =
     absurd (omega arith)
 
 -- one item more, and one entry more that is not an item
-pub size_next : (xs : List (Option FieldItem)) (i : ℕ) (entry : Option FieldItem) (x : FieldItem) → i < length xs → entry ≡ get_or xs i entry → entry ≡ Some x → size_of_all (map (λ (i : FieldItem). i.1) (flat_map option_to_list (take (i + 1) xs))) ≡ size_of_all (map (λ (i : FieldItem). i.1) (flat_map option_to_list (take i xs))) + size_of x.1
+pub size_next : (xs : List (Option FieldItem)) (i : ℕ) (entry : Option FieldItem) (x : FieldItem) → i < length xs
+    → entry ≡ get_or xs i entry → entry ≡ Some x
+    → size_of_all (map (λ (i : FieldItem). i.1) (flat_map option_to_list (take (i + 1) xs))) ≡ size_of_all (map (λ (i : FieldItem). i.1) (flat_map option_to_list (take i xs))) + size_of x.1
 size_next xs i entry x low read is =
     let at : slice_get xs i ≡ Some (Some x) = read_at xs i entry low read ∙ ap Some is in
     let e = ap (λ zs. size_of_all (map (λ (i : FieldItem). i.1) zs)) (there_next xs i x at) ∙ alone_append (there (take i xs)) (x ∷ []) in
     omega arith
 
-pub size_same : (xs : List (Option FieldItem)) (i : ℕ) (entry : Option FieldItem) → i < length xs → entry ≡ get_or xs i entry → entry ≡ None → size_of_all (map (λ (i : FieldItem). i.1) (flat_map option_to_list (take (i + 1) xs))) ≡ size_of_all (map (λ (i : FieldItem). i.1) (flat_map option_to_list (take i xs)))
+pub size_same : (xs : List (Option FieldItem)) (i : ℕ) (entry : Option FieldItem) → i < length xs → entry ≡ get_or xs i entry → entry ≡ None
+    → size_of_all (map (λ (i : FieldItem). i.1) (flat_map option_to_list (take (i + 1) xs))) ≡ size_of_all (map (λ (i : FieldItem). i.1) (flat_map option_to_list (take i xs)))
 size_same xs i entry low read is =
     ap (λ zs. size_of_all (map (λ (i : FieldItem). i.1) zs)) (there_same xs i entry (read_at xs i entry low read) is)

@@ -24,13 +24,16 @@ pub record IsRuling (Ruled : Result TableRows LoadFault → Type 0) : Type 0 whe
 
 -- ---- an answer
 
-judged_set : (Ruled : Result TableRows LoadFault → Type 0) (set : TableRows) → Ruled (Ok set) → IsShaped set → (answer : Result TableRows LoadFault) × HasMemory answer × Judged Ruled answer
-judged_set Ruled set ruled shaped = elim (level_decided (levels_of set) (items_kept set shaped)) as (λ _. (answer : Result TableRows LoadFault) × HasMemory answer × Judged Ruled answer) [
-  | inl clear ↦ (Ok set, (λ e. let f : Ok set ≡ Err Memory = e in cc), (ruled, clear))
-  | inr a ↦ (Err (Ambiguous a.name a.i a.j a.text), (λ e. let f : Err (Ambiguous a.name a.i a.j a.text) ≡ Err Memory = e in cc), (set, ruled, a.first))
-]
+judged_set : (Ruled : Result TableRows LoadFault → Type 0) (set : TableRows) → Ruled (Ok set) → IsShaped set
+    → (answer : Result TableRows LoadFault) × HasMemory answer × Judged Ruled answer
+judged_set Ruled set ruled shaped = elim (level_decided (levels_of set) (items_kept set shaped)) as
+    (λ _. (answer : Result TableRows LoadFault) × HasMemory answer × Judged Ruled answer) [
+      | inl clear ↦ (Ok set, (λ e. let f : Ok set ≡ Err Memory = e in cc), (ruled, clear))
+      | inr a ↦ (Err (Ambiguous a.name a.i a.j a.text), (λ e. let f : Err (Ambiguous a.name a.i a.j a.text) ≡ Err Memory = e in cc), (set, ruled, a.first))
+    ]
 
-judged_by : (Ruled : Result TableRows LoadFault → Type 0) → IsRuling Ruled → (answer : Result TableRows LoadFault) → HasMemory answer → Ruled answer → (answer : Result TableRows LoadFault) × HasMemory answer × Judged Ruled answer
+judged_by : (Ruled : Result TableRows LoadFault → Type 0) → IsRuling Ruled → (answer : Result TableRows LoadFault) → HasMemory answer
+    → Ruled answer → (answer : Result TableRows LoadFault) × HasMemory answer × Judged Ruled answer
 judged_by Ruled ruling (Ok set) enough r = judged_set Ruled set r (ruling.shaped set r)
 judged_by Ruled ruling (Err (Json error)) enough r = (Err (Json error), enough, r)
 judged_by Ruled ruling (Err Version) enough r = (Err Version, enough, r)
@@ -43,14 +46,16 @@ judged_by Ruled ruling (Err (Duplicate level j i)) enough r = (Err (Duplicate le
 judged_by Ruled ruling (Err (Ambiguous level i j text)) enough r = absurd (ruling.ruled level i j text r)
 judged_by Ruled ruling (Err Memory) enough r = absurd (enough refl)
 
-pub judged_some : (Ruled : Result TableRows LoadFault → Type 0) → IsRuling Ruled → (answer : Result TableRows LoadFault) × HasMemory answer × Judged Ruled answer
+pub judged_some : (Ruled : Result TableRows LoadFault → Type 0) → IsRuling Ruled
+    → (answer : Result TableRows LoadFault) × HasMemory answer × Judged Ruled answer
 judged_some Ruled ruling = judged_by Ruled ruling ruling.some.0 ruling.some.1 ruling.some.2
 
 -- ---- no other
 
 data Judgement (Ruled : Result TableRows LoadFault → Type 0) (answer : Result TableRows LoadFault) : Type 0 where
   loads : (set : TableRows) → Ruled (Ok set) → AreClear (levels_of set) → answer ≡ Ok set → Judgement Ruled answer
-  shares : (set : TableRows) (name : LevelName) (i j : ℕ) (text : List ℕ) → Ruled (Ok set) → IsFirstAmbiguous (levels_of set) name i j text → answer ≡ Err (Ambiguous name i j text) → Judgement Ruled answer
+  shares : (set : TableRows) (name : LevelName) (i j : ℕ) (text : List ℕ) → Ruled (Ok set) → IsFirstAmbiguous (levels_of set) name i j text
+      → answer ≡ Err (Ambiguous name i j text) → Judgement Ruled answer
   rejects : Ruled answer → (error : LoadFault) → answer ≡ Err error → Judgement Ruled answer
 
 judgement : (Ruled : Result TableRows LoadFault → Type 0) (answer : Result TableRows LoadFault) → Judged Ruled answer → Judgement Ruled answer
@@ -71,18 +76,22 @@ one_set Ruled ruling set set' a b =
     let e : Ok set ≡ Ok set' = ruling.one (Ok set) (Ok set') a b (λ e. let f : Ok set ≡ Err Memory = e in cc) (λ e. let f : Ok set' ≡ Err Memory = e in cc) in
     cc
 
-not_both : (Ruled : Result TableRows LoadFault → Type 0) → IsRuling Ruled → (set : TableRows) (answer : Result TableRows LoadFault) (error : LoadFault) → Ruled (Ok set) → Ruled answer → HasMemory answer → answer ≡ Err error → ⊥
+not_both : (Ruled : Result TableRows LoadFault → Type 0) → IsRuling Ruled
+    → (set : TableRows) (answer : Result TableRows LoadFault) (error : LoadFault) → Ruled (Ok set) → Ruled answer → HasMemory answer
+    → answer ≡ Err error → ⊥
 not_both Ruled ruling set answer error a b enough e =
     let f : Ok set ≡ answer = ruling.one (Ok set) answer a b (λ e. let f : Ok set ≡ Err Memory = e in cc) enough in
     let g : Ok set ≡ Err error = f ∙ e in
     cc
 
-clear_or_shared : (levels : LevelName → LevelForm) (name : LevelName) (i j : ℕ) (text : List ℕ) → IsClear (levels name) → IsFirstAmbiguous levels name i j text → ⊥
+clear_or_shared : (levels : LevelName → LevelForm) (name : LevelName) (i j : ℕ) (text : List ℕ) → IsClear (levels name)
+    → IsFirstAmbiguous levels name i j text → ⊥
 clear_or_shared levels name i j text clear a =
     let s = a.share.share.share in
     clear (record { w = a.share.w; two = record { one = s.one; other = s.other; differ = s.differ } })
 
-one_level : (levels : LevelName → LevelForm) (name name' : LevelName) (i j i' j' : ℕ) (text text' : List ℕ) → IsFirstAmbiguous levels name i j text → IsFirstAmbiguous levels name' i' j' text' → name ≡ name'
+one_level : (levels : LevelName → LevelForm) (name name' : LevelName) (i j i' j' : ℕ) (text text' : List ℕ)
+    → IsFirstAmbiguous levels name i j text → IsFirstAmbiguous levels name' i' j' text' → name ≡ name'
 one_level levels Binary Binary i j i' j' text text' a b = refl
 one_level levels Tag Tag i j i' j' text text' a b = refl
 one_level levels Pure Pure i j i' j' text text' a b = refl
@@ -108,15 +117,19 @@ one_pair level i j i' j' text text' a b = elim (cases_lt i i') as (λ _. (i ≡ 
   ]
 ]
 
-alike : (levels : LevelName → LevelForm) (name name' : LevelName) (i j i' j' : ℕ) (text text' : List ℕ) (one other : Result TableRows LoadFault) → IsFirstAmbiguous levels name i j text → IsFirstAmbiguous levels name' i' j' text' → one ≡ Err (Ambiguous name i j text) → other ≡ Err (Ambiguous name' i' j' text') → AreAlike one other
+alike : (levels : LevelName → LevelForm) (name name' : LevelName) (i j i' j' : ℕ) (text text' : List ℕ) (one other : Result TableRows LoadFault)
+    → IsFirstAmbiguous levels name i j text → IsFirstAmbiguous levels name' i' j' text' → one ≡ Err (Ambiguous name i j text)
+    → other ≡ Err (Ambiguous name' i' j' text') → AreAlike one other
 alike levels name name' i j i' j' text text' one other a b e f =
     let level = one_level levels name name' i j i' j' text text' a b in
     let moved : ShowsFirstShare (levels name) i' j' text' = rw level b.share in
     let pair = one_pair (levels name) i j i' j' text text' a.share moved in
     but_text name i j text text' e (rw (level, pair.0, pair.1) f)
 
-alike_by : (Ruled : Result TableRows LoadFault → Type 0) → IsRuling Ruled → (one other : Result TableRows LoadFault) → HasMemory one → HasMemory other → Judgement Ruled one → Judgement Ruled other → AreAlike one other
-alike_by Ruled ruling one other enough enough' (loads set r clear e) (loads set' r' clear' e') = same (e ∙ (let s = one_set Ruled ruling set set' r r' in rw s refl) ∙ sym e')
+alike_by : (Ruled : Result TableRows LoadFault → Type 0) → IsRuling Ruled → (one other : Result TableRows LoadFault) → HasMemory one
+    → HasMemory other → Judgement Ruled one → Judgement Ruled other → AreAlike one other
+alike_by Ruled ruling one other enough enough' (loads set r clear e) (loads set' r' clear' e') = same
+    (e ∙ (let s = one_set Ruled ruling set set' r r' in rw s refl) ∙ sym e')
 alike_by Ruled ruling one other enough enough' (loads set r clear e) (shares set' name i j text r' first e') =
     absurd (clear_or_shared (levels_of set') name i j text (let s = one_set Ruled ruling set set' r r' in let c : AreClear (levels_of set') = rw (← s) clear in c name) first)
 alike_by Ruled ruling one other enough enough' (loads set r clear e) (rejects r' error e') = absurd (not_both Ruled ruling set other error r r' enough' e')
@@ -126,12 +139,15 @@ alike_by Ruled ruling one other enough enough' (shares set name i j text r first
     let s = one_set Ruled ruling set set' r r' in
     let moved : IsFirstAmbiguous (levels_of set) name' i' j' text' = rw s first' in
     alike (levels_of set) name name' i j i' j' text text' one other first moved e e'
-alike_by Ruled ruling one other enough enough' (shares set name i j text r first e) (rejects r' error e') = absurd (not_both Ruled ruling set other error r r' enough' e')
+alike_by Ruled ruling one other enough enough' (shares set name i j text r first e) (rejects r' error e') = absurd
+    (not_both Ruled ruling set other error r r' enough' e')
 alike_by Ruled ruling one other enough enough' (rejects r error e) (loads set r' clear e') = absurd (not_both Ruled ruling set one error r' r enough e)
-alike_by Ruled ruling one other enough enough' (rejects r error e) (shares set name i j text r' first e') = absurd (not_both Ruled ruling set one error r' r enough e)
+alike_by Ruled ruling one other enough enough' (rejects r error e) (shares set name i j text r' first e') = absurd
+    (not_both Ruled ruling set one error r' r enough e)
 alike_by Ruled ruling one other enough enough' (rejects r error e) (rejects r' error' e') = same (ruling.one one other r r' enough enough')
 
-pub judged_alike : (Ruled : Result TableRows LoadFault → Type 0) → IsRuling Ruled → (one other : Result TableRows LoadFault) → Judged Ruled one → Judged Ruled other → HasMemory one → HasMemory other → AreAlike one other
+pub judged_alike : (Ruled : Result TableRows LoadFault → Type 0) → IsRuling Ruled → (one other : Result TableRows LoadFault)
+    → Judged Ruled one → Judged Ruled other → HasMemory one → HasMemory other → AreAlike one other
 judged_alike Ruled ruling one other a b enough enough' = alike_by Ruled ruling one other enough enough' (judgement Ruled one a) (judgement Ruled other b)
 
 -- a set that is loaded

@@ -56,7 +56,8 @@ pub record FirstAmbiguous (levels : LevelName → LevelForm) : Type 0 where
 shown : (level : LevelForm) (h : HasFirstShare (item_lists level.options)) → ShowsFirstShare level h.i h.j (shown_symbols level.bit_level h.w)
 shown level h = record { w = h.w; share = h.share; shown = refl }
 
-ambiguous : (levels : LevelName → LevelForm) (name : LevelName) → AreClearBefore levels name → HasFirstShare (item_lists (levels name).options) → FirstAmbiguous levels
+ambiguous : (levels : LevelName → LevelForm) (name : LevelName) → AreClearBefore levels name
+    → HasFirstShare (item_lists (levels name).options) → FirstAmbiguous levels
 ambiguous levels name before h = record { name = name; i = h.i; j = h.j; text = shown_symbols (levels name).bit_level h.w; first = record { before = before; share = shown (levels name) h } }
 
 pub all_clear : (levels : LevelName → LevelForm) → IsClear (levels Binary) → IsClear (levels Tag) → IsClear (levels Pure) → AreClear levels
@@ -65,7 +66,8 @@ all_clear levels b t p Tag = t
 all_clear levels b t p Pure = p
 
 -- none of the levels is ambiguous, or one is the first
-pub level_decided : (levels : LevelName → LevelForm) → ((name : LevelName) → AreItems (item_lists (levels name).options)) → AreClear levels ⊎ FirstAmbiguous levels
+pub level_decided : (levels : LevelName → LevelForm) → ((name : LevelName) → AreItems (item_lists (levels name).options))
+    → AreClear levels ⊎ FirstAmbiguous levels
 level_decided levels items = elim (share_decided (item_lists (levels Binary).options) (items Binary)) as (λ _. AreClear levels ⊎ FirstAmbiguous levels) [
   | inr h ↦ inr (ambiguous levels Binary tt h)
   | inl b ↦ elim (share_decided (item_lists (levels Tag).options) (items Tag)) as (λ _. AreClear levels ⊎ FirstAmbiguous levels) [
@@ -80,7 +82,8 @@ level_decided levels items = elim (share_decided (item_lists (levels Binary).opt
 -- ---- the answer to a document
 
 -- a row that a rule rejects is rejected
-pub judged_rule : (document : Document) (e : LoadFault) → IsAnswer (row_rejections document) (set_of document) (Err e) → Judged (IsAnswer (row_rejections document) (set_of document)) (Err e)
+pub judged_rule : (document : Document) (e : LoadFault) → IsAnswer (row_rejections document) (set_of document) (Err e)
+    → Judged (IsAnswer (row_rejections document) (set_of document)) (Err e)
 judged_rule document (Json error) h = h
 judged_rule document Version h = h
 judged_rule document (Limit name) h = h
@@ -92,18 +95,23 @@ judged_rule document (Duplicate level j i) h = h
 judged_rule document (Ambiguous name i j text) h = absurd (let f : true ≡ false = ruled_first (row_rejections document) (Ambiguous name i j text) (ruled_of_document document) h in cc)
 judged_rule document Memory h = tt
 
-moved_first : (set : TableRows) (name : LevelName) (i j : ℕ) (text : List ℕ) → IsFirstAmbiguous (by_name set.binary.level set.tag.level set.pure.level) name i j text → IsFirstAmbiguous (levels_of set) name i j text
+moved_first : (set : TableRows) (name : LevelName) (i j : ℕ) (text : List ℕ)
+    → IsFirstAmbiguous (by_name set.binary.level set.tag.level set.pure.level) name i j text
+    → IsFirstAmbiguous (levels_of set) name i j text
 moved_first set Binary i j text h = record { before = h.before; share = h.share }
 moved_first set Tag i j text h = record { before = h.before; share = h.share }
 moved_first set Pure i j text h = record { before = h.before; share = h.share }
 
-pub moved_clear : (binary tag pure : LevelForm) (set : TableRows) → set.binary.level ≡ binary → set.tag.level ≡ tag → set.pure.level ≡ pure → AreClear (by_name binary tag pure) → AreClear (levels_of set)
+pub moved_clear : (binary tag pure : LevelForm) (set : TableRows) → set.binary.level ≡ binary → set.tag.level ≡ tag → set.pure.level ≡ pure
+    → AreClear (by_name binary tag pure) → AreClear (levels_of set)
 moved_clear binary tag pure set b t p h Binary = rw b (h Binary)
 moved_clear binary tag pure set b t p h Tag = rw t (h Tag)
 moved_clear binary tag pure set b t p h Pure = rw p (h Pure)
 
 -- so is a set with an ambiguous level
-pub judged_levels : (document : Document) (binary tag pure : LevelTable) (e : LoadFault) → row_rejections document ≡ [] → binary ≡ level_of document.kinds Binary document.binary → tag ≡ level_of document.kinds Tag document.tag → pure ≡ level_of document.kinds Pure document.pure
+pub judged_levels : (document : Document) (binary tag pure : LevelTable) (e : LoadFault) → row_rejections document ≡ []
+    → binary ≡ level_of document.kinds Binary document.binary → tag ≡ level_of document.kinds Tag document.tag
+    → pure ≡ level_of document.kinds Pure document.pure
     → AreJudged (by_name binary.level tag.level pure.level) (Err e) → Judged (IsAnswer (row_rejections document) (set_of document)) (Err e)
 judged_levels document binary tag pure (Ambiguous name i j text) none b t p h = (set_of document, (none, refl), moved_first (set_of document) name i j text (rw (b, t, p) at h))
 judged_levels document binary tag pure Memory none b t p h = tt
@@ -117,25 +125,32 @@ judged_levels document binary tag pure (Mismatch level i) none b t p h = absurd 
 judged_levels document binary tag pure (Duplicate level j i) none b t p h = absurd h
 
 -- the levels that rows make are judged as those that are made of them
-pub judged_made : (kinds : List KindRow) (binary tag pure : List OptionRow) (made : LevelTables) (answer : Result (Unit {0}) LoadFault) → AreOfRows kinds binary tag pure made → AreJudged (by_name made.binary.level made.tag.level made.pure.level) answer → AreJudged (levels_of_rows kinds binary tag pure) answer
+pub judged_made : (kinds : List KindRow) (binary tag pure : List OptionRow) (made : LevelTables) (answer : Result (Unit {0}) LoadFault)
+    → AreOfRows kinds binary tag pure made → AreJudged (by_name made.binary.level made.tag.level made.pure.level) answer
+    → AreJudged (levels_of_rows kinds binary tag pure) answer
 judged_made kinds binary tag pure made answer of_rows h = rw (of_rows.0, of_rows.1, of_rows.2) at h
 
 -- a rejection by a rule, or by the check of the levels
-pub levels_rejected : (document : Document) (ais : List AiRow) (e : LoadFault) → limit_rejections document ≡ [] → (map Ai (table_errors document.ais) ≡ []) × (ais ≡ document.ais)
+pub levels_rejected : (document : Document) (ais : List AiRow) (e : LoadFault) → limit_rejections document ≡ []
+    → (map Ai (table_errors document.ais) ≡ []) × (ais ≡ document.ais)
     → (slice_get (rule_rejections ais document.kinds document.binary document.tag document.pure) 0 ≡ Some e)
     ⊎ ((rule_rejections ais document.kinds document.binary document.tag document.pure ≡ [])
     × AreJudged (levels_of_rows document.kinds document.binary document.tag document.pure) (Err e))
     → Judged (IsAnswer (row_rejections document) (set_of document)) (Err e)
 levels_rejected document ais e limits table (inl first) = judged_rule document e (others_rejected document ais e limits table first)
 levels_rejected document ais e limits table (inr h) =
-    judged_levels document (level_of document.kinds Binary document.binary) (level_of document.kinds Tag document.tag) (level_of document.kinds Pure document.pure) e
+    judged_levels document (level_of document.kinds Binary document.binary) (level_of document.kinds Tag document.tag)
+    (level_of document.kinds Pure document.pure) e
     (rules_kept document ais limits table h.0) refl refl refl h.1
 
 -- the set that the rows of a document make
-pub set_judged : (document : Document) (ais : List AiRow) (kinds : List Kind) (made : LevelTables) → limit_rejections document ≡ [] → (map Ai (table_errors document.ais) ≡ []) × (ais ≡ document.ais)
-    → rule_rejections ais document.kinds document.binary document.tag document.pure ≡ [] → AreClear (levels_of_rows document.kinds document.binary document.tag document.pure)
+pub set_judged : (document : Document) (ais : List AiRow) (kinds : List Kind) (made : LevelTables) → limit_rejections document ≡ []
+    → (map Ai (table_errors document.ais) ≡ []) × (ais ≡ document.ais)
+    → rule_rejections ais document.kinds document.binary document.tag document.pure ≡ [] → AreClear
+    (levels_of_rows document.kinds document.binary document.tag document.pure)
     → kinds ≡ map (kind_of ais) document.kinds → AreOfRows document.kinds document.binary document.tag document.pure made
-    → Judged (IsAnswer (row_rejections document) (set_of document)) (Ok (record { ais = ais; kinds = kinds; binary = made.binary; tag = made.tag; pure = made.pure }))
+    → Judged (IsAnswer (row_rejections document) (set_of document))
+    (Ok (record { ais = ais; kinds = kinds; binary = made.binary; tag = made.tag; pure = made.pure }))
 set_judged document ais kinds made limits table none clear k of_rows =
     let set : TableRows = record { ais = ais; kinds = kinds; binary = made.binary; tag = made.tag; pure = made.pure } in
     let is = set_made document ais set limits table none refl k of_rows.0 of_rows.1 of_rows.2 in
@@ -143,7 +158,8 @@ set_judged document ais kinds made limits table none clear k of_rows =
     (is, rw is.1 cleared)
 
 -- the rules' answers are those to bytes, once their levels are judged too
-pub judged_as : (Ruled Other : Result TableRows LoadFault → Type 0) → ((answer : Result TableRows LoadFault) → Ruled answer → Other answer) → (answer : Result TableRows LoadFault) → Judged Ruled answer → Judged Other answer
+pub judged_as : (Ruled Other : Result TableRows LoadFault → Type 0) → ((answer : Result TableRows LoadFault) → Ruled answer → Other answer)
+    → (answer : Result TableRows LoadFault) → Judged Ruled answer → Judged Other answer
 judged_as Ruled Other move (Ok set) h = (move (Ok set) h.0, h.1)
 judged_as Ruled Other move (Err (Ambiguous name i j text)) h = (h.0, move (Ok h.0) h.1, h.2)
 judged_as Ruled Other move (Err (Json error)) h = move (Err (Json error)) h

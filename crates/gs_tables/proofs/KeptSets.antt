@@ -28,14 +28,18 @@ use Rattle.gs_tables.proofs.SetLemmas.{sound}
 -- ---- the rows of a document
 
 -- no rejection of kinds, and none of the options of a level
-no_rejections : (document : Document) (level : LevelName) → row_rejections document ≡ [] → (kinds_rejections document.ais document.kinds ≡ []) × (level_rejections document.ais document.kinds level (options_of level document) ≡ [])
+no_rejections : (document : Document) (level : LevelName) → row_rejections document ≡ []
+    → (kinds_rejections document.ais document.kinds ≡ []) × (level_rejections document.ais document.kinds level (options_of level document) ≡ [])
 unfolding row_rejections
 no_rejections document level none =
     let rows = none_behind (limit_rejections document) (map Ai (table_errors document.ais) ++ rule_rejections document.ais document.kinds document.binary document.tag document.pure) none in
     let kept = sound document.ais document.kinds document.binary document.tag document.pure (none_behind (map Ai (table_errors document.ais)) (rule_rejections document.ais document.kinds document.binary document.tag document.pure) rows) in
     (kept.kinds_kept, by level kept.binary_kept kept.tag_kept kept.pure_kept)
   where
-    by : (level : LevelName) → level_rejections document.ais document.kinds Binary document.binary ≡ [] → level_rejections document.ais document.kinds Tag document.tag ≡ [] → level_rejections document.ais document.kinds Pure document.pure ≡ [] → level_rejections document.ais document.kinds level (options_of level document) ≡ []
+    by : (level : LevelName) → level_rejections document.ais document.kinds Binary document.binary ≡ []
+        → level_rejections document.ais document.kinds Tag document.tag ≡ []
+        → level_rejections document.ais document.kinds Pure document.pure ≡ []
+        → level_rejections document.ais document.kinds level (options_of level document) ≡ []
     by Binary b t p = b
     by Tag b t p = t
     by Pure b t p = p
@@ -52,7 +56,9 @@ record RowAt (kinds : List KindRow) (rows : List OptionRow) (i : ℕ) (items : L
   items_are : items ≡ items_alone row
   info_is : info ≡ info_of kinds row
 
-level_at : (kinds : List KindRow) (bits : Bool) (rows : List OptionRow) (i : ℕ) (items : List Item) (info : OptInfo) → slice_get (item_lists (map (option_form bits) rows)) i ≡ Some items → slice_get (map (info_of kinds) rows) i ≡ Some info → RowAt kinds rows i items info
+level_at : (kinds : List KindRow) (bits : Bool) (rows : List OptionRow) (i : ℕ) (items : List Item) (info : OptInfo)
+    → slice_get (item_lists (map (option_form bits) rows)) i ≡ Some items → slice_get (map (info_of kinds) rows) i ≡ Some info
+    → RowAt kinds rows i items info
 level_at kinds bits rows i items info of_level said =
     let row = mapped_some (info_of kinds) (slice_get rows i) info (sym (slice_get-map (info_of kinds) rows i) ∙ said) in
     let option = mapped_some (λ (o : OptionForm). o.items) (slice_get (map (option_form bits) rows) i) items (sym (slice_get-map (λ (o : OptionForm). o.items) (map (option_form bits) rows) i) ∙ of_level) in
@@ -64,13 +70,15 @@ level_at kinds bits rows i items info of_level said =
 -- ---- an option of a set
 
 -- the form that an option is tested by is that of the kind's key
-same_form : (ais : List AiRow) (key : List ℕ) (row : AiRow) (form other : KeyForm) → find (has_code key) ais ≡ Some row → key_form row.parts ≡ Some form → form_at ais key ≡ Some other → other ≡ form
+same_form : (ais : List AiRow) (key : List ℕ) (row : AiRow) (form other : KeyForm) → find (has_code key) ais ≡ Some row
+    → key_form row.parts ≡ Some form → form_at ais key ≡ Some other → other ≡ form
 same_form ais key row form other found formed at =
     let here : form_at ais key ≡ key_form row.parts = rw found refl in
     let same : Some other ≡ Some form = sym at ∙ here ∙ formed in
     cc
 
-of_row : (document : Document) (level : LevelName) (i : ℕ) (items : List Item) (info : OptInfo) (row : OptionRow) → row_rejections document ≡ [] → slice_get (options_of level document) i ≡ Some row
+of_row : (document : Document) (level : LevelName) (i : ℕ) (items : List Item) (info : OptInfo) (row : OptionRow)
+    → row_rejections document ≡ [] → slice_get (options_of level document) i ≡ Some row
     → items ≡ items_alone row → info ≡ info_of document.kinds row → KeptOption (set_of document) level items info
 of_row document level i items info row none at items_are info_is =
     let none' = no_rejections document level none in
@@ -113,11 +121,13 @@ options_kept set level shaped i items info of_level said =
 
 -- ---- the options and their facts are equally many
 
-as_many_rows : (kinds : List KindRow) (level : LevelName) (rows : List OptionRow) → length (level_of kinds level rows).level.options ≡ length (level_of kinds level rows).info
+as_many_rows : (kinds : List KindRow) (level : LevelName) (rows : List OptionRow)
+    → length (level_of kinds level rows).level.options ≡ length (level_of kinds level rows).info
 as_many_rows kinds level [] = refl
 as_many_rows kinds level (row ∷ rows) = ap suc (as_many_rows kinds level rows)
 
-as_many_made : (document : Document) (level : LevelName) → length (level_rows level (set_of document)).level.options ≡ length (level_rows level (set_of document)).info
+as_many_made : (document : Document) (level : LevelName)
+    → length (level_rows level (set_of document)).level.options ≡ length (level_rows level (set_of document)).info
 as_many_made document Binary = as_many_rows document.kinds Binary document.binary
 as_many_made document Tag = as_many_rows document.kinds Tag document.tag
 as_many_made document Pure = as_many_rows document.kinds Pure document.pure

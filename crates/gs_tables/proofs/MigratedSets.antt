@@ -2,7 +2,7 @@
 use Rattle.std.proofs.Common.{◌≡◌, ℕ, suc, ◌+◌, not, Bool, true, false, List, [], ◌∷◌, map, position, Option, Some, None, is_some, slice_get, refl, arith, inl, inr}
 use Rattle.std.specs.Prelude.{Result, Ok, Err, IfOk}
 use Rattle.std.specs.List.{list_all}
-use Rattle.gs_chars.proofs.TruthsAndLists.{and_first, and_second, and_true, nil_parts, none_behind, map_none}
+use Rattle.gs_chars.proofs.TruthsAndLists.{and_first, and_second, nil_parts, none_behind, map_none}
 use Rattle.gs_chars.specs.Answers.{error_if}
 use Rattle.gs_ai.specs.declared.part.Part.{Part}
 use Rattle.gs_ai.specs.declared.part.Part.TheVariants as part
@@ -11,7 +11,6 @@ use Rattle.gs_ai.specs.Parts.{is_part}
 use Rattle.gs_ai.specs.Tables.{is_row, table_errors}
 use Rattle.gs_ai.proofs.RowLemmas.{listed, row_parts}
 use Rattle.gs_ai.proofs.RuleLemmas.{none_at, rules_kept}
-use Rattle.gs_ai.proofs.Searches.{cons_none}
 use Rattle.gs_tables_document.specs.Documents.{is_bits}
 use Rattle.gs_tables_document.specs.Items.{FieldItem}
 use Rattle.gs_tables_document.specs.Readings.{Holds}
@@ -26,12 +25,14 @@ use Rattle.gs_tables.specs.MigratedSets.{Loads, LoadsAlike}
 use Rattle.gs_tables.specs.Shapes.{Shape}
 use Rattle.gs_tables.specs.Tables.{TableRows, is_bad_item, is_version, kinds_rejections, level_rejections, limit_rejections, option_rejections, rejections, row_rejections}
 use Rattle.gs_tables.proofs.KeptRows.{none_listed, not_rejected}
+use Rattle.gs_chars.proofs.Searches.{cons_none}
+use Rattle.std.proofs.lemmas.Bool.{and_from}
 
 -- ---- all of a list
 
 all_at : {X : Type 0} (test : X → Bool) (xs : List X) → ((i : ℕ) (x : X) → slice_get xs i ≡ Some x → test x ≡ true) → list_all test xs ≡ true
 all_at test [] each = refl
-all_at test (x ∷ xs) each = and_true (test x) (list_all test xs) (each 0 x refl) (all_at test xs (λ i y at. each (suc i) y at))
+all_at test (x ∷ xs) each = and_from (test x) (list_all test xs) (each 0 x refl) (all_at test xs (λ i y at. each (suc i) y at))
 
 -- ---- parts
 
@@ -49,7 +50,8 @@ known_part part.Other h = absurd (let g : false ≡ true = h in cc)
 known_parts : (parts : List Part) → list_all is_part parts ≡ true → list_all is_known_part parts ≡ true
 known_parts [] h = refl
 known_parts (p ∷ parts) h =
-    and_true (is_known_part p) (list_all is_known_part parts) (known_part p (and_first (is_part p) (list_all is_part parts) h)) (known_parts parts (and_second (is_part p) (list_all is_part parts) h))
+    and_from (is_known_part p) (list_all is_known_part parts) (known_part p (and_first (is_part p) (list_all is_part parts) h))
+    (known_parts parts (and_second (is_part p) (list_all is_part parts) h))
 
 known_row : (row : AiRow) → is_row row ≡ true → has_parts row ≡ true
 known_row row h = known_parts row.parts (listed row.parts (row_parts row h))
@@ -64,7 +66,8 @@ none_missing bits [] none = refl
 none_missing bits (None ∷ items) none = let g = cons_none (is_bad_item bits) None items none in absurd (let k : true ≡ false = g.0 in cc)
 none_missing bits (Some x ∷ items) none = let g = cons_none (is_bad_item bits) (Some x) items none in none_missing bits items g.1
 
-known_option : (ais : List AiRow) (kinds : List KindRow) (level : LevelName) (rows : List OptionRow) (i : ℕ) (row : OptionRow) → option_rejections ais kinds level rows (i, row) ≡ [] → has_items row ≡ true
+known_option : (ais : List AiRow) (kinds : List KindRow) (level : LevelName) (rows : List OptionRow) (i : ℕ) (row : OptionRow)
+    → option_rejections ais kinds level rows (i, row) ≡ [] → has_items row ≡ true
 unfolding option_rejections
 known_option ais kinds level rows i row none =
     let first = nil_parts _ _ none in
@@ -72,7 +75,8 @@ known_option ais kinds level rows i row none =
     let third = nil_parts _ _ second.0 in
     none_missing (is_bits level) row.items (none_listed (λ k. BadItem level i k) (position (is_bad_item (is_bits level)) row.items) third.0)
 
-known_options : (ais : List AiRow) (kinds : List KindRow) (level : LevelName) (rows : List OptionRow) → level_rejections ais kinds level rows ≡ [] → list_all has_items rows ≡ true
+known_options : (ais : List AiRow) (kinds : List KindRow) (level : LevelName) (rows : List OptionRow)
+    → level_rejections ais kinds level rows ≡ [] → list_all has_items rows ≡ true
 unfolding level_rejections
 known_options ais kinds level rows none =
     all_at has_items rows
@@ -111,7 +115,8 @@ module _ (bytes text : List ℕ) (holds : (document : Document) → Holds bytes 
   loads_alike : LoadsAlike bytes text
   loads_alike set answer = (shape_alike set answer.0, answer.1)
 
-pub answer_alike : {E : Type 0} (bytes : List ℕ) (answer : Result (List ℕ) E) → IfOk answer (λ text. (document : Document) → Holds bytes document → Holds text (in_second document)) → IfOk answer (LoadsAlike bytes)
+pub answer_alike : {E : Type 0} (bytes : List ℕ) (answer : Result (List ℕ) E)
+    → IfOk answer (λ text. (document : Document) → Holds bytes document → Holds text (in_second document)) → IfOk answer (LoadsAlike bytes)
 answer_alike bytes (Ok text) holds = loads_alike bytes text holds
 answer_alike bytes (Err e) holds = tt
 

@@ -27,7 +27,8 @@ first_is : {X : Type 0} (errors : List LoadFault) (made : X) (e : LoadFault) →
 first_is [] made e h = absurd (let g : None ≡ Some e = h in cc)
 first_is (x ∷ errors) made e h = let same : x ≡ e = cc in rw same refl
 
-only_answer : {X : Type 0} (errors : List LoadFault) (made : X) (answer : Result X LoadFault) → IsAnswer errors made answer → HasMemory answer → answer ≡ answer_of errors made
+only_answer : {X : Type 0} (errors : List LoadFault) (made : X) (answer : Result X LoadFault) → IsAnswer errors made answer
+    → HasMemory answer → answer ≡ answer_of errors made
 only_answer errors made (Ok x) h enough = rw (h.0, h.1) refl
 only_answer errors made (Err Memory) h enough = absurd (enough refl)
 only_answer errors made (Err (Json error)) h enough = first_is errors made (Json error) h
@@ -66,13 +67,15 @@ some_of_builtin = (
 
 one_of_builtin : (one other : Result TableRows LoadFault) → RuledRows one → RuledRows other → HasMemory one → HasMemory other → one ≡ other
 one_of_builtin one other a b enough enough' =
-    only_answer (row_rejections builtin_document) (set_of builtin_document) one a enough ∙ sym (only_answer (row_rejections builtin_document) (set_of builtin_document) other b enough')
+    only_answer (row_rejections builtin_document) (set_of builtin_document) one a enough ∙ sym
+    (only_answer (row_rejections builtin_document) (set_of builtin_document) other b enough')
 
 shaped_own : (set : TableRows) → RuledRows (Ok set) → IsShaped set
 shaped_own set answer = record { document = builtin_document; in_order = answer.0; made = answer.1 }
 
 -- no rule answers that a level is ambiguous
-never_ambiguous : {X : Type 0} (errors : List LoadFault) (made : X) (name : LevelName) (i j : ℕ) (text : List ℕ) → AreRuled errors → IsAnswer errors made (Err (Ambiguous name i j text)) → ⊥
+never_ambiguous : {X : Type 0} (errors : List LoadFault) (made : X) (name : LevelName) (i j : ℕ) (text : List ℕ) → AreRuled errors
+    → IsAnswer errors made (Err (Ambiguous name i j text)) → ⊥
 never_ambiguous errors made name i j text ruled h = let f : true ≡ false = ruled_first errors (Ambiguous name i j text) ruled h in cc
 
 pub ruling_of_builtin : IsRuling RuledRows
@@ -109,11 +112,13 @@ parts_of bytes (Err (Mismatch level i)) h enough = h
 parts_of bytes (Err (Duplicate level j i)) h enough = h
 parts_of bytes (Err (Ambiguous level i j text)) h enough = h
 
-error_of : (bytes : List ℕ) (answer : Result TableRows LoadFault) → ByForm bytes answer → (error : JsonFault) × (answer ≡ Err (Json error)) × IsFormError bytes error
+error_of : (bytes : List ℕ) (answer : Result TableRows LoadFault) → ByForm bytes answer
+    → (error : JsonFault) × (answer ≡ Err (Json error)) × IsFormError bytes error
 error_of bytes (Err (Json error)) h = (error, refl, h)
 error_of bytes answer h = absurd h
 
-one_of : (bytes : List ℕ) (one other : Result TableRows LoadFault) → ByForm bytes one ⊎ ByRows bytes one → ByForm bytes other ⊎ ByRows bytes other → HasMemory one → HasMemory other → one ≡ other
+one_of : (bytes : List ℕ) (one other : Result TableRows LoadFault) → ByForm bytes one ⊎ ByRows bytes one
+    → ByForm bytes other ⊎ ByRows bytes other → HasMemory one → HasMemory other → one ≡ other
 one_of bytes one other (inl a) (inl b) enough enough' =
     let f = error_of bytes one a in
     let g = error_of bytes other b in
@@ -122,7 +127,8 @@ one_of bytes one other (inl a) (inr b) enough enough' = let f = error_of bytes o
 one_of bytes one other (inr a) (inl b) enough enough' = let f = error_of bytes other b in absurd (not_both bytes a.0 f.0 a.1 f.2)
 one_of bytes one other (inr a) (inr b) enough enough' =
     let same = one_of_bytes bytes a.0 b.0 a.1 b.1 in
-    only_answer (rejections a.0) (set_of a.0) one a.2 enough ∙ ap (λ document. answer_of (rejections document) (set_of document)) same ∙ sym (only_answer (rejections b.0) (set_of b.0) other b.2 enough')
+    only_answer (rejections a.0) (set_of a.0) one a.2 enough ∙ ap (λ document. answer_of (rejections document) (set_of document)) same ∙ sym
+    (only_answer (rejections b.0) (set_of b.0) other b.2 enough')
 
 one_answer : (bytes : List ℕ) (one other : Result TableRows LoadFault) → Shape bytes one → Shape bytes other → HasMemory one → HasMemory other → one ≡ other
 one_answer bytes one other a b enough enough' = one_of bytes one other (parts_of bytes one a enough) (parts_of bytes other b enough') enough enough'

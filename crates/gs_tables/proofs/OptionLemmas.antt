@@ -30,19 +30,25 @@ not_tested test found e = rw e refl
 
 -- the rejections of an option by the tests that they come of
 abbrev pub listed : Option ℕ → Option ℕ → (ℕ → LoadFault) → (ℕ → LoadFault) → Bool → Bool → LoadFault → LoadFault → List LoadFault
-listed bad twin f twins large fit size mismatch = option_to_list (option_map f bad) ++ error_if large size ++ error_if (not fit) mismatch ++ option_to_list (option_map twins twin)
+listed bad twin f twins large fit size mismatch = option_to_list (option_map f bad) ++ error_if large size ++ error_if
+    (not fit) mismatch ++ option_to_list (option_map twins twin)
 
-pub bad_first : (bad twin : Option ℕ) (f twins : ℕ → LoadFault) (large fit : Bool) (size mismatch : LoadFault) (k : ℕ) → bad ≡ Some k → slice_get (listed bad twin f twins large fit size mismatch) 0 ≡ Some (f k)
+pub bad_first : (bad twin : Option ℕ) (f twins : ℕ → LoadFault) (large fit : Bool) (size mismatch : LoadFault) (k : ℕ) → bad ≡ Some k
+    → slice_get (listed bad twin f twins large fit size mismatch) 0 ≡ Some (f k)
 bad_first bad twin f twins large fit size mismatch k e = rw e refl
 
-pub size_next : (bad twin : Option ℕ) (f twins : ℕ → LoadFault) (large fit : Bool) (size mismatch : LoadFault) → bad ≡ None → large ≡ true → slice_get (listed bad twin f twins large fit size mismatch) 0 ≡ Some size
+pub size_next : (bad twin : Option ℕ) (f twins : ℕ → LoadFault) (large fit : Bool) (size mismatch : LoadFault) → bad ≡ None → large ≡ true
+    → slice_get (listed bad twin f twins large fit size mismatch) 0 ≡ Some size
 size_next bad twin f twins large fit size mismatch e g = rw (e, g) refl
 
-pub mismatch_next : (bad twin : Option ℕ) (f twins : ℕ → LoadFault) (large fit : Bool) (size mismatch : LoadFault) → bad ≡ None → large ≡ false → fit ≡ false → slice_get (listed bad twin f twins large fit size mismatch) 0 ≡ Some mismatch
+pub mismatch_next : (bad twin : Option ℕ) (f twins : ℕ → LoadFault) (large fit : Bool) (size mismatch : LoadFault) → bad ≡ None
+    → large ≡ false → fit ≡ false → slice_get (listed bad twin f twins large fit size mismatch) 0 ≡ Some mismatch
 mismatch_next bad twin f twins large fit size mismatch e g h = rw (e, g, h) refl
 
 -- the deciding rule if the first three tests reject nothing
-pub twin_decides : (bad twin : Option ℕ) (f twins : ℕ → LoadFault) (large fit : Bool) (size mismatch : LoadFault) (answer : Result (Unit {0}) LoadFault) → bad ≡ None → large ≡ false → fit ≡ true → IsFirst (option_to_list (option_map twins twin)) answer → IsFirst (listed bad twin f twins large fit size mismatch) answer
+pub twin_decides : (bad twin : Option ℕ) (f twins : ℕ → LoadFault) (large fit : Bool) (size mismatch : LoadFault) (answer : Result (Unit {0}) LoadFault)
+    → bad ≡ None → large ≡ false → fit ≡ true → IsFirst (option_to_list (option_map twins twin)) answer
+    → IsFirst (listed bad twin f twins large fit size mismatch) answer
 twin_decides bad twin f twins large fit size mismatch answer e g h i = rw (e, g, h) i
 
 pub found_same : (twin : Option ℕ) (twins : ℕ → LoadFault) (j : ℕ) → twin ≡ Some j → slice_get (option_to_list (option_map twins twin)) 0 ≡ Some (twins j)

@@ -5,13 +5,14 @@ use Rattle.std.specs.Slice.{IsItemAt}
 use Rattle.std.proofs.lemmas.Option.{slice_get_past}
 use Rattle.gs_ai.specs.declared.row.AiRow.{AiRow}
 use Rattle.gs_ai.specs.Values.{has_code}
-use Rattle.gs_ai.proofs.Searches.{find_at_place, find_none, position_some, read_at}
 use Rattle.gs_tables_document.specs.declared.document.Kind.{Kind}
 use Rattle.gs_tables_document.specs.declared.document.SerialAt.{SerialAt}
 use Rattle.gs_tables_document.specs.declared.document.SerialAt.TheVariants.{Nowhere, Tail, Ai}
 use Rattle.gs_tables.specs.declared.kind_places.KindPlaces.{KindPlaces}
 use Rattle.gs_tables.specs.Forms.{serial_row}
 use Rattle.gs_tables.specs.PlacesSupport.{places_of, serial_place}
+use Rattle.gs_chars.proofs.Searches.{find_at_place, find_none, position_some}
+use Rattle.gs_chars.proofs.TruthsAndLists.{read_at}
 
 -- the element that `get` lends
 pub lent_at : {X : Type 0} (xs : List X) (i : ℕ) (r : Option (Bor X)) → IsItemAt xs i r → option_copied r ≡ slice_get xs i
@@ -32,12 +33,14 @@ at_serial ais Nowhere = slice_get_past ais (length ais) (omega arith)
 at_serial ais Tail = slice_get_past ais (length ais) (omega arith)
 
 -- the rows of the kind of an index
-pub key_at : (ais : List AiRow) (kinds : List Kind) (i : ℕ) (d : KindPlaces) → i < length kinds → slice_get ais (get_or (map (places_of ais) kinds) i d).key ≡ option_and_then (λ (k : Kind). find (has_code k.key) ais) (slice_get kinds i)
+pub key_at : (ais : List AiRow) (kinds : List Kind) (i : ℕ) (d : KindPlaces) → i < length kinds
+    → slice_get ais (get_or (map (places_of ais) kinds) i d).key ≡ option_and_then (λ (k : Kind). find (has_code k.key) ais) (slice_get kinds i)
 key_at ais [] i d low = absurd (omega arith)
 key_at ais (k ∷ ks) zero d low = at_first (has_code k.key) ais
 key_at ais (k ∷ ks) (suc i) d low = key_at ais ks i d (omega arith)
 
-pub serial_at : (ais : List AiRow) (kinds : List Kind) (i : ℕ) (d : KindPlaces) → i < length kinds → slice_get ais (get_or (map (places_of ais) kinds) i d).serial ≡ option_and_then (λ (k : Kind). serial_row ais k.serial) (slice_get kinds i)
+pub serial_at : (ais : List AiRow) (kinds : List Kind) (i : ℕ) (d : KindPlaces) → i < length kinds
+    → slice_get ais (get_or (map (places_of ais) kinds) i d).serial ≡ option_and_then (λ (k : Kind). serial_row ais k.serial) (slice_get kinds i)
 serial_at ais [] i d low = absurd (omega arith)
 serial_at ais (k ∷ ks) zero d low = at_serial ais k.serial
 serial_at ais (k ∷ ks) (suc i) d low = serial_at ais ks i d (omega arith)

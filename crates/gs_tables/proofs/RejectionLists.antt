@@ -19,7 +19,8 @@ first_mapped f [] x h = cc
 first_mapped f (y ∷ ys) x h = let e : y ≡ x = cc in ap (λ z. Some (f z)) e
 
 -- another version is rejected
-pub version_first : (version : ℕ) (test : Bool) → test ≡ is_version version → test ≡ false → slice_get (error_if (not (is_version version)) Version) 0 ≡ Some Version
+pub version_first : (version : ℕ) (test : Bool) → test ≡ is_version version → test ≡ false
+    → slice_get (error_if (not (is_version version)) Version) 0 ≡ Some Version
 version_first version test is other = rw (← is, other) refl
 
 -- the first of two concatenated lists of rejections
@@ -43,7 +44,8 @@ rejected rejections made (Ambiguous level i j text) h = h
 rejected rejections made Memory h = tt
 
 -- the answer by a list is that by a longer one with nothing at the start
-pub rejected_behind : {X Y : Type 0} (a b c : List LoadFault) (x : X) (y : Y) (e : LoadFault) → a ≡ [] → IsAnswer b x (Err e) → IsAnswer (a ++ (b ++ c)) y (Err e)
+pub rejected_behind : {X Y : Type 0} (a b c : List LoadFault) (x : X) (y : Y) (e : LoadFault) → a ≡ [] → IsAnswer b x (Err e)
+    → IsAnswer (a ++ (b ++ c)) y (Err e)
 rejected_behind a b c x y (Json error) none h = rw none (first_of_front b c (Json error) h)
 rejected_behind a b c x y Version none h = rw none (first_of_front b c Version h)
 rejected_behind a b c x y (Limit name) none h = rw none (first_of_front b c (Limit name) h)
@@ -57,8 +59,10 @@ rejected_behind a b c x y Memory none h = tt
 
 -- ---- the rejection of a kind
 
-pub kind_rejected : (ais : List AiRow) (kinds : List KindRow) (i : ℕ) (kind : KindRow) → is_kind ais (take i kinds) kind ≡ false → slice_get (kind_rejections ais kinds (i, kind)) 0 ≡ Some (BadKind i)
+pub kind_rejected : (ais : List AiRow) (kinds : List KindRow) (i : ℕ) (kind : KindRow) → is_kind ais (take i kinds) kind ≡ false
+    → slice_get (kind_rejections ais kinds (i, kind)) 0 ≡ Some (BadKind i)
 kind_rejected ais kinds i kind h = rw h refl
 
-pub kind_in_order : (ais : List AiRow) (kinds : List KindRow) (i : ℕ) (kind : KindRow) → is_kind ais (take i kinds) kind ≡ true → kind_rejections ais kinds (i, kind) ≡ []
+pub kind_in_order : (ais : List AiRow) (kinds : List KindRow) (i : ℕ) (kind : KindRow) → is_kind ais (take i kinds) kind ≡ true
+    → kind_rejections ais kinds (i, kind) ≡ []
 kind_in_order ais kinds i kind h = rw h refl

@@ -2,7 +2,6 @@
 use Rattle.std.proofs.Common.{◌≡◌, ℕ, ◌||◌, nat_lt, not, Bool, true, false, List, [], ◌∷◌, ◌++◌, take, map, position, Option, Some, None, slice_get, refl, option_map}
 use Rattle.std.specs.Prelude.{option_to_list}
 use Rattle.std.specs.List.{flat_map, list_any, enumerate_from}
-use Rattle.gs_chars.proofs.TruthsAndLists.{or_parts}
 use Rattle.gs_ai.specs.declared.row.AiRow.{AiRow}
 use Rattle.gs_ai.specs.Tables.{table_errors}
 use Rattle.gs_tables_document.specs.declared.document.Document.{Document}
@@ -18,6 +17,7 @@ use Rattle.gs_grammar.specs.Items.{size_of_all}
 use Rattle.gs_grammar.specs.Limits.{most_symbols}
 use Rattle.gs_chars.specs.Answers.{error_if}
 use Rattle.gs_tables.specs.Tables.{fits, has_long, is_bad_item, is_same, is_version, items_alone, kind_rejections, kinds_rejections, level_rejections, limit_rejections, more_than, option_rejections, rejections, row_rejections}
+use Rattle.std.proofs.lemmas.Bool.{or_parts}
 
 -- out of memory, or an ambiguous level
 abbrev pub is_unruled : LoadFault → Bool
@@ -67,7 +67,8 @@ ruled_of_kinds : (ais : List AiRow) (kinds : List KindRow) → AreRuled (kinds_r
 unfolding kinds_rejections
 ruled_of_kinds ais kinds = ruled_of_rows (kind_rejections ais kinds) (λ row. ruled_if _ (BadKind row.0) refl) (enumerate_from 0 kinds)
 
-ruled_of_option : (ais : List AiRow) (kinds : List KindRow) (level : LevelName) (rows : List OptionRow) (i : ℕ) (row : OptionRow) → AreRuled (option_rejections ais kinds level rows (i, row))
+ruled_of_option : (ais : List AiRow) (kinds : List KindRow) (level : LevelName) (rows : List OptionRow) (i : ℕ) (row : OptionRow)
+    → AreRuled (option_rejections ais kinds level rows (i, row))
 unfolding option_rejections
 ruled_of_option ais kinds level rows i row =
     let bad = option_to_list (option_map (λ k. BadItem level i k) (position (is_bad_item (is_bits level)) row.items)) in
@@ -82,7 +83,8 @@ ruled_of_option ais kinds level rows i row =
 
 ruled_of_level : (ais : List AiRow) (kinds : List KindRow) (level : LevelName) (rows : List OptionRow) → AreRuled (level_rejections ais kinds level rows)
 unfolding level_rejections
-ruled_of_level ais kinds level rows = ruled_of_rows (option_rejections ais kinds level rows) (λ row. ruled_of_option ais kinds level rows row.0 row.1) (enumerate_from 0 rows)
+ruled_of_level ais kinds level rows = ruled_of_rows (option_rejections ais kinds level rows)
+    (λ row. ruled_of_option ais kinds level rows row.0 row.1) (enumerate_from 0 rows)
 
 pub ruled_of_document : (document : Document) → AreRuled (row_rejections document)
 unfolding row_rejections
@@ -101,7 +103,8 @@ ruled_of_document document =
 pub ruled_of_all : (document : Document) → AreRuled (rejections document)
 unfolding rejections
 ruled_of_all document =
-    ruled_of_both (error_if (not (is_version document.version)) Version) (row_rejections document) (ruled_if (not (is_version document.version)) Version refl) (ruled_of_document document)
+    ruled_of_both (error_if (not (is_version document.version)) Version) (row_rejections document)
+    (ruled_if (not (is_version document.version)) Version refl) (ruled_of_document document)
 
 -- the first of them is one by a rule
 pub ruled_first : (errors : List LoadFault) (error : LoadFault) → AreRuled errors → slice_get errors 0 ≡ Some error → is_unruled error ≡ false

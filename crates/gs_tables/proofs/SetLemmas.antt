@@ -24,32 +24,39 @@ pub record Sound (ais : List AiRow) (kinds : List KindRow) (binary tag pure : Li
   pub tag_kept : level_rejections ais kinds Tag tag ≡ []
   pub pure_kept : level_rejections ais kinds Pure pure ≡ []
 
-pub sound : (ais : List AiRow) (kinds : List KindRow) (binary tag pure : List OptionRow) → rule_rejections ais kinds binary tag pure ≡ [] → Sound ais kinds binary tag pure
+pub sound : (ais : List AiRow) (kinds : List KindRow) (binary tag pure : List OptionRow) → rule_rejections ais kinds binary tag pure ≡ []
+    → Sound ais kinds binary tag pure
 sound ais kinds binary tag pure none =
     let levels = none_behind (kinds_rejections ais kinds) (level_rejections ais kinds Binary binary ++ (level_rejections ais kinds Tag tag ++ level_rejections ais kinds Pure pure)) none in
     let texts = none_behind (level_rejections ais kinds Binary binary) (level_rejections ais kinds Tag tag ++ level_rejections ais kinds Pure pure) levels in
     record {
       kinds_kept = none_in_front (kinds_rejections ais kinds) (level_rejections ais kinds Binary binary ++ (level_rejections ais kinds Tag tag ++ level_rejections ais kinds Pure pure)) none;
-      binary_kept = none_in_front (level_rejections ais kinds Binary binary) (level_rejections ais kinds Tag tag ++ level_rejections ais kinds Pure pure) levels;
+      binary_kept = none_in_front (level_rejections ais kinds Binary binary)
+          (level_rejections ais kinds Tag tag ++ level_rejections ais kinds Pure pure) levels;
       tag_kept = none_in_front (level_rejections ais kinds Tag tag) (level_rejections ais kinds Pure pure) texts;
       pure_kept = none_behind (level_rejections ais kinds Tag tag) (level_rejections ais kinds Pure pure) texts;
     }
 
 -- ---- rejections of a document's rows
 
-pub limit_rejected : (document : Document) (e : LoadFault) → slice_get (limit_rejections document) 0 ≡ Some e → IsAnswer (row_rejections document) (set_of document) (Err e)
+pub limit_rejected : (document : Document) (e : LoadFault) → slice_get (limit_rejections document) 0 ≡ Some e
+    → IsAnswer (row_rejections document) (set_of document) (Err e)
 unfolding row_rejections
 limit_rejected document e h =
     rejected (limit_rejections document ++ (map Ai (table_errors document.ais) ++ rule_rejections document.ais document.kinds document.binary document.tag document.pure)) (set_of document) e
     (first_of_front (limit_rejections document) (map Ai (table_errors document.ais) ++ rule_rejections document.ais document.kinds document.binary document.tag document.pure) e h)
 
-pub ais_rejected : (document : Document) (e : LoadFault) → limit_rejections document ≡ [] → IsAnswer (map Ai (table_errors document.ais)) document.ais (Err e) → IsAnswer (row_rejections document) (set_of document) (Err e)
+pub ais_rejected : (document : Document) (e : LoadFault) → limit_rejections document ≡ []
+    → IsAnswer (map Ai (table_errors document.ais)) document.ais (Err e) → IsAnswer (row_rejections document) (set_of document) (Err e)
 unfolding row_rejections
 ais_rejected document e none h =
-    rejected_behind (limit_rejections document) (map Ai (table_errors document.ais)) (rule_rejections document.ais document.kinds document.binary document.tag document.pure) document.ais (set_of document) e none h
+    rejected_behind (limit_rejections document) (map Ai (table_errors document.ais))
+    (rule_rejections document.ais document.kinds document.binary document.tag document.pure) document.ais (set_of document) e none h
 
-pub others_rejected : (document : Document) (ais : List AiRow) (e : LoadFault) → limit_rejections document ≡ [] → (map Ai (table_errors document.ais) ≡ []) × (ais ≡ document.ais)
-    → slice_get (rule_rejections ais document.kinds document.binary document.tag document.pure) 0 ≡ Some e → IsAnswer (row_rejections document) (set_of document) (Err e)
+pub others_rejected : (document : Document) (ais : List AiRow) (e : LoadFault) → limit_rejections document ≡ []
+    → (map Ai (table_errors document.ais) ≡ []) × (ais ≡ document.ais)
+    → slice_get (rule_rejections ais document.kinds document.binary document.tag document.pure) 0 ≡ Some e → IsAnswer
+    (row_rejections document) (set_of document) (Err e)
 unfolding row_rejections
 others_rejected document ais e none table h =
     rejected (limit_rejections document ++ (map Ai (table_errors document.ais) ++ rule_rejections document.ais document.kinds document.binary document.tag document.pure)) (set_of document) e
@@ -66,7 +73,8 @@ rules_kept document ais limits table rest =
     none_of_both (limit_rejections document) (map Ai (table_errors document.ais) ++ rule_rejections document.ais document.kinds document.binary document.tag document.pure) limits
     (none_of_both (map Ai (table_errors document.ais)) (rule_rejections document.ais document.kinds document.binary document.tag document.pure) table.0 rest')
 
-pub set_made : (document : Document) (ais : List AiRow) (set : TableRows) → limit_rejections document ≡ [] → (map Ai (table_errors document.ais) ≡ []) × (ais ≡ document.ais)
+pub set_made : (document : Document) (ais : List AiRow) (set : TableRows) → limit_rejections document ≡ []
+    → (map Ai (table_errors document.ais) ≡ []) × (ais ≡ document.ais)
     → rule_rejections ais document.kinds document.binary document.tag document.pure ≡ []
     → set.ais ≡ ais → set.kinds ≡ map (kind_of ais) document.kinds → set.binary ≡ level_of document.kinds Binary document.binary
     → set.tag ≡ level_of document.kinds Tag document.tag → set.pure ≡ level_of document.kinds Pure document.pure
@@ -82,14 +90,16 @@ rejected_version : (test : Bool) (e : LoadFault) → slice_get (error_if test Ve
 rejected_version true e h = let same : Version ≡ e = cc in sym same
 rejected_version false e h = absurd (let g : None ≡ Some e = h in cc)
 
-pub version_rejected : (bytes : List ℕ) (document : Document) (e : LoadFault) → Holds bytes document → IsFirst (error_if (not (is_version document.version)) Version) (Err e) → LoadAnswer bytes (Err e)
+pub version_rejected : (bytes : List ℕ) (document : Document) (e : LoadFault) → Holds bytes document
+    → IsFirst (error_if (not (is_version document.version)) Version) (Err e) → LoadAnswer bytes (Err e)
 unfolding rejections
 version_rejected bytes document e holds h =
     let same = rejected_version (not (is_version document.version)) e h in
     rw same (inr (document, holds, first_of_front (error_if (not (is_version document.version)) Version) (row_rejections document) Version (rw same at h)))
 
 -- the answer by the rows of a document
-pub by_rows : (bytes : List ℕ) (document : Document) (answer : Result TableRows LoadFault) → Holds bytes document → IsAnswer (rejections document) (set_of document) answer → Shape bytes answer
+pub by_rows : (bytes : List ℕ) (document : Document) (answer : Result TableRows LoadFault) → Holds bytes document
+    → IsAnswer (rejections document) (set_of document) answer → Shape bytes answer
 by_rows bytes document (Ok set) holds h = inr (document, holds, h)
 by_rows bytes document (Err Memory) holds h = tt
 by_rows bytes document (Err (Json error)) holds h = inr (document, holds, h)
@@ -107,7 +117,9 @@ behind_version : (document : Document) → error_if (not (is_version document.ve
 unfolding rejections
 behind_version document none = rw none refl
 
-pub rows_answer : (bytes : List ℕ) (document : Document) → Holds bytes document → IsFirst (error_if (not (is_version document.version)) Version) (Ok tt) → (answer : Result TableRows LoadFault) → IsAnswer (row_rejections document) (set_of document) answer → Shape bytes answer
+pub rows_answer : (bytes : List ℕ) (document : Document) → Holds bytes document
+    → IsFirst (error_if (not (is_version document.version)) Version) (Ok tt) → (answer : Result TableRows LoadFault)
+    → IsAnswer (row_rejections document) (set_of document) answer → Shape bytes answer
 rows_answer bytes document holds none answer h = by_rows bytes document answer holds (rw (behind_version document none) at h)
 
 -- an answer by the form

@@ -15,16 +15,16 @@ use Rattle.gs_tables.specs.declared.form.Room.TheVariants as room
 use Rattle.gs_tables_document.specs.declared.document.SerialAt.{SerialAt}
 use Rattle.gs_tables_document.specs.declared.document.SerialAt.TheVariants.{Nowhere, Tail, Ai}
 
--- trusted, own: digits with a check digit, and an optional tail, of characters or of digits
+-- trusted, own: the form of a key of digits with a check digit and an optional tail, of characters or of digits
 abbrev pub digits_form : List Part → Option KeyForm
 digits_form (NumCheck k ∷ []) = Some (Digits (k - 1) Nothing)
 digits_form (NumCheck k ∷ SetOpt most ∷ []) = Some (Digits (k - 1) (BehindTail (room.Characters most)))
 digits_form (NumCheck k ∷ NumOpt most ∷ []) = Some (Digits (k - 1) (BehindTail (room.Digits most)))
 digits_form _ = None
 
--- trusted, TDS 2.0, section 6.3; GS1 General Specifications, section 3.2: the form of the parts of a key, if a kind can have
--- them: an optional zero, digits with a check digit and an optional tail; digits with a check digit, a piece and a total; or only
--- characters
+-- trusted, TDS 2.0, section 6.3; GS1 General Specifications, section 3.2: The form of the parts of a key, if a kind can have
+-- them. It is an optional zero, digits with a check digit and an optional tail. Or it is digits with a check digit, a piece and
+-- a total, or only characters.
 abbrev pub key_form : List Part → Option KeyForm
 key_form (Zero ∷ parts) = digits_form parts
 key_form (Set most ∷ []) = Some (Characters most)
@@ -42,14 +42,14 @@ tail_of (Digits _ Nothing) = None
 tail_of (Digits _ (Further _ _)) = None
 tail_of (Characters _) = None
 
--- trusted, own: how many digits the piece and the total of a key have, and nothing of a key without them
+-- trusted, own: the numbers of digits of the piece and the total of a key, and nothing of a key without them
 abbrev pub further_of : KeyForm → List ℕ
 further_of (Digits _ (Further a b)) = a ∷ b ∷ []
 further_of (Digits _ Nothing) = []
 further_of (Digits _ (BehindTail _)) = []
 further_of (Characters _) = []
 
--- trusted, own: how many digits the piece and the total of the key of this code have
+-- trusted, own: the numbers of digits of the piece and the total of the key of `code`
 abbrev pub further_at : List AiRow → List ℕ → List ℕ
 further_at ais code = option_map_or further_of (form_at ais code) []
 

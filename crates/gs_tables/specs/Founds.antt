@@ -9,7 +9,7 @@ use Rattle.gs_tables.specs.Tables.{is_same}
 use Rattle.gs_tables.specs.declared.field_items.Found.{Found}
 use Rattle.gs_tables.specs.declared.field_items.Found.TheVariants.{None, One, More}
 
--- two items or more
+-- holds if the list has two items or more
 pub record IsMany (items : List Item) : Type 0 where
   pub first : Item
   pub second : Item

@@ -36,13 +36,13 @@ AreJudged levels (Err _) = ⊥
 abbrev pub levels_of_rows : List KindRow → (binary tag pure : List OptionRow) → LevelName → LevelForm
 levels_of_rows kinds binary tag pure = by_name (level_of kinds Binary binary).level (level_of kinds Tag tag).level (level_of kinds Pure pure).level
 
--- the tables of the levels are those that rows make
+-- holds if the tables of the levels are those that rows make
 abbrev pub AreOfRows : List KindRow → (binary tag pure : List OptionRow) → LevelTables → Type 0
 AreOfRows kinds binary tag pure made =
     (made.binary ≡ level_of kinds Binary binary) × (made.tag ≡ level_of kinds Tag tag) × (made.pure ≡ level_of kinds Pure pure)
 
--- The result that rows make, given the rejections of the rules and the levels of the rows: the first rejection. If there is none,
--- it is the check of the levels, and the value if none of them is ambiguous.
+-- Holds if this is the result of rows, given the rejections of the rules and the levels of the rows. It is the first rejection.
+-- If there is none, it is the check of the levels, and the value if none of them is ambiguous.
 abbrev pub RuledAnswer : {X : Type 0} → List LoadFault → (LevelName → LevelForm) → (X → Type 0) → Result X LoadFault → Type 0
 RuledAnswer rejections levels Made (Ok made) = (rejections ≡ []) × AreClear levels × Made made
 RuledAnswer rejections levels Made (Err e) = (slice_get rejections 0 ≡ Some e) ⊎ ((rejections ≡ []) × AreJudged levels (Err e))

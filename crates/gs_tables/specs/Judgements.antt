@@ -13,34 +13,34 @@ use Rattle.gs_tables.specs.Tables.{IsShaped, TableRows, level_rows}
 abbrev pub levels_of : TableRows → LevelName → LevelForm
 levels_of set name = (level_rows name set).level
 
--- trusted, own: the level is not ambiguous
+-- trusted, own: holds if `level` is not ambiguous
 abbrev pub IsClear : LevelForm → Type 0
 IsClear level = IsUnambiguous (item_lists level.options)
 
--- trusted, own: no level is ambiguous
+-- trusted, own: holds if no level is ambiguous
 abbrev pub AreClear : (LevelName → LevelForm) → Type 0
 AreClear levels = (name : LevelName) → IsClear (levels name)
 
--- trusted, own: none of the levels before this one is ambiguous, in the order binary, tag, pure
+-- trusted, own: holds if no level before the named one is ambiguous, in the order binary, tag, pure
 abbrev pub AreClearBefore : (LevelName → LevelForm) → LevelName → Type 0
 AreClearBefore levels Binary = Unit {0}
 AreClearBefore levels Tag = IsClear (levels Binary)
 AreClearBefore levels Pure = IsClear (levels Binary) × IsClear (levels Tag)
 
--- trusted, own, after TDT 2.0 section 3: This level is the first that is ambiguous. Its options i and j are the first pair
--- that shares a list, and the text shows one that they share.
+-- trusted, own, after TDT 2.0 section 3: Holds if the level `name` is the first that is ambiguous. Its options `i` and `j` are
+-- the first pair that shares a list, and `text` shows one that they share.
 pub record IsFirstAmbiguous (levels : LevelName → LevelForm) (name : LevelName) (i j : ℕ) (text : List ℕ) : Type 0 where
   pub before : AreClearBefore levels name
   pub share : ShowsFirstShare (levels name) i j text
 
--- trusted, own: The facts of every loaded set: it is the set of rows that no rule rejects, and none of its levels is ambiguous.
+-- trusted, own: holds if `set` is the set of rows that no rule rejects, and none of its levels is ambiguous
 pub record IsLoaded (set : TableRows) : Type 0 where
   pub shaped : IsShaped set
   pub clear : AreClear (levels_of set)
 
--- trusted, own: The result of a load, given the result of the rules. It is the set that they make if none of its levels is
--- ambiguous. Otherwise the rejection names the first ambiguous level, its first pair of options that shares a list, and a text
--- that shows one. A rejection of the rules is the result.
+-- trusted, own: Holds if the result is a rejection by the rules, or a set that they make with no ambiguous level. With an
+-- ambiguous level the result is a rejection. It names the first such level, its first pair of options that shares a list, and a
+-- text that shows one.
 abbrev pub Judged : (Result TableRows LoadFault → Type 0) → Result TableRows LoadFault → Type 0
 Judged Ruled (Ok set) = Ruled (Ok set) × AreClear (levels_of set)
 Judged Ruled (Err (Ambiguous name i j text)) = (set : TableRows) × Ruled (Ok set) × IsFirstAmbiguous (levels_of set) name i j text

@@ -19,7 +19,7 @@ use Rattle.gs_chars.specs.Characters.{are_visible}
 use Rattle.gs_tables.specs.Rules.{has_no_value, is_lead, is_serial_of, items_of_field, keeps_further, keeps_gcp, keeps_level, keeps_rest, keeps_serial}
 use Rattle.gs_tables.specs.Tables.{TableRows, level_rows}
 
--- trusted, TDS 2.0, section 6.3; own rules: Holds if the key of the kind is a key row of the table. Its form fits the kind's lead
+-- trusted, TDS 2.0, section 6.3; own rules: Holds if the key of `kind` is a key row of the table. Its form fits the kind's lead
 -- digits and serial, and has the kind's further fields.
 pub record KeptKind (ais : List AiRow) (kind : Kind) : Type 0 where
   pub row : AiRow
@@ -31,9 +31,9 @@ pub record KeptKind (ais : List AiRow) (kind : Kind) : Type 0 where
   pub serial : is_serial_of ais row form kind.serial ≡ true
   pub further : kind.further ≡ further_of form
 
--- trusted, TDT 2.0, sections 3 and 4; own rules: Holds if an option of these items and these facts satisfies the rules: its kind
--- is one of the set, its items are within their bounds, and items without a field have no value. With their fields the items fit
--- the level and the key of the kind.
+-- trusted, TDT 2.0, sections 3 and 4; own rules: Holds if an option of `items` and `info` satisfies the rules. Its kind is one
+-- of the set, its items are within their bounds, and items without a field have no value. With their fields the items fit the
+-- level and the key of the kind.
 pub record KeptOption (set : TableRows) (level : LevelName) (items : List Item) (info : OptInfo) : Type 0 where
   pub kind : Kind
   pub named : slice_get set.kinds info.kind ≡ Some kind
@@ -50,7 +50,7 @@ pub record KeptOption (set : TableRows) (level : LevelName) (items : List Item) 
   pub serial : keeps_serial (serial_room set.ais of_kind.form kind.serial) (items_of_field Serial parts) ≡ true
   pub further : keeps_further of_kind.form (items_of_field Piece parts) (items_of_field Total parts) ≡ true
 
--- trusted, own: each option of a level satisfies the rules
+-- trusted, own: holds if each option of `level` satisfies the rules
 abbrev pub AreKept : TableRows → LevelName → Type 0
 AreKept set level =
     (i : ℕ) (items : List Item) (info : OptInfo) → slice_get (item_lists (level_rows level set).level.options) i ≡ Some items

@@ -3,7 +3,7 @@ use Rattle.std.specs.Prelude.{ℕ, ◌==◌, ◌&&◌, Bool, List, map, filter}
 use Rattle.std.specs.List.{enumerate_from}
 use Rattle.gs_tables_document.specs.declared.document.OptInfo.{OptInfo}
 
--- trusted, own: the option is of the kind and prefix length
+-- trusted, own: holds if the option `info` is of the kind `kind` and the prefix length `gcp`
 abbrev pub is_of : ℕ → ℕ → OptInfo → Bool
 is_of kind gcp info = (info.kind == kind) && (info.gcp == gcp)
 

@@ -7,11 +7,11 @@ use Rattle.gs_tables_document.specs.declared.document.SerialAt.{SerialAt}
 use Rattle.gs_tables_document.specs.declared.document.SerialAt.TheVariants.{Nowhere, Tail, Ai}
 use Rattle.gs_tables.specs.declared.kind_places.KindPlaces.{KindPlaces}
 
--- the place of the row of a code, or that behind the last
+-- the place of the row of a code, or the place after the last row
 abbrev pub place_of : List AiRow → List ℕ → ℕ
 place_of ais code = unwrap_or (position (has_code code) ais) (length ais)
 
--- the place of the row of a serial, or that behind the last
+-- the place of the row of a serial, or the place after the last row
 abbrev pub serial_place : List AiRow → SerialAt → ℕ
 serial_place ais (Ai code) = place_of ais code
 serial_place ais Nowhere = length ais

@@ -66,11 +66,11 @@ items_alone row = alone (items_there row)
 
 -- ---- rejections
 
--- trusted, own: there are more rows than the limit
+-- trusted, own: holds if there are more of `rows` than `limit`
 abbrev pub more_than : {X : Type 0} → ℕ → List X → Bool
 more_than limit rows = nat_lt limit (length rows)
 
--- trusted, own: some option of a level has more items than the limit
+-- trusted, own: holds if one of the options has more items than the limit
 abbrev pub has_long : List OptionRow → Bool
 has_long rows = list_any (λ (row : OptionRow). more_than most_items row.items) rows
 
@@ -82,7 +82,7 @@ limit_rejections document =
     ++ error_if (more_than most_rows document.binary || more_than most_rows document.tag || more_than most_rows document.pure) (Limit Options)
     ++ error_if (has_long document.binary || has_long document.tag || has_long document.pure) (Limit Items)
 
--- trusted, own: kind i breaks a rule
+-- trusted, own: the rejection of kind i, if it breaks a rule
 abbrev pub kind_rejections : List AiRow → List KindRow → ℕ × KindRow → List LoadFault
 kind_rejections ais kinds row = error_if (not (is_kind ais (take row.0 kinds) row.1)) (BadKind row.0)
 
@@ -91,17 +91,17 @@ abbrev pub is_bad_item : Bool → Option FieldItem → Bool
 is_bad_item bits None = true
 is_bad_item bits (Some item) = is_bad bits item.1 || lacks_field item
 
--- trusted, own: an option's kind is one of the kinds, and the option fits it
+-- trusted, own: holds if the kind of the option `row` is one of `kinds`, and the option fits it
 unfoldable pub fits : List AiRow → List KindRow → LevelName → OptionRow → Bool
 fits ais kinds level row =
     option_map_or (λ kind. fits_kind ais kind level row.encoding row.gcp (items_there row)) (find (has_name row.kind) kinds) false
 
--- trusted, own: two options have one kind, encoding and prefix length
+-- trusted, own: holds if the options `a` and `b` have the same kind, encoding and prefix length
 unfoldable pub is_same : OptionRow → OptionRow → Bool
 is_same a b = bytes_eq a.kind b.kind && bytes_eq a.encoding b.encoding && (a.gcp == b.gcp)
 
--- trusted, own: the rejections of option i of a level, in their order: its first bad item, its size, a rule of its kind, and
--- the first earlier option that is the same
+-- trusted, own: The rejections of option i of a level, in their order. They are its first bad item, its size, a rule of its
+-- kind, and the first earlier option that is the same.
 unfoldable pub option_rejections : List AiRow → List KindRow → LevelName → List OptionRow → ℕ × OptionRow → List LoadFault
 option_rejections ais kinds level rows row =
     option_to_list (option_map (λ k. BadItem level row.0 k) (position (is_bad_item (is_bits level)) row.1.items))
@@ -117,7 +117,7 @@ kinds_rejections ais kinds = flat_map (kind_rejections ais kinds) (enumerate_fro
 unfoldable pub level_rejections : List AiRow → List KindRow → LevelName → List OptionRow → List LoadFault
 level_rejections ais kinds level rows = flat_map (option_rejections ais kinds level rows) (enumerate_from 0 rows)
 
--- trusted, own: all rejections of the rows, in the order in which they are reported
+-- trusted, own: the list of all rejections of the rows, in the order in which they are reported
 unfoldable pub row_rejections : Document → List LoadFault
 row_rejections document =
     limit_rejections document
@@ -127,7 +127,7 @@ row_rejections document =
     ++ (level_rejections document.ais document.kinds Tag document.tag
     ++ level_rejections document.ais document.kinds Pure document.pure))))
 
--- trusted, own: the versions of the profile
+-- trusted, own: holds if `version` is a version of the profile
 abbrev pub is_version : ℕ → Bool
 is_version version = (version == 1) || (version == 2)
 
@@ -150,7 +150,7 @@ info_of kinds row = record {
   fields = fields_of (items_there row);
 }
 
--- trusted, own: a level's options and their facts
+-- trusted, own: the options of `level` and their facts
 abbrev pub level_of : List KindRow → LevelName → List OptionRow → LevelTable
 level_of kinds level rows = record {
   level = record { bit_level = is_bits level; options = map (option_form (is_bits level)) rows };
@@ -175,7 +175,7 @@ IsAnswer rejections made (Ok x) = (rejections ≡ []) × (x ≡ made)
 IsAnswer rejections made (Err Memory) = Unit {0}
 IsAnswer rejections made (Err error) = slice_get rejections 0 ≡ Some error
 
--- trusted, TDT 2.0, section 3; own rules: The facts of every set: it is the set of rows that no rule rejects.
+-- trusted, TDT 2.0, section 3; own rules: holds if `set` is the set of rows that no rule rejects
 pub record IsShaped (set : TableRows) : Type 0 where
   pub document : Document
   pub in_order : row_rejections document ≡ []

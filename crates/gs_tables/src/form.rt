@@ -86,7 +86,7 @@ pub fn tail_of(form: KeyForm) -> Option<Room>
     }
 }
 
-/// Returns how many digits the piece and the total of the key of a code have, and nothing of a key without them.
+/// Returns the numbers of digits of the piece and the total of the key of a code, and nothing of a key without them.
 pub fn further_at(alloc: Global, ais: &AiTable, code: &[u8]) -> Result<List<u8>, Memory>
     ensures { IfOk result (λ lengths. lengths ≡ further_at ais.now code.now) }
 {

@@ -6,7 +6,8 @@ use gs_chars::{List, Memory};
 use gs_tables_document::{Kind, SerialAt};
 use std::alloc::Global;
 
-/// The places of the rows of a kind among the application identifiers. A row that there is not has the place behind the last.
+/// The places of the rows of a kind among the application identifiers. A row that does not exist has the place after the last
+/// row.
 #[derive(Clone, Copy)]
 pub struct KindPlaces {
     /// The place of the row of its key.

@@ -1,8 +1,8 @@
 //! Table sets: the application identifiers, kinds and options that a document or the built-in rows give, and their rules.
 //!
 //! - `TableSet::load` reads a table document (JSON), or gives its first rejection; `builtin` makes the set of the built-in rows.
-//! - `migrate` makes the text of a document as one of version 2, which loads to the same set; `migrated_text` that of a document
-//!   that is known to load.
+//! - `migrate` makes the text of a document as one of version 2, which loads to the same set. `migrated_text` makes that of a
+//!   document that is known to load.
 //! - `TableSet::ais`, `kinds`, `level`, `info` and `candidates` lend the parts of a set, `key_row` and `serial_row` the rows of a
 //!   kind.
 //! - `KeyForm`, `Room`, `are_characters` and `characters_of` describe the form of a key's values and of its serial. `keeps_gcp`,
@@ -21,11 +21,11 @@
 //!
 //! # Differences from the standards
 //!
-//! - The form of the document and its rules are this project's own (docs/FORMATS.md, 'The table document'); GS1 EPC Tag Data
+//! - The form of the document and its rules are this project's own (docs/TABLES.md, 'The table document'). GS1 EPC Tag Data
 //!   Translation has its own files, which are not read.
 //! - Tables by which a text or bits have two readings are rejected, with such a text.
-//! - The built-in rows are the binary encodings of ten kinds that GS1 EPC Tag Data Standard 2.0 kept from versions 1.x;
-//!   the header, widths and padding of gdti-174 are this project's own.
+//! - The built-in rows are the binary encodings of ten kinds that GS1 EPC Tag Data Standard 2.0 kept from versions 1.x. The
+//!   header, widths and padding of gdti-174 are this project's own.
 //! - Limits: 256 application identifiers, 64 kinds, 256 options of a level, 24 items and 512 symbols of an option.
 #![tactic(auto)]
 

@@ -150,8 +150,8 @@ fn judged_levels(
     Ok(levels)
 }
 
-/// Returns the kinds and the levels of the rows, or the first rejection: of a kind, of an option, or of a level that is
-/// ambiguous.
+/// Returns the kinds and the levels of the rows, or the first rejection. It is that of a kind, of an option, or of a level that
+/// is ambiguous.
 pub(crate) fn judged_parts(
     alloc: Global,
     ais: &AiTable,

@@ -11,7 +11,8 @@ use Rattle.gs_tables_document.specs.Items.{FieldItem}
 use Rattle.gs_grammar.specs.declared.item.Item.{Item}
 
 -- the next bit after the earlier ones
-pub bits_more : (xs ys : List ℕ) (b left number : ℕ) → 0 < left → b ≡ bit_at number (left - 1) → ys ≡ xs ++ b ∷ [] → ys ++ bits_of (left - 1) number ≡ xs ++ bits_of left number
+pub bits_more : (xs ys : List ℕ) (b left number : ℕ) → 0 < left → b ≡ bit_at number (left - 1) → ys ≡ xs ++ b ∷ []
+    → ys ++ bits_of (left - 1) number ≡ xs ++ bits_of left number
 unfolding bits_of
 bits_more xs ys b zero number h e f = absurd (omega arith)
 bits_more xs ys b (suc n) number h e f =
@@ -24,16 +25,21 @@ pub one_more : {X : Type 0} (old mid new : List X) (x : X) (xs : List X) → mid
 one_more old mid new x xs gained e = rw gained at e ∙ append_assoc old (x ∷ []) xs
 
 -- the items after the company prefix, after the earlier ones
-pub same_behind : (old new : List (Option FieldItem)) (rest rest' : FieldItem) (pieces : List FieldItem) (serial serial' : Option Item) → rest ≡ rest' → serial ≡ serial' → new ≡ old ++ map there (behind_prefix rest pieces serial) → new ≡ old ++ map there (behind_prefix rest' pieces serial')
+pub same_behind : (old new : List (Option FieldItem)) (rest rest' : FieldItem) (pieces : List FieldItem) (serial serial' : Option Item)
+    → rest ≡ rest' → serial ≡ serial' → new ≡ old ++ map there (behind_prefix rest pieces serial)
+    → new ≡ old ++ map there (behind_prefix rest' pieces serial')
 same_behind old new rest rest' pieces serial serial' r s h = rw (r, s) at h
 
 -- the row of one more of those that a row each is made for
-pub row_more : {X R : Type 0} (f : X → R) (xs : List X) (i : ℕ) (d : X) (start old new : List R) → i < length xs → old ≡ start ++ map f (take i xs) → new ≡ old ++ f (get_or xs i d) ∷ [] → new ≡ start ++ map f (take (i + 1) xs)
+pub row_more : {X R : Type 0} (f : X → R) (xs : List X) (i : ℕ) (d : X) (start old new : List R) → i < length xs
+    → old ≡ start ++ map f (take i xs) → new ≡ old ++ f (get_or xs i d) ∷ [] → new ≡ start ++ map f (take (i + 1) xs)
 row_more f xs i d start old new low before gained =
-    rw (take_more xs i d low, map-append f (take i xs) (get_or xs i d ∷ [])) (gained ∙ rw before (append_assoc start (map f (take i xs)) (f (get_or xs i d) ∷ [])))
+    rw (take_more xs i d low, map-append f (take i xs) (get_or xs i d ∷ []))
+    (gained ∙ rw before (append_assoc start (map f (take i xs)) (f (get_or xs i d) ∷ [])))
 
 -- the rows of all that a row each is made for
-pub rows_whole : {X R : Type 0} (f : X → R) (xs : List X) (i : ℕ) (start new : List R) → length xs ≤ i → new ≡ start ++ map f (take i xs) → new ≡ start ++ map f xs
+pub rows_whole : {X R : Type 0} (f : X → R) (xs : List X) (i : ℕ) (start new : List R) → length xs ≤ i → new ≡ start ++ map f (take i xs)
+    → new ≡ start ++ map f xs
 rows_whole f xs i start new all h = let whole : take i xs ≡ xs = take_all i xs all in rw whole at h
 
 -- the rows of all that rows are made for
@@ -46,7 +52,8 @@ unfolding encodings item_encodings asset_encodings document_encodings further_en
 rests_of_encodings_fit = refl
 
 -- the rows of one more of those that the rows are made for
-pub rows_more : {X R : Type 0} (f : X → List R) (xs : List X) (i : ℕ) (x : X) (old new : List R) → i < length xs → x ≡ get_or xs i x → old ≡ flat_map f (take i xs) → new ≡ old ++ f x → new ≡ flat_map f (take (i + 1) xs)
+pub rows_more : {X R : Type 0} (f : X → List R) (xs : List X) (i : ℕ) (x : X) (old new : List R) → i < length xs → x ≡ get_or xs i x
+    → old ≡ flat_map f (take i xs) → new ≡ old ++ f x → new ≡ flat_map f (take (i + 1) xs)
 rows_more f xs i x old new low at before gained =
     let one : take (i + 1) xs ≡ take i xs ++ x ∷ [] = rw at (take_more xs i x low) in
     rw one (gained ∙ (rw before (flat_map_more f [] (take i xs) x)))

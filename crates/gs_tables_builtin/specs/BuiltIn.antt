@@ -20,7 +20,7 @@ use Rattle.gs_tables_document.specs.Items.{FieldItem}
 
 -- ---- kinds
 
--- trusted, own: a kind with its key, its lead digits, its serial and its further fields
+-- trusted, own: the row of a kind with its key, its lead digits, its serial and its further fields
 abbrev pub kind : List ℕ → List ℕ → ℕ → List ℕ → List (List ℕ) → KindRow
 kind name key lead serial fields = record { name = name; key = key; lead = lead; serial = serial; fields = fields }
 
@@ -40,7 +40,7 @@ builtin_kinds =
 
 -- ---- the partition table: the digits of the prefix, the partition, and the bits of the prefix (TDS 2.0, section 14.2)
 
--- trusted, own: a row of the partition table
+-- trusted, own: the row of the partition table with these values
 abbrev pub partition : ℕ → ℕ → ℕ → Partition
 partition digits number bits = record { digits = digits; number = number; bits = bits }
 
@@ -50,12 +50,12 @@ partitions = partition 12 0 40 ∷ partition 11 1 37 ∷ partition 10 2 34 ∷ p
 
 -- ---- the encodings
 
--- trusted, own: an encoding: its header, the bits of prefix and rest together, the rest, the serial, and the zeros at the
--- end
+-- trusted, own: the encoding of these values: its header, the bits of prefix and rest together, the rest, the serial, and the
+-- zeros at the end
 abbrev pub encoding : List ℕ → List ℕ → ℕ → ℕ → RestForm → Option Item → Option Item → Encoding
 encoding name kind header width rest serial after = record { name = name; kind = kind; header = header; width = width; rest = rest; serial = serial; after = after }
 
--- trusted, own: a literal of that many zeros
+-- trusted, own: the literal of `n` zeros
 abbrev pub zeros : ℕ → Item
 zeros n = Lit (replicate n 0)
 
@@ -90,13 +90,13 @@ further_encodings =
     ∷ encoding (codes "itip-110") (codes "itip") 64 44 (InPieces 13) (Some (Num 38 274877906943)) (Some (Fill 2 2))
     ∷ encoding (codes "gsrnp-96") (codes "gsrnp") 46 58 (Digits 17) None (Some (zeros 24)) ∷ []
 
--- trusted, TDS 2.0, section 14.6: all encodings, in the order of the options
+-- trusted, TDS 2.0, section 14.6: the list of all encodings, in the order of the options
 unfoldable pub encodings : List Encoding
 encodings = item_encodings ++ asset_encodings ++ document_encodings ++ further_encodings
 
 -- ---- options
 
--- trusted, own: an item that is not absent
+-- trusted, own: the item `i`, which is not absent
 abbrev pub there : FieldItem → Option FieldItem
 there i = Some i
 
@@ -118,8 +118,8 @@ pieces_in_bits (InPieces _) = (Some Piece, NumPad 7 2) ∷ (Some Total, NumPad 7
 pieces_in_bits Number = []
 pieces_in_bits Characters = []
 
--- trusted, TDS 2.0, sections 14.2 and 14.6: header, filter, partition, prefix, rest, piece and total, serial, and the zeros
--- at the end
+-- trusted, TDS 2.0, sections 14.2 and 14.6: the list of header, filter, partition, prefix, rest, piece and total, serial, and
+-- the zeros at the end
 abbrev pub binary_items : Encoding → Partition → List FieldItem
 binary_items e p =
     (None, Lit (bits_of 8 e.header)) ∷ (Some Filter, Num 3 7) ∷ (None, Lit (bits_of 3 p.number)) ∷ (Some Gcp, NumPad p.bits p.digits)
@@ -134,7 +134,7 @@ in_text (NumStr bits hi) = DigitsItem 1 hi
 in_text (Ascii7 lo hi bits) = Esc lo hi
 in_text other = other
 
--- trusted, own: a dot, and the item of a field
+-- trusted, own: the list of a dot and the item of `field`
 abbrev pub dotted : Field → Item → List FieldItem
 dotted field i = (None, Lit (codes ".")) ∷ (Some field, i) ∷ []
 
@@ -155,7 +155,8 @@ behind_prefix (Some field, rest) pieces serial = dotted Rest rest ++ pieces ++ f
 abbrev pub in_text_too : FieldItem → FieldItem
 in_text_too i = (i.0, in_text i.1)
 
--- trusted, TDS 2.0, sections 12 and 6.3: `urn:epc:tag:ENCODING:`, filter value, company prefix, and the items after it
+-- trusted, TDS 2.0, sections 12 and 6.3: the list of `urn:epc:tag:ENCODING:`, filter value, company prefix, and the items after
+-- it
 abbrev pub tag_items : Encoding → Partition → List FieldItem
 tag_items e p =
     (None, Lit (codes "urn:epc:tag:" ++ e.name ++ codes ":")) ∷ (Some Filter, Int 7) ∷ (None, Lit (codes ".")) ∷ (Some Gcp, Pad p.digits)
@@ -179,7 +180,7 @@ identities =
     ∷ identity (codes "itip") (InPieces 13) (Some (Esc 1 20))
     ∷ identity (codes "gsrnp") (Digits 17) None ∷ []
 
--- trusted, TDS 2.0, sections 12 and 6.3: `urn:epc:id:KIND:`, company prefix, and the items after it
+-- trusted, TDS 2.0, sections 12 and 6.3: the list of `urn:epc:id:KIND:`, company prefix, and the items after it
 abbrev pub pure_items : Identity → Partition → List FieldItem
 pure_items k p =
     (None, Lit (codes "urn:epc:id:" ++ k.name ++ codes ":")) ∷ (Some Gcp, Pad p.digits)
@@ -189,7 +190,7 @@ pure_items k p =
 abbrev pub row_with : List ℕ → List ℕ → Partition → List (Option FieldItem) → OptionRow
 row_with kind encoding p items = record { kind = kind; encoding = encoding; gcp = p.digits; items = items }
 
--- trusted, own: an option of a kind and an encoding for a length of the prefix
+-- trusted, own: the option of a kind and an encoding for a company prefix length
 abbrev pub option_row : List ℕ → List ℕ → Partition → List FieldItem → OptionRow
 option_row kind encoding p items = row_with kind encoding p (map there items)
 

@@ -6,19 +6,19 @@ use Rattle.gs_ai.specs.declared.part.Part.TheVariants as part
 use Rattle.gs_ai.specs.declared.part.Role.TheVariants as role
 use Rattle.gs_ai.specs.declared.row.AiRow.{AiRow}
 
--- trusted, own: a row of an attribute with one part
+-- trusted, own: the row of an attribute with one part
 abbrev pub attribute : List ℕ → Part → AiRow
 attribute code p = record { code = code; parts = p ∷ []; role = role.Attribute; qualifiers = []; short = false; none = [] }
 
--- trusted, own: a row of a key qualifier with one part and the text that means none
+-- trusted, own: the row of a key qualifier with one part and the text that means none
 abbrev pub qualifier : List ℕ → Part → List ℕ → AiRow
 qualifier code p none = record { code = code; parts = p ∷ []; role = role.Qualifier; qualifiers = []; short = false; none = none }
 
--- trusted, own: a row of a key with its parts and qualifiers, and whether a link may have it short
+-- trusted, own: the row of a key with its parts and qualifiers, and whether a link may have it short
 abbrev pub key : List ℕ → List Part → List (List ℕ) → Bool → AiRow
 key code parts qualifiers short = record { code = code; parts = parts; role = role.Key; qualifiers = qualifiers; short = short; none = [] }
 
--- trusted, own: logistic units, trade items and lots
+-- trusted, own: the rows of logistic units, trade items and lots
 unfoldable pub item_ais : List AiRow
 item_ais =
     key (codes "00") (part.NumCheck 18 ∷ []) [] false
@@ -26,20 +26,20 @@ item_ais =
     ∷ attribute (codes "02") (part.NumCheck 14)
     ∷ qualifier (codes "10") (part.Set 20) [] ∷ []
 
--- trusted, own: dates
+-- trusted, own: the rows of dates
 unfoldable pub date_ais : List AiRow
 date_ais =
     attribute (codes "11") part.Date ∷ attribute (codes "12") part.Date ∷ attribute (codes "13") part.Date
     ∷ attribute (codes "15") part.Date ∷ attribute (codes "16") part.Date ∷ attribute (codes "17") part.Date ∷ []
 
--- trusted, own: variants, serials and counts
+-- trusted, own: the rows of variants, serials and counts
 unfoldable pub variant_ais : List AiRow
 variant_ais =
     attribute (codes "20") (part.Num 2)
     ∷ qualifier (codes "21") (part.Set 20) [] ∷ qualifier (codes "22") (part.Set 20) []
     ∷ attribute (codes "30") (part.NumUpTo 8) ∷ attribute (codes "37") (part.NumUpTo 8) ∷ []
 
--- trusted, own: additional identifications, documents, extensions of locations and coupons
+-- trusted, own: the rows of additional identifications, documents, extensions of locations and coupons
 unfoldable pub additional_ais : List AiRow
 additional_ais =
     attribute (codes "240") (part.Set 30) ∷ attribute (codes "241") (part.Set 30)
@@ -48,13 +48,13 @@ additional_ais =
     ∷ qualifier (codes "254") (part.Set 20) (codes "0")
     ∷ key (codes "255") (part.NumCheck 13 ∷ part.NumOpt 12 ∷ []) [] false ∷ []
 
--- trusted, own: net weights
+-- trusted, own: the rows of net weights
 unfoldable pub weight_ais : List AiRow
 weight_ais =
     attribute (codes "3100") (part.Num 6) ∷ attribute (codes "3101") (part.Num 6) ∷ attribute (codes "3102") (part.Num 6)
     ∷ attribute (codes "3103") (part.Num 6) ∷ attribute (codes "3104") (part.Num 6) ∷ attribute (codes "3105") (part.Num 6) ∷ []
 
--- trusted, own: orders, consignments and shipments
+-- trusted, own: the rows of orders, consignments and shipments
 unfoldable pub shipment_ais : List AiRow
 shipment_ais =
     attribute (codes "400") (part.Set 30)
@@ -62,20 +62,20 @@ shipment_ais =
     ∷ key (codes "402") (part.NumCheck 17 ∷ []) [] false
     ∷ attribute (codes "403") (part.Set 30) ∷ []
 
--- trusted, own: parties that goods are sent, billed or bought for
+-- trusted, own: the rows of parties that goods are sent, billed or bought for
 unfoldable pub party_ais : List AiRow
 party_ais =
     attribute (codes "410") (part.NumCheck 13) ∷ attribute (codes "411") (part.NumCheck 13)
     ∷ attribute (codes "412") (part.NumCheck 13) ∷ attribute (codes "413") (part.NumCheck 13) ∷ []
 
--- trusted, own: locations, and parties by themselves
+-- trusted, own: the rows of locations, and of parties by themselves
 unfoldable pub location_ais : List AiRow
 location_ais =
     key (codes "414") (part.NumCheck 13 ∷ []) (codes "254" ∷ []) false
     ∷ attribute (codes "415") (part.NumCheck 13) ∷ attribute (codes "416") (part.NumCheck 13)
     ∷ key (codes "417") (part.NumCheck 13 ∷ []) [] false ∷ []
 
--- trusted, own: assets, pieces of trade items and services
+-- trusted, own: the rows of assets, pieces of trade items and services
 unfoldable pub asset_ais : List AiRow
 asset_ais =
     key (codes "8003") (part.Zero ∷ part.NumCheck 13 ∷ part.SetOpt 16 ∷ []) [] false
@@ -99,7 +99,7 @@ company_ais =
     attribute (codes "95") (part.Set 90) ∷ attribute (codes "96") (part.Set 90) ∷ attribute (codes "97") (part.Set 90)
     ∷ attribute (codes "98") (part.Set 90) ∷ attribute (codes "99") (part.Set 90) ∷ []
 
--- trusted, GS1 General Specifications, section 3; the choice is own: all rows, in ascending order of their codes
+-- trusted, GS1 General Specifications, section 3; the choice is own: the list of all rows, in ascending order of their codes
 unfoldable pub builtin_ais : List AiRow
 builtin_ais =
     item_ais ++ date_ais ++ variant_ais ++ additional_ais ++ weight_ais ++ shipment_ais ++ party_ais ++ location_ais

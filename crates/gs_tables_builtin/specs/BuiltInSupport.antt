@@ -23,7 +23,7 @@ use Rattle.gs_tables_document.specs.declared.document.Field.TheVariants.{Filter,
 use Rattle.gs_tables_document.specs.Items.{FieldItem}
 use Rattle.gs_tables_builtin.specs.BuiltIn.{kind, builtin_kinds, partitions, encoding, zeros, of_field, rest_in_bits, pieces_in_bits, pieces_in_text, in_text, behind_prefix, in_text_too, identity, encoded_rows, pure_rows}
 
--- the list, given by the old and the new one, has gained this row at its end
+-- holds if the list, given by the old and the new one, has gained this row at its end
 abbrev pub Gains : {X : Type 0} → List X → List X → X → Type 0
 Gains old new row = new ≡ old ++ row ∷ []
 
@@ -81,14 +81,14 @@ identity_with name rest serial = identity name rest (serial_known serial)
 abbrev pub identity_known : Bor (List ℕ) × RestForm × SerialLine → Identity
 identity_known l = identity_with l.0.now l.1 l.2
 
--- a rest that is a number has at most 64 bits
+-- holds if a rest that is a number has at most 64 bits
 abbrev pub rest_fits : RestForm → ℕ → Bool
 rest_fits (Digits d) bits = true
 rest_fits (InPieces d) bits = true
 rest_fits Number bits = nat_le bits 64
 rest_fits Characters bits = true
 
--- with each length of the prefix
+-- holds if the rest fits with each company prefix length
 abbrev pub rests_fit : Encoding → Bool
 rests_fit e = list_all (λ (p : Partition). rest_fits e.rest (e.width - p.bits)) partitions
 

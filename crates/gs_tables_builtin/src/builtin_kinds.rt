@@ -19,8 +19,8 @@ fn fields_of(alloc: Global, in_pieces: bool) -> Result<List<Text>, Memory>
     Ok(List::from_vec(fields))
 }
 
-/// Returns a kind: its name, the AI of its key, the digits before the company prefix, the place of the serial, and whether it has
-/// pieces.
+/// Returns a kind by its name, the AI of its key and the digits before the company prefix. The place of the serial follows, and
+/// whether it has pieces.
 fn kind_of(
     alloc: Global,
     name: &[u8],

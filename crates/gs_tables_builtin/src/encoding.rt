@@ -9,8 +9,8 @@ pub struct Partition {
     pub bits: u8,
 }
 
-/// The part of a key after the company prefix: the remaining digits without the check digit, optionally followed by a piece and a
-/// total of two digits each; a number; or characters.
+/// The part of a key after the company prefix. It is the remaining digits without the check digit, optionally followed by a
+/// piece and a total of two digits each; a number; or characters.
 #[derive(Clone, Copy)]
 pub enum RestForm {
     Digits(u8),

@@ -14,14 +14,17 @@ use Rattle.gs_chars.proofs.TruthsAndLists.{first_of_front, read_at}
 -- ---- a loop over rows
 
 -- the first rejection, found at a row after rows without one
-pub first_row : {X E : Type 0} (f : ℕ × X → List E) (rows : List X) (i : ℕ) (row : X) (e : E) → i < length rows → row ≡ get_or rows i row → flat_map f (enumerate_from 0 (take i rows)) ≡ [] → slice_get (f (i, row)) 0 ≡ Some e → slice_get (flat_map f (enumerate_from 0 rows)) 0 ≡ Some e
+pub first_row : {X E : Type 0} (f : ℕ × X → List E) (rows : List X) (i : ℕ) (row : X) (e : E) → i < length rows → row ≡ get_or rows i row
+    → flat_map f (enumerate_from 0 (take i rows)) ≡ [] → slice_get (f (i, row)) 0 ≡ Some e
+    → slice_get (flat_map f (enumerate_from 0 rows)) 0 ≡ Some e
 first_row f rows i row e low read none h =
     let at = read_at rows i row low read in
     let zero_plus : i ≡ 0 + i = omega arith in
     first_at f 0 rows i row e at none (rw zero_plus at h)
 
 -- one more row without a rejection
-pub more_row : {X E : Type 0} (f : ℕ × X → List E) (rows : List X) (i : ℕ) (row : X) → i < length rows → row ≡ get_or rows i row → flat_map f (enumerate_from 0 (take i rows)) ≡ [] → f (i, row) ≡ [] → flat_map f (enumerate_from 0 (take (i + 1) rows)) ≡ []
+pub more_row : {X E : Type 0} (f : ℕ × X → List E) (rows : List X) (i : ℕ) (row : X) → i < length rows → row ≡ get_or rows i row
+    → flat_map f (enumerate_from 0 (take i rows)) ≡ [] → f (i, row) ≡ [] → flat_map f (enumerate_from 0 (take (i + 1) rows)) ≡ []
 more_row f rows i row low read none h =
     let at = read_at rows i row low read in
     let zero_plus : i ≡ 0 + i = omega arith in
@@ -29,7 +32,8 @@ more_row f rows i row low read none h =
     rw next (none_more f 0 rows i row at none (rw zero_plus at h))
 
 -- all rows are without a rejection
-pub all_rows : {X E : Type 0} (f : ℕ × X → List E) (rows : List X) (i : ℕ) → length rows ≤ i → flat_map f (enumerate_from 0 (take i rows)) ≡ [] → flat_map f (enumerate_from 0 rows) ≡ []
+pub all_rows : {X E : Type 0} (f : ℕ × X → List E) (rows : List X) (i : ℕ) → length rows ≤ i
+    → flat_map f (enumerate_from 0 (take i rows)) ≡ [] → flat_map f (enumerate_from 0 rows) ≡ []
 all_rows f rows i all none = rw (take_all i rows all) at none
 
 -- ---- the first error of a form
@@ -47,7 +51,8 @@ no_errors [] h = refl
 no_errors (x ∷ errors) h = absurd (let g = no_error Memory tt (Err x) h in cc)
 
 -- an answer by one list is the answer by another that begins with the same error
-same_first : (a b : List JsonFault) (error : JsonFault) → ((e : JsonFault) → slice_get a 0 ≡ Some e → slice_get b 0 ≡ Some e) → OrMemory (Err error) (first_error a) → OrMemory (Err error) (first_error b)
+same_first : (a b : List JsonFault) (error : JsonFault) → ((e : JsonFault) → slice_get a 0 ≡ Some e → slice_get b 0 ≡ Some e)
+    → OrMemory (Err error) (first_error a) → OrMemory (Err error) (first_error b)
 same_first a b error same (inl h) = inl (let e : error ≡ Memory = cc in ap Err e)
 same_first a b error same (inr h) = inr (error_first b error (same error (error_at a error h)))
 
@@ -55,19 +60,24 @@ same_first a b error same (inr h) = inr (error_first b error (same error (error_
 pub form_first : (a b : List JsonFault) (error : JsonFault) → OrMemory (Err error) (first_error a) → OrMemory (Err error) (first_error (a ++ b))
 form_first a b error h = same_first a (a ++ b) error (first_of_front a b) h
 
-pub form_rest : (a b : List JsonFault) (answer : Result (Unit {0}) JsonFault) → OrMemory (Ok tt) (first_error a) → OrMemory answer (first_error b) → OrMemory answer (first_error (a ++ b))
+pub form_rest : (a b : List JsonFault) (answer : Result (Unit {0}) JsonFault) → OrMemory (Ok tt) (first_error a)
+    → OrMemory answer (first_error b) → OrMemory answer (first_error (a ++ b))
 form_rest a b answer ok h = rw (no_errors a ok) h
 
 -- ---- the first error of rows
 
 -- a row with an error, after rows without one
-pub form_row : {X : Type 0} (f : ℕ × X → List JsonFault) (rows : List X) (i : ℕ) (row : X) (error : JsonFault) → slice_get rows i ≡ Some row → flat_map f (enumerate_from 0 (take i rows)) ≡ [] → OrMemory (Err error) (first_error (f (i, row))) → OrMemory (Err error) (first_error (flat_map f (enumerate_from 0 rows)))
+pub form_row : {X : Type 0} (f : ℕ × X → List JsonFault) (rows : List X) (i : ℕ) (row : X) (error : JsonFault) → slice_get rows i ≡ Some row
+    → flat_map f (enumerate_from 0 (take i rows)) ≡ [] → OrMemory (Err error) (first_error (f (i, row)))
+    → OrMemory (Err error) (first_error (flat_map f (enumerate_from 0 rows)))
 form_row f rows i row error at none h =
     let zero_plus : i ≡ 0 + i = omega arith in
     same_first (f (i, row)) (flat_map f (enumerate_from 0 rows)) error (λ e here. first_at f 0 rows i row e at none (rw zero_plus at here)) h
 
 -- one more row without an error
-pub form_more : {X : Type 0} (f : ℕ × X → List JsonFault) (rows : List X) (i : ℕ) (row : X) → slice_get rows i ≡ Some row → flat_map f (enumerate_from 0 (take i rows)) ≡ [] → OrMemory (Ok tt) (first_error (f (i, row))) → flat_map f (enumerate_from 0 (take (i + 1) rows)) ≡ []
+pub form_more : {X : Type 0} (f : ℕ × X → List JsonFault) (rows : List X) (i : ℕ) (row : X) → slice_get rows i ≡ Some row
+    → flat_map f (enumerate_from 0 (take i rows)) ≡ [] → OrMemory (Ok tt) (first_error (f (i, row)))
+    → flat_map f (enumerate_from 0 (take (i + 1) rows)) ≡ []
 form_more f rows i row at none h =
     let zero_plus : i ≡ 0 + i = omega arith in
     let next : i + 1 ≡ suc i = omega arith in
@@ -75,5 +85,6 @@ form_more f rows i row at none h =
     rw next (none_more f 0 rows i row at none (rw zero_plus at empty))
 
 -- no row has an error
-pub form_all : {X : Type 0} (f : ℕ × X → List JsonFault) (rows : List X) (i : ℕ) → length rows ≤ i → flat_map f (enumerate_from 0 (take i rows)) ≡ [] → OrMemory (Ok tt) (first_error (flat_map f (enumerate_from 0 rows)))
+pub form_all : {X : Type 0} (f : ℕ × X → List JsonFault) (rows : List X) (i : ℕ) → length rows ≤ i
+    → flat_map f (enumerate_from 0 (take i rows)) ≡ [] → OrMemory (Ok tt) (first_error (flat_map f (enumerate_from 0 rows)))
 form_all f rows i all none = rw (all_rows f rows i all none) (inr refl)

@@ -11,7 +11,8 @@ use Rattle.gs_tables_document.specs.Readings.{IsJson, IsFormRejection}
 use Rattle.gs_tables_document.specs.ReadingsSupport.{of_json}
 use Rattle.gs_tables_document.proofs.ErrorLists.{error_at}
 
-by_error : (bytes : List ℕ) (d : Data) (error : JsonFault) → IsJson bytes d → Err error ≡ first_error (document_errors d) → IsFormRejection bytes (of_json error)
+by_error : (bytes : List ℕ) (d : Data) (error : JsonFault) → IsJson bytes d → Err error ≡ first_error (document_errors d)
+    → IsFormRejection bytes (of_json error)
 by_error bytes d json.Memory is h = tt
 by_error bytes d json.Syntax is h = inr (d, is, error_at (document_errors d) json.Syntax h)
 by_error bytes d (json.Lacks p) is h = inr (d, is, error_at (document_errors d) (json.Lacks p) h)
@@ -19,6 +20,7 @@ by_error bytes d (json.Kind p) is h = inr (d, is, error_at (document_errors d) (
 by_error bytes d (json.Unknown p) is h = inr (d, is, error_at (document_errors d) (json.Unknown p) h)
 
 -- the answer to a document by the first error of its form
-pub form_rejected : (bytes : List ℕ) (d : Data) (error : JsonFault) → IsJson bytes d → OrMemory (Err error) (first_error (document_errors d)) → IsFormRejection bytes (of_json error)
+pub form_rejected : (bytes : List ℕ) (d : Data) (error : JsonFault) → IsJson bytes d
+    → OrMemory (Err error) (first_error (document_errors d)) → IsFormRejection bytes (of_json error)
 form_rejected bytes d error is (inl h) = let same : error ≡ json.Memory = cc in rw same tt
 form_rejected bytes d error is (inr h) = by_error bytes d error is h

@@ -14,16 +14,22 @@ module _ (name : List ℕ) (d : Data) (result : Result FieldItem ItemFault) wher
   pub text_by_pad : false ≡ bytes_eq name (codes "lit") → true ≡ bytes_eq name (codes "pad") → Reads result (pad d) → Reads result (text_item name d)
   text_by_pad h0 h1 own = rw (← h0, ← h1) own
 
-  pub text_by_int : false ≡ bytes_eq name (codes "lit") → false ≡ bytes_eq name (codes "pad") → true ≡ bytes_eq name (codes "int") → Reads result (int d) → Reads result (text_item name d)
+  pub text_by_int : false ≡ bytes_eq name (codes "lit") → false ≡ bytes_eq name (codes "pad") → true ≡ bytes_eq name (codes "int")
+      → Reads result (int d) → Reads result (text_item name d)
   text_by_int h0 h1 h2 own = rw (← h0, ← h1, ← h2) own
 
-  pub text_by_esc : false ≡ bytes_eq name (codes "lit") → false ≡ bytes_eq name (codes "pad") → false ≡ bytes_eq name (codes "int") → true ≡ bytes_eq name (codes "esc") → Reads result (esc d) → Reads result (text_item name d)
+  pub text_by_esc : false ≡ bytes_eq name (codes "lit") → false ≡ bytes_eq name (codes "pad") → false ≡ bytes_eq name (codes "int")
+      → true ≡ bytes_eq name (codes "esc") → Reads result (esc d) → Reads result (text_item name d)
   text_by_esc h0 h1 h2 h3 own = rw (← h0, ← h1, ← h2, ← h3) own
 
-  pub text_by_digits : false ≡ bytes_eq name (codes "lit") → false ≡ bytes_eq name (codes "pad") → false ≡ bytes_eq name (codes "int") → false ≡ bytes_eq name (codes "esc") → true ≡ bytes_eq name (codes "digits") → Reads result (digits d) → Reads result (text_item name d)
+  pub text_by_digits : false ≡ bytes_eq name (codes "lit") → false ≡ bytes_eq name (codes "pad") → false ≡ bytes_eq name (codes "int")
+      → false ≡ bytes_eq name (codes "esc") → true ≡ bytes_eq name (codes "digits") → Reads result (digits d)
+      → Reads result (text_item name d)
   text_by_digits h0 h1 h2 h3 h4 own = rw (← h0, ← h1, ← h2, ← h3, ← h4) own
 
-pub text_by_none : (name : List ℕ) (d : Data) → false ≡ bytes_eq name (codes "lit") → false ≡ bytes_eq name (codes "pad") → false ≡ bytes_eq name (codes "int") → false ≡ bytes_eq name (codes "esc") → false ≡ bytes_eq name (codes "digits") → Reads {X = FieldItem} (Err Bad) (text_item name d)
+pub text_by_none : (name : List ℕ) (d : Data) → false ≡ bytes_eq name (codes "lit") → false ≡ bytes_eq name (codes "pad")
+    → false ≡ bytes_eq name (codes "int") → false ≡ bytes_eq name (codes "esc") → false ≡ bytes_eq name (codes "digits")
+    → Reads {X = FieldItem} (Err Bad) (text_item name d)
 text_by_none name d h0 h1 h2 h3 h4 = rw (← h0, ← h1, ← h2, ← h3, ← h4) refl
 
 module _ (name : List ℕ) (d : Data) (result : Result FieldItem ItemFault) where
@@ -33,17 +39,25 @@ module _ (name : List ℕ) (d : Data) (result : Result FieldItem ItemFault) wher
   pub bit_by_numpad : false ≡ bytes_eq name (codes "lit") → true ≡ bytes_eq name (codes "numpad") → Reads result (numpad d) → Reads result (bit_item name d)
   bit_by_numpad h0 h1 own = rw (← h0, ← h1) own
 
-  pub bit_by_num : false ≡ bytes_eq name (codes "lit") → false ≡ bytes_eq name (codes "numpad") → true ≡ bytes_eq name (codes "num") → Reads result (num d) → Reads result (bit_item name d)
+  pub bit_by_num : false ≡ bytes_eq name (codes "lit") → false ≡ bytes_eq name (codes "numpad") → true ≡ bytes_eq name (codes "num")
+      → Reads result (num d) → Reads result (bit_item name d)
   bit_by_num h0 h1 h2 own = rw (← h0, ← h1, ← h2) own
 
-  pub bit_by_ascii7 : false ≡ bytes_eq name (codes "lit") → false ≡ bytes_eq name (codes "numpad") → false ≡ bytes_eq name (codes "num") → true ≡ bytes_eq name (codes "ascii7") → Reads result (ascii7 d) → Reads result (bit_item name d)
+  pub bit_by_ascii7 : false ≡ bytes_eq name (codes "lit") → false ≡ bytes_eq name (codes "numpad") → false ≡ bytes_eq name (codes "num")
+      → true ≡ bytes_eq name (codes "ascii7") → Reads result (ascii7 d) → Reads result (bit_item name d)
   bit_by_ascii7 h0 h1 h2 h3 own = rw (← h0, ← h1, ← h2, ← h3) own
 
-  pub bit_by_fill : false ≡ bytes_eq name (codes "lit") → false ≡ bytes_eq name (codes "numpad") → false ≡ bytes_eq name (codes "num") → false ≡ bytes_eq name (codes "ascii7") → true ≡ bytes_eq name (codes "fill") → Reads result (fill d) → Reads result (bit_item name d)
+  pub bit_by_fill : false ≡ bytes_eq name (codes "lit") → false ≡ bytes_eq name (codes "numpad") → false ≡ bytes_eq name (codes "num")
+      → false ≡ bytes_eq name (codes "ascii7") → true ≡ bytes_eq name (codes "fill") → Reads result (fill d)
+      → Reads result (bit_item name d)
   bit_by_fill h0 h1 h2 h3 h4 own = rw (← h0, ← h1, ← h2, ← h3, ← h4) own
 
-  pub bit_by_numstr : false ≡ bytes_eq name (codes "lit") → false ≡ bytes_eq name (codes "numpad") → false ≡ bytes_eq name (codes "num") → false ≡ bytes_eq name (codes "ascii7") → false ≡ bytes_eq name (codes "fill") → true ≡ bytes_eq name (codes "numstr") → Reads result (numstr d) → Reads result (bit_item name d)
+  pub bit_by_numstr : false ≡ bytes_eq name (codes "lit") → false ≡ bytes_eq name (codes "numpad") → false ≡ bytes_eq name (codes "num")
+      → false ≡ bytes_eq name (codes "ascii7") → false ≡ bytes_eq name (codes "fill") → true ≡ bytes_eq name (codes "numstr")
+      → Reads result (numstr d) → Reads result (bit_item name d)
   bit_by_numstr h0 h1 h2 h3 h4 h5 own = rw (← h0, ← h1, ← h2, ← h3, ← h4, ← h5) own
 
-pub bit_by_none : (name : List ℕ) (d : Data) → false ≡ bytes_eq name (codes "lit") → false ≡ bytes_eq name (codes "numpad") → false ≡ bytes_eq name (codes "num") → false ≡ bytes_eq name (codes "ascii7") → false ≡ bytes_eq name (codes "fill") → false ≡ bytes_eq name (codes "numstr") → Reads {X = FieldItem} (Err Bad) (bit_item name d)
+pub bit_by_none : (name : List ℕ) (d : Data) → false ≡ bytes_eq name (codes "lit") → false ≡ bytes_eq name (codes "numpad")
+    → false ≡ bytes_eq name (codes "num") → false ≡ bytes_eq name (codes "ascii7") → false ≡ bytes_eq name (codes "fill")
+    → false ≡ bytes_eq name (codes "numstr") → Reads {X = FieldItem} (Err Bad) (bit_item name d)
 bit_by_none name d h0 h1 h2 h3 h4 h5 = rw (← h0, ← h1, ← h2, ← h3, ← h4, ← h5) refl

@@ -29,7 +29,8 @@ each_some Is some (x ∷ xs) =
     let rest = each_some Is some xs in
     (first.0 ∷ rest.0, (first.1, rest.1))
 
-each_one : {X Y : Type 0} (Is : X → Y → Type 0) → ((x : X) (y z : Y) → Is x y → Is x z → y ≡ z) → (xs : List X) (ys zs : List Y) → Each Is xs ys → Each Is xs zs → ys ≡ zs
+each_one : {X Y : Type 0} (Is : X → Y → Type 0) → ((x : X) (y z : Y) → Is x y → Is x z → y ≡ z) → (xs : List X) (ys zs : List Y)
+    → Each Is xs ys → Each Is xs zs → ys ≡ zs
 each_one Is one [] [] [] a b = refl
 each_one Is one [] [] (z ∷ zs) a b = absurd b
 each_one Is one [] (y ∷ ys) zs a b = absurd a
@@ -63,7 +64,8 @@ same_ai_rows a b e f g h i j = rw (e, f, g, h, i, j) refl
 one_ai_row : (second : Bool) (d : Data) (a b : AiRow) → IsAiRow second d a → IsAiRow second d b → a ≡ b
 one_ai_row second d a b e f =
     same_ai_rows a b (e.code ∙ sym f.code) (each_one (IsPartOf second) (one_part_of second) (items_in (codes "parts") d) a.parts b.parts e.parts f.parts)
-    (one_role (text_in (codes "role") d) a.role b.role e.role f.role) (each_one IsText one_text (items_in (codes "qualifiers") d) a.qualifiers b.qualifiers e.qualifiers f.qualifiers)
+    (one_role (text_in (codes "role") d) a.role b.role e.role f.role)
+    (each_one IsText one_text (items_in (codes "qualifiers") d) a.qualifiers b.qualifiers e.qualifiers f.qualifiers)
     (e.short ∙ sym f.short) (e.none ∙ sym f.none)
 
 some_ai_row : (second : Bool) (d : Data) → (row : AiRow) × IsAiRow second d row

@@ -3,13 +3,14 @@ use Rattle.std.proofs.Common.{◌≡◌, ◌≢◌, ℕ, zero, suc, ◌+◌, ◌
 use Rattle.std.specs.List.{list_any}
 use Rattle.std.proofs.lemmas.Bool.Decides.{nat_tests}
 use Rattle.gs_chars.specs.Characters.{is_digit}
-use Rattle.gs_chars.proofs.TruthsAndLists.{and_first, and_second, and_true, equal_bytes, same_bytes, true_or_false}
+use Rattle.gs_chars.proofs.TruthsAndLists.{and_first, and_second, equal_bytes, same_bytes, true_or_false, equal_number}
 use Rattle.gs_ai.specs.declared.part.Part.{Part}
 use Rattle.gs_ai.specs.declared.part.Part.TheVariants.{Zero, Num, NumCheck, NumUpTo, NumOpt, Set, SetOpt, Date, Other}
 use Rattle.gs_ai.specs.declared.part.Role.{Role}
 use Rattle.gs_ai.specs.declared.part.Role.TheVariants as role
 use Rattle.gs_ai.specs.Parts.{is_part, part_text, role_text}
 use Rattle.gs_tables_document.specs.Documents.{IsPart, IsRole}
+use Rattle.std.proofs.lemmas.Bool.{and_from}
 
 -- ---- the part that a text can only be that of
 
@@ -52,18 +53,15 @@ is_same (Set a) (Set b) = a == b
 is_same (SetOpt a) (SetOpt b) = a == b
 is_same _ _ = false
 
-equal_numbers : (a b : ℕ) → (a == b) ≡ true → a ≡ b
-equal_numbers a b h = grind (arith, nat_tests)
-
 same_part : (p q : Part) → is_same p q ≡ true → p ≡ q
 same_part Zero Zero h = refl
 same_part Date Date h = refl
-same_part (Num a) (Num b) h = ap Num (equal_numbers a b h)
-same_part (NumCheck a) (NumCheck b) h = ap NumCheck (equal_numbers a b h)
-same_part (NumUpTo a) (NumUpTo b) h = ap NumUpTo (equal_numbers a b h)
-same_part (NumOpt a) (NumOpt b) h = ap NumOpt (equal_numbers a b h)
-same_part (Set a) (Set b) h = ap Set (equal_numbers a b h)
-same_part (SetOpt a) (SetOpt b) h = ap SetOpt (equal_numbers a b h)
+same_part (Num a) (Num b) h = ap Num (equal_number a b h)
+same_part (NumCheck a) (NumCheck b) h = ap NumCheck (equal_number a b h)
+same_part (NumUpTo a) (NumUpTo b) h = ap NumUpTo (equal_number a b h)
+same_part (NumOpt a) (NumOpt b) h = ap NumOpt (equal_number a b h)
+same_part (Set a) (Set b) h = ap Set (equal_number a b h)
+same_part (SetOpt a) (SetOpt b) h = ap SetOpt (equal_number a b h)
 same_part p q h = absurd (let e : false ≡ true = h in cc)
 
 -- ---- a test of the numbers below 91
@@ -77,13 +75,14 @@ below test zero k all low = absurd (omega arith)
 below test (suc n) k all low = by (true_or_false (k == n)) (λ lower. below test n k (and_second (test n) (all_below test n) all) lower)
   where
     by : ((k == n) ≡ true) ⊎ ((k == n) ≡ false) → (k < n → test k ≡ true) → test k ≡ true
-    by (inl e) less = ap test (equal_numbers k n e) ∙ and_first (test n) (all_below test n) all
+    by (inl e) less = ap test (equal_number k n e) ∙ and_first (test n) (all_below test n) all
     by (inr e) less = less (grind (arith, nat_tests))
 
 small : (least most k : ℕ) → (nat_le least k && nat_le k most) ≡ true → most < 91 → k < 91
 small least most k h few = let s = and_second (nat_le least k) (nat_le k most) h in grind (arith, nat_tests)
 
-kept : (make : ℕ → Part) (k : ℕ) → all_below (λ n. is_same (only_part (part_text (make n))) (make n)) 91 ≡ true → k < 91 → only_part (part_text (make k)) ≡ make k
+kept : (make : ℕ → Part) (k : ℕ) → all_below (λ n. is_same (only_part (part_text (make n))) (make n)) 91 ≡ true → k < 91
+    → only_part (part_text (make k)) ≡ make k
 kept make k all low = same_part (only_part (part_text (make k))) (make k) (below (λ n. is_same (only_part (part_text (make n))) (make n)) 91 k all low)
 
 -- the text of a part of the list is of that part
@@ -129,7 +128,8 @@ not_other p is e = let f : false ≡ true = rw e at is in cc
 pub some_part : (text : List ℕ) → (p : Part) × IsPart text p
 some_part text = by (true_or_false (is_part (only_part text) && bytes_eq (part_text (only_part text)) text))
   where
-    by : ((is_part (only_part text) && bytes_eq (part_text (only_part text)) text) ≡ true) ⊎ ((is_part (only_part text) && bytes_eq (part_text (only_part text)) text) ≡ false) → (p : Part) × IsPart text p
+    by : ((is_part (only_part text) && bytes_eq (part_text (only_part text)) text) ≡ true) ⊎ ((is_part (only_part text) && bytes_eq (part_text (only_part text)) text) ≡ false)
+        → (p : Part) × IsPart text p
     by (inl e) =
         let is = and_first (is_part (only_part text)) (bytes_eq (part_text (only_part text)) text) e in
         let same = equal_bytes (part_text (only_part text)) text (and_second (is_part (only_part text)) (bytes_eq (part_text (only_part text)) text) e) in
@@ -141,7 +141,7 @@ some_part text = by (true_or_false (is_part (only_part text) && bytes_eq (part_t
             let here = only text q is same in
             let listed : is_part (only_part text) ≡ true = ap is_part here ∙ is in
             let shown : bytes_eq (part_text (only_part text)) text ≡ true = rw (here, same) (same_bytes text) in
-            let holds = and_true (is_part (only_part text)) (bytes_eq (part_text (only_part text)) text) listed shown in
+            let holds = and_from (is_part (only_part text)) (bytes_eq (part_text (only_part text)) text) listed shown in
             cc
 
 -- ---- one role

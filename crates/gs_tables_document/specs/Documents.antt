@@ -42,7 +42,7 @@ kind_plan true = must (codes "name") Text ∷ must (codes "key") Text ∷ must (
 abbrev pub option_plan : List Entry
 option_plan = must (codes "kind") Text ∷ must (codes "encoding") Text ∷ must (codes "gcp") Number ∷ must (codes "items") Arrays ∷ []
 
--- trusted, own: the document is of version 2
+-- trusted, own: holds if the document `d` is of version 2
 abbrev pub is_second : Data → Bool
 is_second d = number_in (codes "version") d == 2
 
@@ -70,14 +70,14 @@ document_errors d =
 
 -- ---- the rows of a document
 
--- trusted, own: the symbols of a level are bits
+-- trusted, own: holds if the symbols of the level are bits
 abbrev pub is_bits : LevelName → Bool
 is_bits Binary = true
 is_bits Tag = false
 is_bits Pure = false
 
--- trusted, own: holds if each item of the first list relates to the item of the second at its place, and the lists have one
--- length
+-- trusted, own: holds if `Is` relates each item of the first list to the item of the second at its place, and the lists have
+-- one length
 abbrev pub Each : {X Y : Type 0} → (X → Y → Type 0) → List X → List Y → Type 0
 Each Is [] [] = Unit {0}
 Each Is (x ∷ xs) (y ∷ ys) = Is x y × Each Is xs ys
@@ -87,16 +87,16 @@ Each Is _ _ = ⊥
 abbrev pub text_of : Data → List ℕ
 text_of d = unwrap_or (as_str d) []
 
--- trusted, own: holds if the value is this text
+-- trusted, own: holds if the value `d` is the text `text`
 abbrev pub IsText : Data → List ℕ → Type 0
 IsText d text = text ≡ text_of d
 
--- trusted, own: the part that a text writes, or the other one if and only if it writes none
+-- trusted, own: holds if `text` writes the part `p`, or `p` is `Other` and `text` writes no part
 pub record IsPart (text : List ℕ) (p : Part) : Type 0 where
   pub written : p ≢ part.Other → (is_part p ≡ true) × (part_text p ≡ text)
   pub other : p ≡ part.Other → (q : Part) → is_part q ≡ true → part_text q ≡ text → ⊥
 
--- trusted, own: the role that a text writes, or the other one if and only if it writes none
+-- trusted, own: holds if `text` writes the role `r`, or `r` is `Other` and `text` writes no role
 pub record IsRole (text : List ℕ) (r : Role) : Type 0 where
   pub written : r ≢ role.Other → role_text r ≡ text
   pub other : r ≡ role.Other → WritesNoRole text
@@ -106,11 +106,13 @@ abbrev pub part_in : Bool → Part → Part
 part_in false (part.NumOpt _) = part.Other
 part_in _ p = p
 
--- trusted, own: the part is the one that the text here writes, in a document of version 2 or of another
+-- trusted, own: holds if `p` is the part that the text `d` writes, in a document of version 2 or, if `second` is false, of
+-- another
 abbrev pub IsPartOf : Bool → Data → Part → Type 0
 IsPartOf second d p = (q : Part) × IsPart (text_of d) q × (p ≡ part_in second q)
 
--- trusted, own: a row of application identifiers, in a document of version 2 or of another
+-- trusted, own: holds if `row` is the application identifier `d`, in a document of version 2 or, if `second` is false, of
+-- another
 pub record IsAiRow (second : Bool) (d : Data) (row : AiRow) : Type 0 where
   pub code : row.code ≡ text_in (codes "code") d
   pub parts : Each (IsPartOf second) (items_in (codes "parts") d) row.parts
@@ -119,7 +121,7 @@ pub record IsAiRow (second : Bool) (d : Data) (row : AiRow) : Type 0 where
   pub short : row.short ≡ truth_in (codes "short") d
   pub none : row.none ≡ text_in (codes "none") d
 
--- trusted, own: a kind
+-- trusted, own: holds if `row` is the kind `d`
 pub record IsKindRow (d : Data) (row : KindRow) : Type 0 where
   pub name : row.name ≡ text_in (codes "name") d
   pub key : row.key ≡ text_in (codes "key") d
@@ -127,26 +129,26 @@ pub record IsKindRow (d : Data) (row : KindRow) : Type 0 where
   pub serial : row.serial ≡ text_in (codes "serial") d
   pub fields : Each IsText (items_in (codes "fields") d) row.fields
 
--- trusted, own: how the options of a bit level of the document are read
+-- trusted, own: the reading of the options of a bit level of `document`
 abbrev pub of_bits : Data → Reading
 of_bits document = record { bits = true; second = is_second document }
 
--- trusted, own: how the options of a text level of the document are read
+-- trusted, own: the reading of the options of a text level of `document`
 abbrev pub of_texts : Data → Reading
 of_texts document = record { bits = false; second = is_second document }
 
--- trusted, own: the item that an array is, or none
+-- trusted, own: holds if `entry` is the item that the array `d` is, or `None` if it is not an item
 abbrev pub IsItemAt : Reading → Data → Option FieldItem → Type 0
 IsItemAt reading d entry = entry ≡ item_in reading.second (item_of reading.bits d)
 
--- trusted, own: an option of a bit level or of a text level
+-- trusted, own: holds if `row` is the option `d` of a bit level or of a text level
 pub record IsOptionRow (reading : Reading) (d : Data) (row : OptionRow) : Type 0 where
   pub kind : row.kind ≡ text_in (codes "kind") d
   pub encoding : row.encoding ≡ text_in (codes "encoding") d
   pub gcp : row.gcp ≡ number_in (codes "gcp") d
   pub items : Each (IsItemAt reading) (items_in (codes "items") d) row.items
 
--- trusted, own: the rows of a document
+-- trusted, own: holds if `document` has the version and the rows of `d`
 pub record IsDocument (d : Data) (document : Document) : Type 0 where
   pub version : document.version ≡ number_in (codes "version") d
   pub ais : Each (IsAiRow (is_second d)) (items_in (codes "ais") d) document.ais

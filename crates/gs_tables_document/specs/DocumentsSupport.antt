@@ -6,11 +6,11 @@ use Rattle.gs_ai.specs.declared.part.Part.{Part}
 use Rattle.gs_tables_document.specs.declared.document.OptionRow.{OptionRow}
 use Rattle.gs_tables_document.specs.Documents.{Each, IsText, IsPartOf, of_bits, of_texts, IsOptionRow}
 
--- the parts and the qualifiers of a row of application identifiers
+-- holds if these are the parts and the qualifiers of a row of application identifiers
 abbrev pub AreAiLists : Bool → Data → List Part × List (List ℕ) → Type 0
 AreAiLists second d lists = Each (IsPartOf second) (items_in (codes "parts") d) lists.0 × Each IsText (items_in (codes "qualifiers") d) lists.1
 
--- the rows of the options of the levels: binary, tag and pure
+-- holds if these are the rows of the options of the levels: binary, tag and pure
 abbrev pub AreOptions : Data → List OptionRow × List OptionRow × List OptionRow → Type 0
 AreOptions d rows =
     Each (IsOptionRow (of_bits d)) (items_in (codes "binary") d) rows.0

@@ -26,7 +26,7 @@ field_of name =
     else if bytes_eq name (codes "total") then Some Total
     else None
 
--- trusted, own: a number that has room in this many bits
+-- trusted, own: the number `n` if it fits in `bits` bits, otherwise nothing
 abbrev pub held : ℕ → ℕ → Option ℕ
 held bits n = if nat_lt n (2 ^ bits) then Some n else None
 
@@ -72,63 +72,63 @@ alone items = map (λ (i : FieldItem). i.1) items
 abbrev pub fields_of : List FieldItem → List (Option Field)
 fields_of items = map (λ (i : FieldItem). i.0) items
 
--- trusted, own: an array of this many parts
+-- trusted, own: the `answer` for an array `d` of `n` parts, otherwise nothing
 abbrev pub sized : ℕ → Data → Option FieldItem → Option FieldItem
 sized n d answer = if items_count d == n then answer else None
 
--- trusted, own: an item whose value stands for the field that its second part names
+-- trusted, own: the item with the field that its second part names
 abbrev pub with_field : Data → Option Item → Option FieldItem
 with_field d item = option_and_then (λ field. option_map (λ i. (Some field, i)) item) (field_arg 1 d)
 
--- trusted, own: an item whose value belongs to no field
+-- trusted, own: the item without a field
 abbrev pub no_field : Option Item → Option FieldItem
 no_field item = option_map (λ i. (None, i)) item
 
--- trusted, own: two numbers
+-- trusted, own: the item of two numbers, if both exist
 abbrev pub both : Option ℕ → Option ℕ → (ℕ → ℕ → Item) → Option Item
 both a b make = option_and_then (λ x. option_map (λ y. make x y) b) a
 
--- trusted, own: `["lit", TEXT]`
+-- trusted, own: the item of `["lit", TEXT]`, if `d` has this form
 abbrev pub literal : Data → Option FieldItem
 literal d = sized 2 d (no_field (option_map Lit (text_arg 1 d)))
 
--- trusted, own: `["lit", BITS]` on a bit level
+-- trusted, own: the item of `["lit", BITS]` on a bit level, if `d` has this form
 abbrev pub bit_literal : Data → Option FieldItem
 bit_literal d = sized 2 d (no_field (option_map Lit (option_and_then bits_of (text_arg 1 d))))
 
--- trusted, own: `["pad", FIELD, n]`
+-- trusted, own: the item of `["pad", FIELD, n]`, if `d` has this form
 abbrev pub pad : Data → Option FieldItem
 pad d = sized 3 d (with_field d (option_map Pad (byte_arg 2 d)))
 
--- trusted, own: `["int", FIELD, max]`
+-- trusted, own: the item of `["int", FIELD, max]`, if `d` has this form
 abbrev pub int : Data → Option FieldItem
 int d = sized 3 d (with_field d (option_map Int (number_arg 2 d)))
 
--- trusted, own: `["esc", FIELD, lo, hi]`
+-- trusted, own: the item of `["esc", FIELD, lo, hi]`, if `d` has this form
 abbrev pub esc : Data → Option FieldItem
 esc d = sized 4 d (with_field d (both (byte_arg 2 d) (byte_arg 3 d) Esc))
 
--- trusted, own: `["digits", FIELD, lo, hi]`
+-- trusted, own: the item of `["digits", FIELD, lo, hi]`, if `d` has this form
 abbrev pub digits : Data → Option FieldItem
 digits d = sized 4 d (with_field d (both (byte_arg 2 d) (byte_arg 3 d) Digits))
 
--- trusted, own: `["numpad", FIELD, bits, n]`
+-- trusted, own: the item of `["numpad", FIELD, bits, n]`, if `d` has this form
 abbrev pub numpad : Data → Option FieldItem
 numpad d = sized 4 d (with_field d (both (byte_arg 2 d) (byte_arg 3 d) NumPad))
 
--- trusted, own: `["num", FIELD, bits, max]`
+-- trusted, own: the item of `["num", FIELD, bits, max]`, if `d` has this form
 abbrev pub num : Data → Option FieldItem
 num d = sized 4 d (with_field d (both (byte_arg 2 d) (number_arg 3 d) Num))
 
--- trusted, own: `["numstr", FIELD, bits, hi]`
+-- trusted, own: the item of `["numstr", FIELD, bits, hi]`, if `d` has this form
 abbrev pub numstr : Data → Option FieldItem
 numstr d = sized 4 d (with_field d (both (byte_arg 2 d) (byte_arg 3 d) NumStr))
 
--- trusted, own: `["ascii7", FIELD, lo, hi, bits]`
+-- trusted, own: the item of `["ascii7", FIELD, lo, hi, bits]`, if `d` has this form
 abbrev pub ascii7 : Data → Option FieldItem
 ascii7 d = sized 5 d (with_field d (option_and_then (λ bits. both (byte_arg 2 d) (byte_arg 3 d) (λ lo hi. Ascii7 lo hi bits)) (short_arg 4 d)))
 
--- trusted, own: `["fill", a, b]`
+-- trusted, own: the item of `["fill", a, b]`, if `d` has this form
 abbrev pub fill : Data → Option FieldItem
 fill d = sized 3 d (no_field (both (byte_arg 1 d) (byte_arg 2 d) Fill))
 
@@ -158,13 +158,13 @@ abbrev pub item_of : Bool → Data → Option FieldItem
 item_of true d = option_and_then (λ name. bit_item name d) (text_arg 0 d)
 item_of false d = option_and_then (λ name. text_item name d) (text_arg 0 d)
 
--- trusted, own: the item is one of version 1 of the profile
+-- trusted, own: holds if the item is one of version 1 of the profile
 abbrev pub is_first_item : Item → Bool
 is_first_item (Digits _ _) = false
 is_first_item (NumStr _ _) = false
 is_first_item _ = true
 
--- trusted, own: the field is one of version 1 of the profile
+-- trusted, own: holds if the field is one of version 1 of the profile
 abbrev pub is_first_field : Option Field → Bool
 is_first_field (Some Piece) = false
 is_first_field (Some Total) = false
@@ -176,7 +176,7 @@ item_in true answer = answer
 item_in false answer =
     option_and_then (λ (i : FieldItem). if is_first_field i.0 && is_first_item i.1 then Some i else None) answer
 
--- trusted, own: the answer is this one, and `Bad` if and only if there is none
+-- trusted, own: holds if the result is the value of `answer`, is `Bad` and there is none, or is `Memory`
 abbrev pub Reads : {X : Type 0} → Result X ItemFault → Option X → Type 0
 Reads (Ok x) answer = answer ≡ Some x
 Reads (Err Bad) answer = answer ≡ None

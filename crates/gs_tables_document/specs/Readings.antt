@@ -9,27 +9,28 @@ use Rattle.gs_tables_document.specs.declared.error.LoadFault.{LoadFault}
 use Rattle.gs_tables_document.specs.declared.error.LoadFault.TheVariants.{Json, Memory}
 use Rattle.gs_tables_document.specs.Documents.{document_errors, IsDocument}
 
--- trusted, own: the bytes are the JSON text of this tree
+-- trusted, own: holds if `bytes` are valid UTF-8 and the JSON text of the tree `d`
 abbrev pub IsJson : List ℕ → Data → Type 0
 IsJson bytes d = IsUtf8 bytes × (read_text bytes ≡ Some d)
 
--- trusted, own: the bytes are a table document of these rows
+-- trusted, own: holds if `bytes` are a table document with the rows of `document`
 abbrev pub Holds : List ℕ → Document → Type 0
 Holds bytes document = (d : Data) × IsJson bytes d × (document_errors d ≡ []) × IsDocument d document
 
--- trusted, own: the bytes are not JSON text
+-- trusted, own: holds if `bytes` are not JSON text, and `error` is `Syntax`
 abbrev pub IsNoJson : List ℕ → JsonFault → Type 0
 IsNoJson bytes error = (error ≡ Syntax) × (IsUtf8 bytes → read_text bytes ≡ None)
 
--- trusted, own: the first error of the form of the document that the bytes are
+-- trusted, own: holds if `bytes` are JSON text, and `error` is the first error of the form of the document
 abbrev pub IsFirstError : List ℕ → JsonFault → Type 0
 IsFirstError bytes error = (d : Data) × IsJson bytes d × (slice_get (document_errors d) 0 ≡ Some error)
 
--- trusted, own: why the form of a document is rejected
+-- trusted, own: holds if `bytes` are not JSON text and `error` is `Syntax`, or it is the first error of the form of the
+-- document
 abbrev pub IsFormError : List ℕ → JsonFault → Type 0
 IsFormError bytes error = IsNoJson bytes error ⊎ IsFirstError bytes error
 
--- trusted, own: the rejection is one of the form, or out of memory
+-- trusted, own: holds if the rejection is `Memory`, or an error of the form of the document `bytes`
 abbrev pub IsFormRejection : List ℕ → LoadFault → Type 0
 IsFormRejection bytes (Json error) = IsFormError bytes error
 IsFormRejection bytes Memory = Unit {0}

@@ -16,7 +16,7 @@ pub struct KindRow {
     pub name: Text,
     /// The code of the key.
     pub key: Text,
-    /// How many digits of the key are before the prefix and go with the rest.
+    /// The number of digits of the key that are before the prefix and go with the rest.
     pub lead: u64,
     /// The place of the serial: the AI of its element, `tail`, or empty for none.
     pub serial: Text,
@@ -31,7 +31,7 @@ pub struct OptionRow {
     pub kind: Text,
     /// The name of the encoding, empty on the level of pure identities.
     pub encoding: Text,
-    /// How many digits or characters the GS1 Company Prefix has.
+    /// The number of digits or characters of the GS1 Company Prefix.
     pub gcp: u64,
     /// The items. One is absent if the document has an item there that is not of the level.
     pub items: List<Option<FieldItem>>,
@@ -71,11 +71,11 @@ pub struct Kind {
     pub name: Text,
     /// The code of the key.
     pub key: Text,
-    /// How many digits of the key, 0 or 1, are before the prefix and go with the rest.
+    /// The number of digits of the key, 0 or 1, that are before the prefix and go with the rest.
     pub lead: u8,
     /// The place of the serial.
     pub serial: SerialAt,
-    /// How many digits the piece and the total have, which follow the check digit; empty for a kind without them.
+    /// The numbers of digits of the piece and the total, which follow the check digit; empty for a kind without them.
     pub further: List<u8>,
 }
 
@@ -103,7 +103,7 @@ pub enum Field {
     Rest,
     /// The number of the piece, if the key has pieces.
     Piece,
-    /// How many pieces there are.
+    /// The number of pieces.
     Total,
     /// The serial.
     Serial,
@@ -162,7 +162,7 @@ pub struct OptInfo {
     pub kind: usize,
     /// The name of the encoding, empty on the level of pure identities.
     pub encoding: Text,
-    /// How many digits or characters the GS1 Company Prefix has, 1 to 12.
+    /// The number of digits or characters of the GS1 Company Prefix, 1 to 12.
     pub gcp: u8,
     /// The field of each item, none for literals and fills.
     pub fields: List<Option<Field>>,

@@ -3,8 +3,8 @@ ghost use Rattle.gs_json.specs.declared.error.JsonFault.{JsonFault};
 ghost use Rattle.gs_tables_document.specs.declared.document.Document.{Document};
 ghost use Rattle.gs_tables_document.specs.Readings.{Holds, IsFormError};
 
-/// States that all bytes are a table document of some rows, or have a first error of its form: never both, and at most one of
-/// each.
+/// States that all bytes are a table document of some rows, or have a first error of its form. It is never both, and at most
+/// one of each.
 pub fn bytes_have_one_reading()
     ensures some { (bytes : List ℕ) → ((document : Document) × Holds bytes document)
         ⊎ ((error : JsonFault) × IsFormError bytes error) }

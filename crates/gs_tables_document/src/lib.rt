@@ -17,7 +17,7 @@
 //! # Differences from the standard
 //!
 //! - GS1 EPC Tag Data Translation publishes its tables as XML and JSON with patterns and functions. These documents have rows
-//!   of items instead (docs/FORMATS.md, 'The table document').
+//!   of items instead (docs/TABLES.md, 'The table document').
 #![tactic(auto)]
 
 mod document;

@@ -17,8 +17,8 @@ use gs_json::{Doc, Entry, JsonFault, Node, number_in};
 use serde_json::Value;
 use std::alloc::Global;
 
-/// Returns the rows of the table document that the bytes are, or the first error of its form, as `Json`: the bytes are not JSON
-/// text, or the document or a row has not the form of its kind. May return `Memory` instead.
+/// Returns the rows of the table document that the bytes are, or the first error of its form, as `Json`. The bytes are then not
+/// JSON text, or the document or a row does not have the form of its kind. May return `Memory` instead.
 pub fn read_document(alloc: Global, bytes: &[u8]) -> Result<Document, LoadFault>
     ensures document { IfOk result (λ document. Holds bytes.now document) }
     ensures rejected { IfErr result (λ error. IsFormRejection bytes.now error) }

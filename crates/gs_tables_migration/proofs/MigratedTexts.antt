@@ -35,7 +35,8 @@ two_from : (n : ℕ) → (n == 2) ≡ true → n ≡ 2
 two_from n h = search (rules, tests)
 
 module _ (document : Document) (known : IsKnown document) where
-  second_by : (d : Data) (b : Bool) → is_second d ≡ b → document_errors d ≡ [] → IsDocument d document → (document_errors (second_version d) ≡ []) × IsDocument (second_version d) (in_second document)
+  second_by : (d : Data) (b : Bool) → is_second d ≡ b → document_errors d ≡ [] → IsDocument d document
+      → (document_errors (second_version d) ≡ []) × IsDocument (second_version d) (in_second document)
   unfolding second_version document_errors
   second_by d true second none is =
       let version = is.version ∙ two_from (number_in (codes "version") d) second in
@@ -48,12 +49,14 @@ module _ (document : Document) (known : IsKnown document) where
   second_by (array ds) false first none is = absurd (some_error (Kind []) [] (nil_parts (Kind [] ∷ []) _ none).0)
   second_by (object ms) false first none is = rw first (second_errors ms document first none, second_document ms document first none is known)
 
-  second_of : (d : Data) → document_errors d ≡ [] → IsDocument d document → (document_errors (second_version d) ≡ []) × IsDocument (second_version d) (in_second document)
+  second_of : (d : Data) → document_errors d ≡ [] → IsDocument d document
+      → (document_errors (second_version d) ≡ []) × IsDocument (second_version d) (in_second document)
   second_of d none is = second_by d (is_second d) refl none is
 
 -- ---- the rows of an array
 
-rows_all : (P : Data → Type 0) (o : Option Data) → ((ds : Items) → o ≡ Some (array ds) → AllByRecursion P (items_list ds)) → AllByRecursion P (unwrap_or (option_and_then array_in o) [])
+rows_all : (P : Data → Type 0) (o : Option Data) → ((ds : Items) → o ≡ Some (array ds) → AllByRecursion P (items_list ds))
+    → AllByRecursion P (unwrap_or (option_and_then array_in o) [])
 rows_all P None all = tt
 rows_all P (Some null) all = tt
 rows_all P (Some (boolean b)) all = tt
@@ -80,7 +83,8 @@ sorted_kinds : (rows : List Data) → AllByRecursion IsSorted rows → AreSorted
 sorted_kinds [] all = tt
 sorted_kinds (d ∷ rows) all = (sorted_fields d all.0, sorted_kinds rows all.1)
 
-sorted_object : (ms : Members) → HaveSorted ms → HaveSorted (put (codes "version") (number (unsigned 2)) (put (codes "kinds") (kinds_with_fields (object ms)) ms))
+sorted_object : (ms : Members) → HaveSorted ms
+    → HaveSorted (put (codes "version") (number (unsigned 2)) (put (codes "kinds") (kinds_with_fields (object ms)) ms))
 sorted_object ms h =
     let rows = rows_all IsSorted (get_member (codes "kinds") ms) (λ ds found. sorted_items ds (sorted_member (codes "kinds") (array ds) ms h found)) in
     sorted_put (codes "version") (number (unsigned 2)) _ tt (sorted_put (codes "kinds") (kinds_with_fields (object ms)) ms (sorted_kinds (items_in (codes "kinds") (object ms)) rows) h)
@@ -97,7 +101,8 @@ sorted_by (object ms) false first h = rw first (sorted_object ms h)
 
 -- ---- the tree is as deep
 
-deep_or : (o : Ordering) (n : ℕ) (d e : Data) (rest : Option Data) → depth e ≤ n → (rest ≡ Some d → depth d ≤ n) → match_ordering o rest (Some e) rest ≡ Some d → depth d ≤ n
+deep_or : (o : Ordering) (n : ℕ) (d e : Data) (rest : Option Data) → depth e ≤ n → (rest ≡ Some d → depth d ≤ n)
+    → match_ordering o rest (Some e) rest ≡ Some d → depth d ≤ n
 deep_or Less n d e rest own more is = more is
 deep_or Equal n d e rest own more is = let same : e ≡ d = cc in rw (← same) own
 deep_or Greater n d e rest own more is = more is
@@ -135,7 +140,8 @@ deep_kinds n (d ∷ rows) all =
     let rest = deep_kinds n rows all.1 in
     omega arith
 
-deep_object : (n : ℕ) (ms : Members) → members_depth ms ≤ n + 3 → members_depth (put (codes "version") (number (unsigned 2)) (put (codes "kinds") (kinds_with_fields (object ms)) ms)) ≤ n + 3
+deep_object : (n : ℕ) (ms : Members) → members_depth ms ≤ n + 3
+    → members_depth (put (codes "version") (number (unsigned 2)) (put (codes "kinds") (kinds_with_fields (object ms)) ms)) ≤ n + 3
 deep_object n ms h =
     let rows = rows_all (λ d. depth d ≤ n + 2) (get_member (codes "kinds") ms)
     (λ ds found. deep_items (n + 2) ds (let own = deep_member (n + 3) (codes "kinds") (array ds) ms h found in omega arith)) in
@@ -176,7 +182,8 @@ module _ (bytes : List ℕ) (tree : Data) (json : IsJson bytes tree) (document :
   tree_whole =
       document_whole (second_version tree) (in_second document) (sorted_by tree (is_second tree) refl (sorted_read bytes tree json.1)) tree_second.0 tree_second.1 (known_second document known)
 
-  text_holds : (text : List ℕ) → IsUtf8 text → (depth (second_version tree) ≤ max_depth → read_text text ≡ Some (second_version tree)) → Holds text (in_second document)
+  text_holds : (text : List ℕ) → IsUtf8 text → (depth (second_version tree) ≤ max_depth → read_text text ≡ Some (second_version tree))
+      → Holds text (in_second document)
   text_holds text utf8 reads =
       let deep = depth_by tree (is_second tree) refl (depth-read bytes tree json.1) in
       (second_version tree, (utf8, reads deep), tree_second.0, tree_second.1)
@@ -190,7 +197,8 @@ module _ (bytes : List ℕ) (tree : Data) (json : IsJson bytes tree) (document :
       subst (λ d. Holds text (in_second d)) one (text_holds text utf8 back)
 
   module _ {E : Type 0} (second : Data) (is : second ≡ second_version tree) where
-    pub answer_migrated : (answer : Result (List ℕ) E) → IfOk answer (λ text. has_float second ≡ false → text ≡ compact_text second) → IfOk answer (IsMigrated bytes)
+    pub answer_migrated : (answer : Result (List ℕ) E) → IfOk answer (λ text. has_float second ≡ false → text ≡ compact_text second)
+        → IfOk answer (IsMigrated bytes)
     answer_migrated (Ok text) written = text_migrated text (rw is at (written (rw is tree_whole)))
     answer_migrated (Err e) written = tt
 

@@ -28,7 +28,8 @@ use Rattle.gs_tables_migration.proofs.WholeMembers.{some_error}
 
 -- ---- rows that are read in version 2 as in version 1
 
-each_kept : {Y : Type 0} (Is Was : Data → Y → Type 0) (test : Y → Bool) → ((d : Data) (y : Y) → Was d y → test y ≡ true → Is d y) → (ds : List Data) (ys : List Y) → Each Was ds ys → list_all test ys ≡ true → Each Is ds ys
+each_kept : {Y : Type 0} (Is Was : Data → Y → Type 0) (test : Y → Bool) → ((d : Data) (y : Y) → Was d y → test y ≡ true → Is d y)
+    → (ds : List Data) (ys : List Y) → Each Was ds ys → list_all test ys ≡ true → Each Is ds ys
 each_kept Is Was test each [] [] was all = tt
 each_kept Is Was test each [] (y ∷ ys) was all = absurd was
 each_kept Is Was test each (d ∷ ds) [] was all = absurd was
@@ -68,15 +69,18 @@ item_known None h = refl
 item_known (Some x) h = item_by x (is_first_field x.0 && is_first_item x.1) h
 
 module _ (bits : Bool) where
-  item_kept : (d : Data) (entry : Option FieldItem) → IsItemAt (record { bits = bits; second = false }) d entry → is_some entry ≡ true → IsItemAt (record { bits = bits; second = true }) d entry
+  item_kept : (d : Data) (entry : Option FieldItem) → IsItemAt (record { bits = bits; second = false }) d entry → is_some entry ≡ true
+      → IsItemAt (record { bits = bits; second = true }) d entry
   item_kept d entry is known = is ∙ item_known (item_of bits d) (rw is at known)
 
-  option_kept : (d : Data) (row : OptionRow) → IsOptionRow (record { bits = bits; second = false }) d row → has_items row ≡ true → IsOptionRow (record { bits = bits; second = true }) d row
+  option_kept : (d : Data) (row : OptionRow) → IsOptionRow (record { bits = bits; second = false }) d row → has_items row ≡ true
+      → IsOptionRow (record { bits = bits; second = true }) d row
   option_kept d row is known = record {
     kind = is.kind;
     encoding = is.encoding;
     gcp = is.gcp;
-    items = each_kept (IsItemAt (record { bits = bits; second = true })) (IsItemAt (record { bits = bits; second = false })) is_some item_kept (items_in (codes "items") d) row.items is.items known;
+    items = each_kept (IsItemAt (record { bits = bits; second = true }))
+        (IsItemAt (record { bits = bits; second = false })) is_some item_kept (items_in (codes "items") d) row.items is.items known;
   }
 
 -- ---- kinds
@@ -86,7 +90,8 @@ module _ (k : List ℕ) (other : bytes_eq k (codes "fields") ≡ false) (ms : Me
   beside_fields : get_member k (put (codes "fields") (array no_items) ms) ≡ get_member k ms
   beside_fields = get_member-put_other k (codes "fields") (array no_items) ms (other_name k (codes "fields") other)
 
-kind_object : (place : List ℕ) (ms : Members) (row : KindRow) → IsKindRow (object ms) row → members_errors place (kind_plan false) (Some ms) ≡ [] → IsKindRow (object (put (codes "fields") (array no_items) ms)) row
+kind_object : (place : List ℕ) (ms : Members) (row : KindRow) → IsKindRow (object ms) row
+    → members_errors place (kind_plan false) (Some ms) ≡ [] → IsKindRow (object (put (codes "fields") (array no_items) ms)) row
 kind_object place ms row is none =
     let no_fields : items_in (codes "fields") (object ms) ≡ [] = rw (absent_member place (kind_plan false) (codes "fields") ms refl none) refl in
     let fields : items_in (codes "fields") (object (put (codes "fields") (array no_items) ms)) ≡ [] = rw (get_member-put (codes "fields") (array no_items) ms) refl in
@@ -106,7 +111,9 @@ kind_kept place (string s) row is none = absurd (some_error (Kind place) [] none
 kind_kept place (array ds) row is none = absurd (some_error (Kind place) [] none)
 kind_kept place (object ms) row is none = kind_object place ms row is none
 
-kinds_kept : (place : List ℕ) (n : ℕ) (ds : List Data) (rows : List KindRow) → Each IsKindRow ds rows → flat_map (λ (row : ℕ × Data). object_errors (item_place place row.0) (kind_plan false) row.1) (enumerate_from n ds) ≡ [] → Each IsKindRow (map with_fields ds) rows
+kinds_kept : (place : List ℕ) (n : ℕ) (ds : List Data) (rows : List KindRow) → Each IsKindRow ds rows
+    → flat_map (λ (row : ℕ × Data). object_errors (item_place place row.0) (kind_plan false) row.1) (enumerate_from n ds) ≡ []
+    → Each IsKindRow (map with_fields ds) rows
 kinds_kept place n [] [] is none = tt
 kinds_kept place n [] (row ∷ rows) is none = absurd is
 kinds_kept place n (d ∷ ds) [] is none = absurd is
@@ -143,7 +150,8 @@ module _ (ms : Members) (kinds : Data) where
   rows_beside : (k : List ℕ) → bytes_eq k (codes "version") ≡ false → bytes_eq k (codes "kinds") ≡ false → items_in k (object second) ≡ items_in k (object ms)
   rows_beside k apart apart' = rw (beside k apart apart') refl
 
-  errors_beside : (k : List ℕ) (plan : List Entry) → bytes_eq k (codes "version") ≡ false → bytes_eq k (codes "kinds") ≡ false → rows_errors k plan (object ms) ≡ [] → rows_errors k plan (object second) ≡ []
+  errors_beside : (k : List ℕ) (plan : List Entry) → bytes_eq k (codes "version") ≡ false → bytes_eq k (codes "kinds") ≡ false
+      → rows_errors k plan (object ms) ≡ [] → rows_errors k plan (object second) ≡ []
   unfolding rows_errors
   errors_beside k plan apart apart' none = rw (rows_beside k apart apart') none
 
@@ -155,7 +163,8 @@ module _ (ms : Members) (kinds : Data) where
 
   kinds_there : get_member (codes "kinds") second ≡ Some kinds
   kinds_there =
-      get_member-put_other (codes "kinds") (codes "version") (number (unsigned 2)) (put (codes "kinds") kinds ms) (other_name (codes "kinds") (codes "version") refl)
+      get_member-put_other (codes "kinds") (codes "version") (number (unsigned 2)) (put (codes "kinds") kinds ms)
+      (other_name (codes "kinds") (codes "version") refl)
       ∙ get_member-put (codes "kinds") kinds ms
 
 -- the second version of a document of another version
@@ -166,18 +175,22 @@ module _ (ms : Members) (document : Document) (first : is_second (object ms) ≡
   kind_rows : items_in (codes "kinds") (object (second ms new_kinds)) ≡ map with_fields (items_in (codes "kinds") (object ms))
   kind_rows = rw (kinds_there ms new_kinds) (list_back (map with_fields (items_in (codes "kinds") (object ms))))
 
-  no_kinds_errors : rows_errors (codes "kinds") (kind_plan false) (object ms) ≡ [] → rows_errors (codes "kinds") (kind_plan true) (object (second ms new_kinds)) ≡ []
+  no_kinds_errors : rows_errors (codes "kinds") (kind_plan false) (object ms) ≡ []
+      → rows_errors (codes "kinds") (kind_plan true) (object (second ms new_kinds)) ≡ []
   unfolding rows_errors
   no_kinds_errors kinds =
       rw kind_rows (rows_put (λ place d. object_errors place (kind_plan false) d) (λ place d. object_errors place (kind_plan true) d) with_fields (member_place [] (codes "kinds")) no_kind_errors 0 (items_in (codes "kinds") (object ms)) kinds)
 
-  kinds_read : (rows : List KindRow) → Each IsKindRow (items_in (codes "kinds") (object ms)) rows → rows_errors (codes "kinds") (kind_plan false) (object ms) ≡ [] → Each IsKindRow (items_in (codes "kinds") (object (second ms new_kinds))) rows
+  kinds_read : (rows : List KindRow) → Each IsKindRow (items_in (codes "kinds") (object ms)) rows
+      → rows_errors (codes "kinds") (kind_plan false) (object ms) ≡ []
+      → Each IsKindRow (items_in (codes "kinds") (object (second ms new_kinds))) rows
   unfolding rows_errors
   kinds_read rows is kinds = rw kind_rows (kinds_kept (member_place [] (codes "kinds")) 0 (items_in (codes "kinds") (object ms)) rows is kinds)
 
   no_object_errors : object_errors [] document_plan (object ms) ≡ [] → object_errors [] document_plan (object (second ms new_kinds)) ≡ []
   no_object_errors own =
-      members_put [] (codes "version") (number (unsigned 2)) (put (codes "kinds") new_kinds ms) document_plan refl refl (members_put [] (codes "kinds") new_kinds ms document_plan refl refl own)
+      members_put [] (codes "version") (number (unsigned 2)) (put (codes "kinds") new_kinds ms) document_plan refl refl
+      (members_put [] (codes "kinds") new_kinds ms document_plan refl refl own)
 
   kinds_errors : rows_errors (codes "kinds") (kind_plan false) (object ms) ≡ []
   unfolding document_errors

@@ -31,7 +31,8 @@ abbrev mutual
 
 -- ---- a member more
 
-sorted_by : (o : Ordering) (k l : List ℕ) (d e : Data) (ms : Members) → slice_cmp nat_cmp k l ≡ o → IsSorted d → HaveSorted (member l e ms) → HaveSorted (put k d ms) → HaveSorted (match_ordering o (member k d (member l e ms)) (member l d ms) (member l e (put k d ms)))
+sorted_by : (o : Ordering) (k l : List ℕ) (d e : Data) (ms : Members) → slice_cmp nat_cmp k l ≡ o → IsSorted d → HaveSorted (member l e ms)
+    → HaveSorted (put k d ms) → HaveSorted (match_ordering o (member k d (member l e ms)) (member l d ms) (member l e (put k d ms)))
 sorted_by Less k l d e ms is own all more = (own, (is, below_trans k l (names_of_members ms) is all.1), all)
 sorted_by Equal k l d e ms is own all more = (own, all.1, all.2)
 sorted_by Greater k l d e ms is own all more =
@@ -52,7 +53,8 @@ holds_map : {A B : Type 0} (P : A → Type 0) (Q : B → Type 0) (f : A → B) �
 holds_map P Q f each None h = tt
 holds_map P Q f each (Some a) h = each a h
 
-holds_then : {A B : Type 0} (P : A → Type 0) (Q : B → Type 0) (f : A → Option B) → ((a : A) → P a → Holds Q (f a)) → (o : Option A) → Holds P o → Holds Q (option_and_then f o)
+holds_then : {A B : Type 0} (P : A → Type 0) (Q : B → Type 0) (f : A → Option B) → ((a : A) → P a → Holds Q (f a)) → (o : Option A)
+    → Holds P o → Holds Q (option_and_then f o)
 holds_then P Q f each None h = tt
 holds_then P Q f each (Some a) h = each a h
 
@@ -111,7 +113,8 @@ found_member k d (member l e ms) all (inr has) =
     let above : slice_cmp nat_cmp k l ≡ Greater = nat_list_cmp_total.antisymm k l ∙ ap ordering_reverse (below_has l k d ms all.1 has) in
     rw above (found_member k d ms all.2 has)
 
-sorted_or : (o : Ordering) (d e : Data) (rest : Option Data) → IsSorted e → (rest ≡ Some d → IsSorted d) → match_ordering o rest (Some e) rest ≡ Some d → IsSorted d
+sorted_or : (o : Ordering) (d e : Data) (rest : Option Data) → IsSorted e → (rest ≡ Some d → IsSorted d)
+    → match_ordering o rest (Some e) rest ≡ Some d → IsSorted d
 sorted_or Less d e rest own more is = more is
 sorted_or Equal d e rest own more is = let same : e ≡ d = cc in rw (← same) own
 sorted_or Greater d e rest own more is = more is

@@ -41,10 +41,12 @@ ai_members place ms sorted none =
     object_whole place ai_plan ms sorted none
     ((λ d _ fits. text_sort _ d fits), ((λ d _ fits. texts_sort _ d fits), ((λ d _ fits. text_sort _ d fits), ((λ d _ fits. texts_sort _ d fits), ((λ d _ fits. truth_sort _ d fits), ((λ d _ fits. text_sort _ d fits), tt))))))
 
-ai_whole : (second : Bool) (place : List ℕ) (d : Data) (row : AiRow) → IsAiRow second d row → ⊤ → IsSorted d → object_errors place ai_plan d ≡ [] → has_float d ≡ false
+ai_whole : (second : Bool) (place : List ℕ) (d : Data) (row : AiRow) → IsAiRow second d row → ⊤ → IsSorted d
+    → object_errors place ai_plan d ≡ [] → has_float d ≡ false
 ai_whole second place d row is _ sorted none = object_only place ai_plan d sorted none (λ ms _ own fits. ai_members place ms own fits)
 
-kind_members : (second : Bool) (place : List ℕ) (ms : Members) → HaveSorted ms → members_errors place (kind_plan second) (Some ms) ≡ [] → members_have_float ms ≡ false
+kind_members : (second : Bool) (place : List ℕ) (ms : Members) → HaveSorted ms → members_errors place (kind_plan second) (Some ms) ≡ []
+    → members_have_float ms ≡ false
 kind_members false place ms sorted none =
     object_whole place (kind_plan false) ms sorted none
     ((λ d _ fits. text_sort _ d fits), ((λ d _ fits. text_sort _ d fits), ((λ d _ fits. number_sort _ d fits), ((λ d _ fits. text_sort _ d fits), tt))))
@@ -52,7 +54,8 @@ kind_members true place ms sorted none =
     object_whole place (kind_plan true) ms sorted none
     ((λ d _ fits. text_sort _ d fits), ((λ d _ fits. text_sort _ d fits), ((λ d _ fits. number_sort _ d fits), ((λ d _ fits. text_sort _ d fits), ((λ d _ fits. texts_sort _ d fits), tt)))))
 
-kind_whole : (second : Bool) (place : List ℕ) (d : Data) (row : KindRow) → IsKindRow d row → ⊤ → IsSorted d → object_errors place (kind_plan second) d ≡ [] → has_float d ≡ false
+kind_whole : (second : Bool) (place : List ℕ) (d : Data) (row : KindRow) → IsKindRow d row → ⊤ → IsSorted d
+    → object_errors place (kind_plan second) d ≡ [] → has_float d ≡ false
 kind_whole second place d row is _ sorted none = object_only place (kind_plan second) d sorted none (λ ms _ own fits. kind_members second place ms own fits)
 
 -- ---- options
@@ -66,7 +69,8 @@ there : (entry : Option FieldItem) → is_some entry ≡ true → (x : FieldItem
 there None h = absurd (let g : false ≡ true = h in cc)
 there (Some x) h = (x, refl)
 
-items_whole : (reading : Reading) (ds : Items) (entries : List (Option FieldItem)) → Each (IsItemAt reading) (items_list ds) entries → list_all is_some entries ≡ true → items_have_float ds ≡ false
+items_whole : (reading : Reading) (ds : Items) (entries : List (Option FieldItem)) → Each (IsItemAt reading) (items_list ds) entries
+    → list_all is_some entries ≡ true → items_have_float ds ≡ false
 items_whole reading no_items entries is all = refl
 items_whole reading (item d ds) [] is all = absurd is
 items_whole reading (item d ds) (entry ∷ entries) is all =
@@ -74,7 +78,8 @@ items_whole reading (item d ds) (entry ∷ entries) is all =
     let read = read_item reading.second (item_of reading.bits d) own.0 (sym is.0 ∙ own.1) in
     rw (item_whole reading.bits d read.0 read.1) (items_whole reading ds entries is.1 (and_second (is_some entry) (list_all is_some entries) all))
 
-items_member : (reading : Reading) (place : List ℕ) (ms : Members) (row : OptionRow) (d : Data) → get_member (codes "items") ms ≡ Some d → sort_errors place sort.Arrays d ≡ []
+items_member : (reading : Reading) (place : List ℕ) (ms : Members) (row : OptionRow) (d : Data) → get_member (codes "items") ms ≡ Some d
+    → sort_errors place sort.Arrays d ≡ []
     → Each (IsItemAt reading) (items_in (codes "items") (object ms)) row.items → has_items row ≡ true → has_float d ≡ false
 items_member reading place ms row null found fits is all = refl
 items_member reading place ms row (boolean b) found fits is all = refl
@@ -83,12 +88,14 @@ items_member reading place ms row (string s) found fits is all = refl
 items_member reading place ms row (array ds) found fits is all = items_whole reading ds row.items (rw found at is) all
 items_member reading place ms row (object os) found fits is all = absurd (some_error (Kind place) [] fits)
 
-option_members : (reading : Reading) (place : List ℕ) (ms : Members) (row : OptionRow) → IsOptionRow reading (object ms) row → has_items row ≡ true → HaveSorted ms → members_errors place option_plan (Some ms) ≡ [] → members_have_float ms ≡ false
+option_members : (reading : Reading) (place : List ℕ) (ms : Members) (row : OptionRow) → IsOptionRow reading (object ms) row
+    → has_items row ≡ true → HaveSorted ms → members_errors place option_plan (Some ms) ≡ [] → members_have_float ms ≡ false
 option_members reading place ms row is all sorted none =
     object_whole place option_plan ms sorted none
     ((λ d _ fits. text_sort _ d fits), ((λ d _ fits. text_sort _ d fits), ((λ d _ fits. number_sort _ d fits), ((λ d found fits. items_member reading _ ms row d found fits is.items all), tt))))
 
-option_whole : (reading : Reading) (place : List ℕ) (d : Data) (row : OptionRow) → IsOptionRow reading d row → has_items row ≡ true → IsSorted d → object_errors place option_plan d ≡ [] → has_float d ≡ false
+option_whole : (reading : Reading) (place : List ℕ) (d : Data) (row : OptionRow) → IsOptionRow reading d row → has_items row ≡ true
+    → IsSorted d → object_errors place option_plan d ≡ [] → has_float d ≡ false
 option_whole reading place d row is all sorted none =
     object_only place option_plan d sorted none (λ ms same own fits. option_members reading place ms row (rw same at is) all own fits)
 
@@ -102,8 +109,10 @@ each_true : {X : Type 0} (test : X → Bool) (xs : List X) → list_all test xs 
 each_true test [] all = tt
 each_true test (x ∷ xs) all = (and_first (test x) (list_all test xs) all, each_true test xs (and_second (test x) (list_all test xs) all))
 
-module _ {Y : Type 0} (Is : Data → Y → Type 0) (P : Y → Type 0) (plan : List Entry) (each : (p : List ℕ) (d : Data) (y : Y) → Is d y → P y → IsSorted d → object_errors p plan d ≡ [] → has_float d ≡ false) where
-  rows_member : (name place : List ℕ) (ms : Members) (ys : List Y) (d : Data) → HaveSorted ms → Each Is (items_in name (object ms)) ys → AllByRecursion P ys → rows_errors name plan (object ms) ≡ []
+module _ {Y : Type 0} (Is : Data → Y → Type 0) (P : Y → Type 0) (plan : List Entry)
+    (each : (p : List ℕ) (d : Data) (y : Y) → Is d y → P y → IsSorted d → object_errors p plan d ≡ [] → has_float d ≡ false) where
+  rows_member : (name place : List ℕ) (ms : Members) (ys : List Y) (d : Data) → HaveSorted ms → Each Is (items_in name (object ms)) ys
+      → AllByRecursion P ys → rows_errors name plan (object ms) ≡ []
       → get_member name ms ≡ Some d → sort_errors place sort.Array d ≡ [] → has_float d ≡ false
   unfolding rows_errors
   rows_member name place ms ys null sorted is all none found fits = refl
@@ -114,7 +123,8 @@ module _ {Y : Type 0} (Is : Data → Y → Type 0) (P : Y → Type 0) (plan : Li
       rows_whole Is P (member_place [] name) plan each 0 ds ys (rw found at is) all (sorted_member name (array ds) ms sorted found) (rw found at none)
   rows_member name place ms ys (object os) sorted is all none found fits = absurd (some_error (Kind place) [] fits)
 
-document_members : (ms : Members) (document : Document) → HaveSorted ms → document_errors (object ms) ≡ [] → IsDocument (object ms) document → IsKnown document → members_have_float ms ≡ false
+document_members : (ms : Members) (document : Document) → HaveSorted ms → document_errors (object ms) ≡ [] → IsDocument (object ms) document
+    → IsKnown document → members_have_float ms ≡ false
 unfolding document_errors
 document_members ms document sorted none is known =
     let d = object ms in

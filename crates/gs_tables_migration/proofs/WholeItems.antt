@@ -18,7 +18,8 @@ pub then_some : {X Y : Type 0} (f : X → Option Y) (o : Option X) (y : Y) → o
 then_some f None y h = absurd (let g : None ≡ Some y = h in cc)
 then_some f (Some x) y h = (x, refl, h)
 
-sized_by : (b : Bool) (n : ℕ) (d : Data) (answer : Option FieldItem) (x : FieldItem) → (items_count d == n) ≡ b → (if b then answer else None) ≡ Some x → (items_count d ≡ n) × (answer ≡ Some x)
+sized_by : (b : Bool) (n : ℕ) (d : Data) (answer : Option FieldItem) (x : FieldItem) → (items_count d == n) ≡ b
+    → (if b then answer else None) ≡ Some x → (items_count d ≡ n) × (answer ≡ Some x)
 sized_by true n d answer x is h = (search (rules, tests), h)
 sized_by false n d answer x is h = absurd (let g : None ≡ Some x = h in cc)
 
@@ -89,14 +90,16 @@ module _ (ds : Items) where
   short_leaf : (i n : ℕ) → short_arg i (array ds) ≡ Some n → Leaf (get_item i ds)
   short_leaf i n h = let found = then_some (held 16) (number_arg i (array ds)) n h in number_leaf (get_item i ds) found.0 found.1
 
-  two_bytes : (i j : ℕ) (make : ℕ → ℕ → Item) (made : Item) → both (byte_arg i (array ds)) (byte_arg j (array ds)) make ≡ Some made → Leaf (get_item i ds) × Leaf (get_item j ds)
+  two_bytes : (i j : ℕ) (make : ℕ → ℕ → Item) (made : Item) → both (byte_arg i (array ds)) (byte_arg j (array ds)) make ≡ Some made
+      → Leaf (get_item i ds) × Leaf (get_item j ds)
   two_bytes i j make made h =
       let found = both_parts (byte_arg i (array ds)) (byte_arg j (array ds)) make made h in
       (byte_leaf i found.0 found.1, byte_leaf j found.2.0 found.2.1)
 
   module _ (x : FieldItem) (name : List ℕ) (begins : text_arg 0 (array ds) ≡ Some name) where
     -- an item with a field
-    with_parts : (n : ℕ) (made : Option Item) → ((i : Item) → made ≡ Some i → Leaves n 2 ds) → sized (suc (suc n)) (array ds) (with_field (array ds) made) ≡ Some x → items_have_float ds ≡ false
+    with_parts : (n : ℕ) (made : Option Item) → ((i : Item) → made ≡ Some i → Leaves n 2 ds)
+        → sized (suc (suc n)) (array ds) (with_field (array ds) made) ≡ Some x → items_have_float ds ≡ false
     with_parts n made parts h =
         let size = sized_parts (suc (suc n)) (array ds) (with_field (array ds) made) x h in
         let own = then_some (λ field. option_map (λ i. (Some field, i)) made) (field_arg 1 (array ds)) x size.1 in
@@ -105,14 +108,17 @@ module _ (ds : Items) where
         leaves_whole (suc (suc n)) ds size.0 (text_leaf (get_item 0 ds) name begins, (text_leaf (get_item 1 ds) field.0 field.1, parts thing.0 thing.1))
 
     -- an item without a field
-    no_parts : (n : ℕ) (made : Option Item) → ((i : Item) → made ≡ Some i → Leaves n 1 ds) → sized (suc n) (array ds) (no_field made) ≡ Some x → items_have_float ds ≡ false
+    no_parts : (n : ℕ) (made : Option Item) → ((i : Item) → made ≡ Some i → Leaves n 1 ds)
+        → sized (suc n) (array ds) (no_field made) ≡ Some x → items_have_float ds ≡ false
     no_parts n made parts h =
         let size = sized_parts (suc n) (array ds) (no_field made) x h in
         let thing = mapped_some (λ i. (None, i)) made x size.1 in
         leaves_whole (suc n) ds size.0 (text_leaf (get_item 0 ds) name begins, parts thing.0 thing.1)
 
     -- two numbers of a byte after the field
-    bytes_parts : (make : ℕ → ℕ → Item) → sized 4 (array ds) (with_field (array ds) (both (byte_arg 2 (array ds)) (byte_arg 3 (array ds)) make)) ≡ Some x → items_have_float ds ≡ false
+    bytes_parts : (make : ℕ → ℕ → Item)
+        → sized 4 (array ds) (with_field (array ds) (both (byte_arg 2 (array ds)) (byte_arg 3 (array ds)) make)) ≡ Some x
+        → items_have_float ds ≡ false
     bytes_parts make h =
         with_parts 2 (both (byte_arg 2 (array ds)) (byte_arg 3 (array ds)) make) (λ i is. let two = two_bytes 2 3 make i is in (two.0, (two.1, tt))) h
 
@@ -163,7 +169,8 @@ module _ (ds : Items) where
     none_whole h = absurd (cc)
 
     -- the item of a name, or one of the names after it
-    by_name : (b : Bool) (own others : Option FieldItem) → (own ≡ Some x → items_have_float ds ≡ false) → (others ≡ Some x → items_have_float ds ≡ false) → (if b then own else others) ≡ Some x → items_have_float ds ≡ false
+    by_name : (b : Bool) (own others : Option FieldItem) → (own ≡ Some x → items_have_float ds ≡ false)
+        → (others ≡ Some x → items_have_float ds ≡ false) → (if b then own else others) ≡ Some x → items_have_float ds ≡ false
     by_name true own others here behind h = here h
     by_name false own others here behind h = behind h
 

@@ -61,7 +61,8 @@ texts_by : {X : Type 0} (f : ℕ → X) (n : ℕ) (d : Data) (ds : Items) (b : B
 texts_by f n d ds true is more h = rw (text_whole d is) (more (rw is at h))
 texts_by f n d ds false is more h = absurd (some_error _ _ (rw is at h))
 
-texts_whole : {X : Type 0} (f : ℕ → X) (n : ℕ) (ds : Items) → map f (map (λ e. e.0) (filter (λ e. not (is_text e.1)) (enumerate_from n (items_list ds)))) ≡ [] → items_have_float ds ≡ false
+texts_whole : {X : Type 0} (f : ℕ → X) (n : ℕ) (ds : Items)
+    → map f (map (λ e. e.0) (filter (λ e. not (is_text e.1)) (enumerate_from n (items_list ds)))) ≡ [] → items_have_float ds ≡ false
 texts_whole f n no_items h = refl
 texts_whole f n (item d ds) h = texts_by f n d ds (is_text d) refl (texts_whole f (n + 1) ds) h
 
@@ -81,24 +82,28 @@ IsWhole place members entry =
     (d : Data) → get_member entry.name members ≡ Some d → sort_errors (member_place place entry.name) entry.sort d ≡ [] → has_float d ≡ false
 
 module _ (place : List ℕ) (members : Members) (k : List ℕ) (d : Data) (found : get_member k members ≡ Some d) where
-  planned_by : (entry : Entry) (b : Bool) → bytes_eq entry.name k ≡ b → IsWhole place members entry → entry_errors place members entry ≡ [] → (b ≡ false → has_float d ≡ false) → has_float d ≡ false
+  planned_by : (entry : Entry) (b : Bool) → bytes_eq entry.name k ≡ b → IsWhole place members entry → entry_errors place members entry ≡ []
+      → (b ≡ false → has_float d ≡ false) → has_float d ≡ false
   planned_by entry true is whole none more =
       let same = equal_bytes entry.name k is in
       let here : get_member entry.name members ≡ Some d = rw same found in
       whole d here (rw here at none)
   planned_by entry false is whole none more = more refl
 
-  planned : (plan : List Entry) → is_named plan k ≡ true → AllByRecursion (IsWhole place members) plan → flat_map (entry_errors place members) plan ≡ [] → has_float d ≡ false
+  planned : (plan : List Entry) → is_named plan k ≡ true → AllByRecursion (IsWhole place members) plan
+      → flat_map (entry_errors place members) plan ≡ [] → has_float d ≡ false
   planned [] named whole none = absurd (let g : false ≡ true = named in cc)
   planned (entry ∷ plan) named whole none =
       let parts = nil_parts (entry_errors place members entry) (flat_map (entry_errors place members) plan) none in
       planned_by entry (bytes_eq entry.name k) refl whole.0 parts.0 (λ other. planned plan (rw other at named) whole.1 parts.1)
 
-named_by : {X : Type 0} (f : List ℕ → X) (plan : List Entry) (k l : List ℕ) (names : List (List ℕ)) (b : Bool) → is_named plan l ≡ b → map f (unknown_among plan (l ∷ names)) ≡ [] → (is_named plan l ≡ true) × (map f (unknown_among plan names) ≡ [])
+named_by : {X : Type 0} (f : List ℕ → X) (plan : List Entry) (k l : List ℕ) (names : List (List ℕ)) (b : Bool) → is_named plan l ≡ b
+    → map f (unknown_among plan (l ∷ names)) ≡ [] → (is_named plan l ≡ true) × (map f (unknown_among plan names) ≡ [])
 named_by f plan k l names true is none = (is, rw is at none)
 named_by f plan k l names false is none = absurd (some_error _ _ (rw is at none))
 
-named : {X : Type 0} (f : List ℕ → X) (plan : List Entry) (k : List ℕ) (d : Data) (ms : Members) → map f (unknown_among plan (names_of_members ms)) ≡ [] → HasMember k d ms → is_named plan k ≡ true
+named : {X : Type 0} (f : List ℕ → X) (plan : List Entry) (k : List ℕ) (d : Data) (ms : Members)
+    → map f (unknown_among plan (names_of_members ms)) ≡ [] → HasMember k d ms → is_named plan k ≡ true
 named f plan k d no_members none has = absurd has
 named f plan k d (member l e ms) none (inl has) = rw has.0 (named_by f plan k l (names_of_members ms) (is_named plan l) refl none).0
 named f plan k d (member l e ms) none (inr has) = named f plan k d ms (named_by f plan k l (names_of_members ms) (is_named plan l) refl none).1 has
@@ -108,14 +113,16 @@ whole_members no_members each = refl
 whole_members (member k d ms) each = rw (each k d (inl (refl, refl))) (whole_members ms (λ l e has. each l e (inr has)))
 
 -- an object without errors has no fraction if no value of its plan has one
-pub object_whole : (place : List ℕ) (plan : List Entry) (ms : Members) → HaveSorted ms → members_errors place plan (Some ms) ≡ [] → AllByRecursion (IsWhole place ms) plan → members_have_float ms ≡ false
+pub object_whole : (place : List ℕ) (plan : List Entry) (ms : Members) → HaveSorted ms → members_errors place plan (Some ms) ≡ []
+    → AllByRecursion (IsWhole place ms) plan → members_have_float ms ≡ false
 object_whole place plan ms sorted none whole =
     let parts = nil_parts (flat_map (entry_errors place ms) plan) (unknown_errors place plan ms) none in
     whole_members ms (λ k d has. planned place ms k d (found_member k d ms sorted has) plan (named (λ name. _) plan k d ms parts.1 has) whole parts.0)
 
 -- ---- the rows of an array
 
-module _ {Y : Type 0} (Is : Data → Y → Type 0) (P : Y → Type 0) (place : List ℕ) (plan : List Entry) (each : (p : List ℕ) (d : Data) (y : Y) → Is d y → P y → IsSorted d → object_errors p plan d ≡ [] → has_float d ≡ false) where
+module _ {Y : Type 0} (Is : Data → Y → Type 0) (P : Y → Type 0) (place : List ℕ) (plan : List Entry)
+    (each : (p : List ℕ) (d : Data) (y : Y) → Is d y → P y → IsSorted d → object_errors p plan d ≡ [] → has_float d ≡ false) where
   pub rows_whole : (n : ℕ) (ds : Items) (ys : List Y) → Each Is (items_list ds) ys → AllByRecursion P ys → AreSorted ds
       → flat_map (λ (row : ℕ × Data). object_errors (item_place place row.0) plan row.1) (enumerate_from n (items_list ds)) ≡ [] → items_have_float ds ≡ false
   rows_whole n no_items ys is all sorted none = refl

@@ -1,5 +1,5 @@
--- Table documents of version 1 as documents of version 2, this project's own: the same tree with the version 2 and, in each
--- kind, no further fields.
+-- Table documents of version 1 as documents of version 2, this project's own. The tree is the same, with the version 2 and, in
+-- each kind, no further fields.
 use Rattle.std.specs.Prelude.{◌≡◌, ℕ, ◌==◌, ◌||◌, Bool, true, false, if◌then◌else◌, List, [], map, codes, is_some}
 use Rattle.std.specs.List.{list_all}
 use Rattle.std.specs.Option.{option_map_or}
@@ -19,7 +19,7 @@ use Rattle.gs_tables_document.specs.declared.document.OptionRow.{OptionRow}
 abbrev pub with_member : List ℕ → Data → Data → Data
 with_member name value d = option_map_or (λ members. object (put name value members)) (as_object d) d
 
--- trusted, own: a kind with no further fields
+-- trusted, own: the kind with an empty list of further fields
 abbrev pub with_fields : Data → Data
 with_fields kind = with_member (codes "fields") (array no_items) kind
 
@@ -33,29 +33,29 @@ second_version d =
     if is_second d then d
     else with_member (codes "version") (number (unsigned 2)) (with_member (codes "kinds") (kinds_with_fields d) d)
 
--- trusted, own: the migrated text of a document: the JSON text of its second version, with no space and the members of each
--- object in ascending order of name; and nothing of bytes that are not JSON text
+-- trusted, own: The migrated text of a document: the JSON text of its second version, with no space. The members of each object
+-- are in ascending order of name. It is empty for bytes that are not JSON text.
 abbrev pub migrated : List ℕ → List ℕ
 migrated bytes = option_map_or (λ d. compact_text (second_version d)) (document_of bytes) []
 
--- trusted, own: the text is the migrated text of these bytes
+-- trusted, own: holds if `text` is the migrated text of `bytes`
 abbrev pub IsMigrated : List ℕ → List ℕ → Type 0
 IsMigrated bytes text = text ≡ migrated bytes
 
--- trusted, own: each place of an option's items has an item
+-- trusted, own: holds if each place of the items of `row` has an item
 abbrev pub has_items : OptionRow → Bool
 has_items row = list_all is_some row.items
 
--- trusted, own: a part that is one of the profile
+-- trusted, own: holds if the part is one of the profile
 abbrev pub is_known_part : Part → Bool
 is_known_part Other = false
 is_known_part _ = true
 
--- trusted, own: each part of an application identifier is one of the profile
+-- trusted, own: holds if each part of the application identifier `row` is one of the profile
 abbrev pub has_parts : AiRow → Bool
 has_parts row = list_all is_known_part row.parts
 
--- trusted, own: holds if the rows of the document of version 1 or 2 have only parts and items of the profile
+-- trusted, own: holds if the rows of `document`, of version 1 or 2, have only parts and items of the profile
 pub record IsKnown (document : Document) : Type 0 where
   pub version : (document.version == 1 || document.version == 2) ≡ true
   pub ais : list_all has_parts document.ais ≡ true

@@ -15,7 +15,7 @@
 //!
 //! # Differences from the standards
 //!
-//! - The document and its versions are this project's own (docs/FORMATS.md, 'The table document'). No way leads from version 2
+//! - The document and its versions are this project's own (docs/TABLES.md, 'The table document'). No way leads from version 2
 //!   back to version 1.
 //! - An accepted document has no members that the profile does not name, so none is lost. Spaces, the order of members,
 //!   unnecessary escapes and repeated members are.

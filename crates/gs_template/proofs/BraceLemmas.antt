@@ -26,7 +26,8 @@ not_brace c h = by (is_brace c) (rw h at (agree_below_at (λ c. is_place_byte c 
 plain_before : (text rest : List ℕ) → list_all is_place_byte text ≡ true → list_any is_brace rest ≡ false → list_any is_brace (text ++ rest) ≡ false
 plain_before [] rest h none = none
 plain_before (c ∷ text) rest h none =
-    rw (not_brace c (and_first (is_place_byte c) (list_all is_place_byte text) h)) (plain_before text rest (and_second (is_place_byte c) (list_all is_place_byte text) h) none)
+    rw (not_brace c (and_first (is_place_byte c) (list_all is_place_byte text) h))
+    (plain_before text rest (and_second (is_place_byte c) (list_all is_place_byte text) h) none)
 
 -- a byte whose error is none is not a brace
 allowed_byte : (b : Bool) (at : ℕ) → (if b then Brace at ∷ [] else []) ≡ [] → b ≡ false
@@ -42,8 +43,10 @@ module _ (identity : Elements) (bytes : HoldsBytes identity) (beside : List (Lis
       rw (allowed_byte (is_brace c) at here) (none_in_parts (at + 1) ps rest)
   none_in_parts at (place code ∷ ps) h =
       let rest = none_behind (part_errors beside at (place code)) (errors_from beside (at + part_size (place code)) ps) h in
-      plain_before (percent_encoded (value_under identity code)) (flat_map (stands_for identity) ps) (encoded_plain (value_under identity code) (bytes code)) (none_in_parts (at + part_size (place code)) ps rest)
+      plain_before (percent_encoded (value_under identity code)) (flat_map (stands_for identity) ps)
+      (encoded_plain (value_under identity code) (bytes code)) (none_in_parts (at + part_size (place code)) ps rest)
 
-pub no_brace : (table : List AiRow) (key href : List ℕ) (identity : Elements) → HoldsBytes identity → place_errors table key href ≡ [] → list_any is_brace (filled href identity) ≡ false
+pub no_brace : (table : List AiRow) (key href : List ℕ) (identity : Elements) → HoldsBytes identity → place_errors table key href ≡ []
+    → list_any is_brace (filled href identity) ≡ false
 unfolding place_errors
 no_brace table key href identity bytes h = none_in_parts identity bytes (codes_beside table key) 0 (parts href) h

@@ -60,7 +60,8 @@ code_here : (text : List ℕ) (n : ℕ) → code_size text ≡ suc n → is_code
 unfolding code_size
 code_here text n h = by (is_closed 2 text) (is_closed 3 text) (is_closed 4 text) refl refl refl h
   where
-    by : (a b d : Bool) → is_closed 2 text ≡ a → is_closed 3 text ≡ b → is_closed 4 text ≡ d → (if a then 2 else if b then 3 else if d then 4 else 0) ≡ suc n → is_code (take (suc n) text) ≡ true
+    by : (a b d : Bool) → is_closed 2 text ≡ a → is_closed 3 text ≡ b → is_closed 4 text ≡ d
+        → (if a then 2 else if b then 3 else if d then 4 else 0) ≡ suc n → is_code (take (suc n) text) ≡ true
     by true b d e f g h = subst (λ m. is_code (take m text) ≡ true) h (code_at text 2 e refl refl)
     by false true d e f g h = subst (λ m. is_code (take m text) ≡ true) h (code_at text 3 f refl refl)
     by false false true e f g h = subst (λ m. is_code (take m text) ≡ true) h (code_at text 4 g refl refl)
@@ -108,7 +109,8 @@ part_here c text (suc n) h =
     (ap (λ x. x ∷ text) brace ∙ ap (λ xs. 123 ∷ xs) text_is, code_here text n size)
 
 -- no place begins at a byte that stands for itself
-no_size : (c : ℕ) (rest : List ℕ) (n : ℕ) → place_size c rest ≡ n → ((code after : List ℕ) → c ∷ rest ≡ 123 ∷ (code ++ 125 ∷ after) → is_code code ≡ true → ⊥) → n ≡ 0
+no_size : (c : ℕ) (rest : List ℕ) (n : ℕ) → place_size c rest ≡ n
+    → ((code after : List ℕ) → c ∷ rest ≡ 123 ∷ (code ++ 125 ∷ after) → is_code code ≡ true → ⊥) → n ≡ 0
 no_size c rest zero h none = refl
 no_size c rest (suc n) h none =
     let part = part_here c rest (suc n) h in
@@ -117,7 +119,8 @@ no_size c rest (suc n) h none =
 first_itself : (c : ℕ) (rest : List ℕ) → place_size c rest ≡ 0 → itself c ∷ parts rest ≡ parts (c ∷ rest)
 first_itself c rest h = rw h refl
 
-first_by : (code rest : List ℕ) (n : ℕ) → n ≡ length code → is_code code ≡ true → place code ∷ parts rest ≡ part_of 123 (code ++ 125 ∷ rest) n ∷ parts_behind (bytes_behind n) (code ++ 125 ∷ rest)
+first_by : (code rest : List ℕ) (n : ℕ) → n ≡ length code → is_code code ≡ true
+    → place code ∷ parts rest ≡ part_of 123 (code ++ 125 ∷ rest) n ∷ parts_behind (bytes_behind n) (code ++ 125 ∷ rest)
 first_by code rest zero e is = absurd (has_digits code is (sym e))
 first_by code rest (suc n) e is =
     rw (behind_drop (suc (suc n)) (code ++ 125 ∷ rest), e, take_at code (125 ∷ rest) (length code) refl, drop_over code 125 rest) refl

@@ -4,14 +4,14 @@ use Rattle.std.specs.Prelude.{Err}
 use Rattle.std.specs.List.{flat_map, list_all, list_any}
 use Rattle.std.specs.Option.{option_map_or}
 use Rattle.std.specs.Str.{IsUtf8, IsAscii, is_utf8}
-use Rattle.std.proofs.lemmas.Bool.{agree_below, agree_below_at, eqb-true}
+use Rattle.std.proofs.lemmas.Bool.{agree_below, agree_below_at, eqb-true, and_from}
 use Rattle.std.proofs.lemmas.Bool.Decides.{nat_tests}
 use Rattle.std.proofs.lemmas.List.{append_assoc, drop_more, length-append, length-drop, length-take-le, take_all, take_at}
 use Rattle.std.proofs.lemmas.List.Elements.{All-head, All-tail, filter-append}
 use Rattle.std.proofs.lemmas.List.Folds.{find-append, list_all-append}
 use Rattle.std.proofs.lemmas.Str.{IsCharBoundary-after_ascii, IsCharBoundary-before_ascii, IsUtf8-append, IsUtf8-drop, IsUtf8-from_ascii, IsUtf8-from_is_utf8, IsUtf8-take, is_utf8-from_IsUtf8}
 use Rattle.std.specs.Prelude.{slice_index}
-use Rattle.gs_chars.proofs.TruthsAndLists.{and_first, and_second, and_true}
+use Rattle.gs_chars.proofs.TruthsAndLists.{and_first, and_second}
 use Rattle.gs_chars.specs.Characters.{are_digits, is_digit}
 use Rattle.gs_ai.specs.declared.pair.Pair.{Pair}
 use Rattle.gs_ident.specs.Elements.{Elements, is_coded}
@@ -49,7 +49,8 @@ code_closed : (text : List ℕ) (n : ℕ) → code_size text ≡ suc n → is_cl
 unfolding code_size
 code_closed text n h = by (is_closed 2 text) (is_closed 3 text) (is_closed 4 text) refl refl refl h
   where
-    by : (a b d : Bool) → is_closed 2 text ≡ a → is_closed 3 text ≡ b → is_closed 4 text ≡ d → (if a then 2 else if b then 3 else if d then 4 else 0) ≡ suc n → is_closed (suc n) text ≡ true
+    by : (a b d : Bool) → is_closed 2 text ≡ a → is_closed 3 text ≡ b → is_closed 4 text ≡ d
+        → (if a then 2 else if b then 3 else if d then 4 else 0) ≡ suc n → is_closed (suc n) text ≡ true
     by true b d e f g h = subst (λ m. is_closed m text ≡ true) h e
     by false true d e f g h = subst (λ m. is_closed m text ≡ true) h f
     by false false true e f g h = subst (λ m. is_closed m text ≡ true) h g
@@ -102,7 +103,8 @@ module _ (beside : List (List ℕ)) (href : List ℕ) (i c : ℕ) (within : i < 
       let same : less ≡ further = omega (arith, e) in
       rw same (so_far ∙ ap (λ xs. errors_from beside (i + suc further) (parts_behind (suc further) xs)) (drop_from href i c within at) ∙ ap (λ n. errors_from beside n (parts_behind further (drop (i + 1) href))) place)
 
-  here : AreErrorsFrom beside href i 0 → (n : ℕ) → place_size c (drop (i + 1) href) ≡ n → errors_from beside 0 (parts href) ≡ part_errors beside i (part_of c (drop (i + 1) href) n) ++ errors_from beside (i + part_size (part_of c (drop (i + 1) href) n)) (parts_behind (bytes_behind n) (drop (i + 1) href))
+  here : AreErrorsFrom beside href i 0 → (n : ℕ) → place_size c (drop (i + 1) href) ≡ n
+      → errors_from beside 0 (parts href) ≡ part_errors beside i (part_of c (drop (i + 1) href) n) ++ errors_from beside (i + part_size (part_of c (drop (i + 1) href) n)) (parts_behind (bytes_behind n) (drop (i + 1) href))
   here so_far n is =
       let start : i + 0 ≡ i = omega arith in
       rw (start, drop_from href i c within at, is) at so_far
@@ -111,11 +113,14 @@ module _ (beside : List (List ℕ)) (href : List ℕ) (i c : ℕ) (within : i < 
   behind zero h = omega arith
   behind (suc n) h = let size = length-take-le (suc n) (drop (i + 1) href) h in omega (arith, size)
 
-  pub errors_step : (n further : ℕ) → place_size c (drop (i + 1) href) ≡ n → part_errors beside i (part_of c (drop (i + 1) href) n) ≡ [] → further ≡ bytes_behind n → AreErrorsFrom beside href i 0 → AreErrorsFrom beside href (i + 1) further
+  pub errors_step : (n further : ℕ) → place_size c (drop (i + 1) href) ≡ n → part_errors beside i (part_of c (drop (i + 1) href) n) ≡ []
+      → further ≡ bytes_behind n → AreErrorsFrom beside href i 0 → AreErrorsFrom beside href (i + 1) further
   errors_step n further is fine e so_far =
       here so_far n is ∙ rw (fine, behind n (size_within c (drop (i + 1) href) n is), e) refl
 
-  pub errors_stop : (n : ℕ) (error : PlaceFault) → place_size c (drop (i + 1) href) ≡ n → part_errors beside i (part_of c (drop (i + 1) href) n) ≡ error ∷ [] → AreErrorsFrom beside href i 0 → first_error (errors_from beside 0 (parts href)) ≡ Err error
+  pub errors_stop : (n : ℕ) (error : PlaceFault) → place_size c (drop (i + 1) href) ≡ n
+      → part_errors beside i (part_of c (drop (i + 1) href) n) ≡ error ∷ [] → AreErrorsFrom beside href i 0
+      → first_error (errors_from beside 0 (parts href)) ≡ Err error
   errors_stop n error is bad so_far = rw (here so_far n is, bad) refl
 
 -- ---- bytes of places
@@ -137,7 +142,8 @@ not_delimiter c h = by (is_delimiter c) (rw h at (agree_below_at (λ c. is_place
 
 inert_filtered : (text : List ℕ) → list_all is_place_byte text ≡ true → filter is_delimiter text ≡ []
 inert_filtered [] h = refl
-inert_filtered (c ∷ text) h = rw (not_delimiter c (and_first (is_place_byte c) (list_all is_place_byte text) h)) (inert_filtered text (and_second (is_place_byte c) (list_all is_place_byte text) h))
+inert_filtered (c ∷ text) h = rw (not_delimiter c (and_first (is_place_byte c) (list_all is_place_byte text) h))
+    (inert_filtered text (and_second (is_place_byte c) (list_all is_place_byte text) h))
 
 inert_ascii : (text : List ℕ) → list_all is_place_byte text ≡ true → IsAscii text
 inert_ascii [] h i = nothing i
@@ -157,7 +163,9 @@ unfolding percent_encoded
 encoded_plain [] h = refl
 encoded_plain (c ∷ value) h =
     list_all-append is_place_byte (escaped_byte c) (flat_map escaped_byte value)
-    ∙ and_true (list_all is_place_byte (escaped_byte c)) (list_all is_place_byte (flat_map escaped_byte value)) (agree_below_at (λ c. list_all is_place_byte (escaped_byte c)) (λ _. true) 256 c escapes (All-head (λ c. c < 256) c value h)) (encoded_plain value (All-tail (λ c. c < 256) c value h))
+    ∙ and_from (list_all is_place_byte (escaped_byte c)) (list_all is_place_byte (flat_map escaped_byte value))
+    (agree_below_at (λ c. list_all is_place_byte (escaped_byte c)) (λ _. true) 256 c escapes (All-head (λ c. c < 256) c value h))
+    (encoded_plain value (All-tail (λ c. c < 256) c value h))
 
 digit_plain : (c : ℕ) → is_digit c ≡ true → is_place_byte c ≡ true
 unfolding is_unescaped
@@ -169,7 +177,8 @@ digit_plain c h = rw h (by (is_letter c) (list_any (λ x. x == c) (codes "-._"))
 
 digits_plain : (text : List ℕ) → are_digits text ≡ true → list_all is_place_byte text ≡ true
 digits_plain [] h = refl
-digits_plain (c ∷ text) h = and_true (is_place_byte c) (list_all is_place_byte text) (digit_plain c (and_first (is_digit c) (are_digits text) h)) (digits_plain text (and_second (is_digit c) (are_digits text) h))
+digits_plain (c ∷ text) h = and_from (is_place_byte c) (list_all is_place_byte text)
+    (digit_plain c (and_first (is_digit c) (are_digits text) h)) (digits_plain text (and_second (is_digit c) (are_digits text) h))
 
 braces : (filter is_delimiter (123 ∷ []) ≡ []) × (filter is_delimiter (125 ∷ []) ≡ [])
 unfolding is_delimiter
@@ -181,7 +190,9 @@ place_filtered code h =
     ∙ rw (braces.0, filter-append is_delimiter code (125 ∷ []), inert_filtered code (digits_plain code h), braces.1) refl
 
 -- a part and its expansion have the same delimiters
-same_delimiters : (identity : Elements) (c : ℕ) (text : List ℕ) (n : ℕ) → place_size c text ≡ n → is_inert identity (part_of c text n) ≡ true → filter is_delimiter (stands_for identity (part_of c text n)) ≡ filter is_delimiter (raw (part_of c text n))
+same_delimiters : (identity : Elements) (c : ℕ) (text : List ℕ) (n : ℕ) → place_size c text ≡ n
+    → is_inert identity (part_of c text n) ≡ true
+    → filter is_delimiter (stands_for identity (part_of c text n)) ≡ filter is_delimiter (raw (part_of c text n))
 same_delimiters identity c text zero is inert = refl
 same_delimiters identity c text (suc n) is inert =
     let closed = (size_is c text n is).1 in
@@ -201,7 +212,9 @@ seam xs ys c small whole =
     let next : length xs + 1 ≡ suc (length xs) = omega arith in
     (rw (take_at xs (c ∷ ys) (length xs) refl) at front, rw (next, drop_over xs c ys) at back)
 
-part_utf8 : (identity : Elements) (out text : List ℕ) (c n : ℕ) → place_size c text ≡ n → is_inert identity (part_of c text n) ≡ true → IsUtf8 (out ++ (raw (part_of c text n) ++ drop (bytes_behind n) text)) → IsUtf8 ((out ++ stands_for identity (part_of c text n)) ++ drop (bytes_behind n) text)
+part_utf8 : (identity : Elements) (out text : List ℕ) (c n : ℕ) → place_size c text ≡ n → is_inert identity (part_of c text n) ≡ true
+    → IsUtf8 (out ++ (raw (part_of c text n) ++ drop (bytes_behind n) text))
+    → IsUtf8 ((out ++ stands_for identity (part_of c text n)) ++ drop (bytes_behind n) text)
 part_utf8 identity out text c zero is inert h = rw append_assoc h
 part_utf8 identity out text c (suc n) is inert h =
     let code = take (suc n) text in
@@ -227,16 +240,21 @@ module _ (identity : Elements) (href out new : List ℕ) (i c : ℕ) (within : i
       let same : less ≡ further = omega (arith, e) in
       rw same (rw (drop_from href i c within at) at so_far)
 
-  pub filled_step : (n further : ℕ) → place_size c (drop (i + 1) href) ≡ n → further ≡ bytes_behind n → new ≡ out ++ stands_for identity (part_of c (drop (i + 1) href) n) → IsFilledTo identity href out i 0 → IsFilledTo identity href new (i + 1) further
+  pub filled_step : (n further : ℕ) → place_size c (drop (i + 1) href) ≡ n → further ≡ bytes_behind n
+      → new ≡ out ++ stands_for identity (part_of c (drop (i + 1) href) n) → IsFilledTo identity href out i 0
+      → IsFilledTo identity href new (i + 1) further
   filled_step n further is e added so_far =
       so_far
       ∙ ap (λ xs. out ++ flat_map (stands_for identity) (parts_behind 0 xs)) (drop_from href i c within at)
       ∙ rw (is, e, added) (sym (append_assoc out (stands_for identity (part_of c (drop (i + 1) href) n)) (flat_map (stands_for identity) (parts_behind (bytes_behind n) (drop (i + 1) href)))))
 
-  whole : (n : ℕ) → place_size c (drop (i + 1) href) ≡ n → KeepsTo href out i 0 → (filter is_delimiter (out ++ (raw (part_of c (drop (i + 1) href) n) ++ drop (bytes_behind n) (drop (i + 1) href))) ≡ filter is_delimiter href) × (is_utf8 href ≡ true → is_utf8 (out ++ (raw (part_of c (drop (i + 1) href) n) ++ drop (bytes_behind n) (drop (i + 1) href))) ≡ true)
+  whole : (n : ℕ) → place_size c (drop (i + 1) href) ≡ n → KeepsTo href out i 0
+      → (filter is_delimiter (out ++ (raw (part_of c (drop (i + 1) href) n) ++ drop (bytes_behind n) (drop (i + 1) href))) ≡ filter is_delimiter href) × (is_utf8 href ≡ true → is_utf8 (out ++ (raw (part_of c (drop (i + 1) href) n) ++ drop (bytes_behind n) (drop (i + 1) href))) ≡ true)
   whole n is so_far = rw (cut_of c (drop (i + 1) href) n is, ← drop_from href i c within at, ← drop_zero (drop i href)) so_far
 
-  pub keeps_step : (n further : ℕ) → place_size c (drop (i + 1) href) ≡ n → further ≡ bytes_behind n → new ≡ out ++ stands_for identity (part_of c (drop (i + 1) href) n) → is_inert identity (part_of c (drop (i + 1) href) n) ≡ true → KeepsTo href out i 0 → KeepsTo href new (i + 1) further
+  pub keeps_step : (n further : ℕ) → place_size c (drop (i + 1) href) ≡ n → further ≡ bytes_behind n
+      → new ≡ out ++ stands_for identity (part_of c (drop (i + 1) href) n) → is_inert identity (part_of c (drop (i + 1) href) n) ≡ true
+      → KeepsTo href out i 0 → KeepsTo href new (i + 1) further
   keeps_step n further is e added inert so_far =
       let text = drop (i + 1) href in
       let own = stands_for identity (part_of c text n) in
@@ -266,7 +284,8 @@ module _ (identity : Elements) (bytes : HoldsBytes identity) where
       let n = place_size c text in
       let part = part_of c text n in
       filter-append is_delimiter (stands_for identity part) (flat_map (stands_for identity) (parts_behind (bytes_behind n) text))
-      ∙ rw (filled_delimiters (bytes_behind n) text, same_delimiters identity c text n refl (inert part)) (sym (filter-append is_delimiter (raw part) (drop (bytes_behind n) text)))
+      ∙ rw (filled_delimiters (bytes_behind n) text, same_delimiters identity c text n refl (inert part))
+      (sym (filter-append is_delimiter (raw part) (drop (bytes_behind n) text)))
       ∙ ap (filter is_delimiter) (cut_of c text n refl)
 
   pub same_whole : (href : List ℕ) → filter is_delimiter (filled href identity) ≡ filter is_delimiter href
@@ -274,10 +293,12 @@ module _ (identity : Elements) (bytes : HoldsBytes identity) where
 
 -- ---- values
 
-pub value_in_front : (identity : Elements) (code : List ℕ) (pair : Pair) → false ≡ is_coded code identity.key → Some pair ≡ find (is_coded code) identity.qualifiers → pair.value ≡ value_under identity code
+pub value_in_front : (identity : Elements) (code : List ℕ) (pair : Pair) → false ≡ is_coded code identity.key
+    → Some pair ≡ find (is_coded code) identity.qualifiers → pair.value ≡ value_under identity code
 value_in_front identity code pair other found =
     rw (← other, find-append (is_coded code) identity.qualifiers identity.attributes, ← found) refl
 
-pub value_behind : (identity : Elements) (code : List ℕ) → false ≡ is_coded code identity.key → None ≡ find (is_coded code) identity.qualifiers → value_of (find (is_coded code) identity.attributes) ≡ value_under identity code
+pub value_behind : (identity : Elements) (code : List ℕ) → false ≡ is_coded code identity.key
+    → None ≡ find (is_coded code) identity.qualifiers → value_of (find (is_coded code) identity.attributes) ≡ value_under identity code
 value_behind identity code other none =
     rw (← other, find-append (is_coded code) identity.qualifiers identity.attributes, ← none) refl

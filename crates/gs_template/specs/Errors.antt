@@ -8,7 +8,7 @@ use Rattle.gs_template.specs.Templates.{Part, itself, parts, place}
 use Rattle.gs_template.specs.declared.error.PlaceFault.{PlaceFault}
 use Rattle.gs_template.specs.declared.error.PlaceFault.TheVariants.{Brace, Code}
 
--- trusted, own: a brace
+-- trusted, own: holds if `c` is a brace
 abbrev pub is_brace : ℕ → Bool
 is_brace c = c == 123 || c == 125
 
@@ -21,7 +21,7 @@ abbrev pub part_errors : List (List ℕ) → ℕ → Part → List PlaceFault
 part_errors codes at (itself c) = if is_brace c then Brace at ∷ [] else []
 part_errors codes at (place code) = if list_any (bytes_eq code) codes then [] else Code at ∷ []
 
--- trusted, own: how many bytes of the template a part is
+-- trusted, own: the number of bytes of the template that a part is
 abbrev pub part_size : Part → ℕ
 part_size (itself c) = 1
 part_size (place code) = length code + 2

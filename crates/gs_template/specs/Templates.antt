@@ -15,15 +15,15 @@ pub data Part : Type 0 where
   itself : ℕ → Part
   place : List ℕ → Part
 
--- this many digits and then a closing brace
+-- holds if `text` begins with `n` digits and then a closing brace
 abbrev pub is_closed : ℕ → List ℕ → Bool
 is_closed n text = option_map_or (λ c. c == 125) (slice_get text n) false && are_digits (take n text)
 
--- how many digits, 2 to 4, are before a closing brace, and 0 if there is no such code
+-- the number of digits, 2 to 4, before a closing brace, and 0 if there is no such code
 unfoldable pub code_size : List ℕ → ℕ
 code_size text = if is_closed 2 text then 2 else if is_closed 3 text then 3 else if is_closed 4 text then 4 else 0
 
--- how many digits the code of a place has that begins with this byte; 0 if none does
+-- the number of digits of the code of a place that begins with this byte; 0 if none does
 abbrev pub place_size : ℕ → List ℕ → ℕ
 place_size c text = if c == 123 then code_size text else 0
 
@@ -32,7 +32,7 @@ abbrev pub part_of : ℕ → List ℕ → ℕ → Part
 part_of c text zero = itself c
 part_of c text (suc n) = place (take (suc n) text)
 
--- how many bytes of a part with a code of that many digits follow its first byte
+-- the number of bytes that follow the first of a part with a code of that many digits
 abbrev pub bytes_behind : ℕ → ℕ
 bytes_behind zero = 0
 bytes_behind (suc n) = suc (suc n)
@@ -47,14 +47,14 @@ parts_behind zero (c ∷ text) = part_of c text (place_size c text) ∷ parts_be
 abbrev pub parts : List ℕ → List Part
 parts href = parts_behind 0 href
 
--- trusted, RFC 6570, section 2.2; 2 to 4 digits are own: The text is the part and then the rest. A place is a code between
+-- trusted, RFC 6570, section 2.2; 2 to 4 digits are own: Holds if `text` is the part and then `rest`. A place is a code between
 -- braces; a byte stands for itself only if no place begins there.
 abbrev pub IsPart : Part → List ℕ → List ℕ → Type 0
 IsPart (place code) text rest = (text ≡ 123 ∷ (code ++ 125 ∷ rest)) × (is_code code ≡ true)
 IsPart (itself c) text rest =
     (text ≡ c ∷ rest) × ((code after : List ℕ) → text ≡ 123 ∷ (code ++ 125 ∷ after) → is_code code ≡ true → ⊥)
 
--- trusted, RFC 6570, section 2: the text is these parts, one after another
+-- trusted, RFC 6570, section 2: holds if `text` is the parts, one after another
 abbrev pub AreParts : List Part → List ℕ → Type 0
 AreParts [] text = text ≡ []
 AreParts (part ∷ parts) text = (rest : List ℕ) × IsPart part text rest × AreParts parts rest
@@ -81,15 +81,15 @@ filled href identity = flat_map (stands_for identity) (parts href)
 abbrev pub reserved : List ℕ
 reserved = codes ":/?#[]@!$&'()*+,;="
 
--- trusted, RFC 3986, section 2, and own: a delimiter is a reserved character, or one that no reference has: a blank, a control
+-- trusted, RFC 3986, section 2, and own: holds if `c` is a reserved character, or one that no reference has: a blank, a control
 -- byte, or a byte beyond ISO 646
 unfoldable pub is_delimiter : ℕ → Bool
 is_delimiter c = list_any (λ x. x == c) reserved || (nat_lt c 33 || nat_lt 126 c)
 
--- trusted, own: a letter, a digit, `-`, `.`, `_` or `%`
+-- trusted, own: holds if `c` is a letter, a digit, `-`, `.`, `_` or `%`
 abbrev pub is_place_byte : ℕ → Bool
 is_place_byte c = is_unescaped c || c == 37
 
--- trusted, own: each value of an identity is a text of bytes
+-- trusted, own: holds if each value of `identity` is a text of bytes
 abbrev pub HoldsBytes : Elements → Type 0
 HoldsBytes identity = (code : List ℕ) → All (λ c. c < 256) (value_under identity code)

@@ -1,4 +1,4 @@
-//! Templates of references: a link's target with places for the values of an identity, so that one link serves all serial numbers
+//! Templates of references: a link's target with places for the values of an identity. One link can so serve all serial numbers
 //! of a trade item. A place is `{CODE}`, the simple expansion of RFC 6570 with the codes of application identifiers as names.
 //!
 //! - `places_ok` finds the first brace outside a place, or the first place whose AI does not belong to the key.

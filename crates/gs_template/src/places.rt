@@ -19,7 +19,7 @@ fn is_closed(size: usize, text: &[u8]) -> bool
     }
 }
 
-/// Returns how many digits, 2 to 4, are before a closing brace, and 0 if there is no such code.
+/// Returns the number of digits, 2 to 4, before a closing brace, and 0 if there is no such code.
 #[tactic(auto, unfolding(crate::specs::Templates::code_size))]
 fn code_size(text: &[u8]) -> usize
     ensures size { result ≡ code_size text.now }
@@ -36,7 +36,7 @@ fn code_size(text: &[u8]) -> usize
     }
 }
 
-/// Returns how many digits the code of a place has that begins with this byte and these after it; 0 if none begins there.
+/// Returns the number of digits of the code of a place that begins with this byte and these after it; 0 if none begins there.
 pub(crate) fn place_size(byte: u8, behind: &[u8]) -> usize
     ensures size { result ≡ place_size byte behind.now }
     ensures within { result ≤ length behind.now }

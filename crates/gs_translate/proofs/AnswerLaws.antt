@@ -56,7 +56,8 @@ same_epc set level symbols one other a b =
     let info = same_at (level_rows level set).info a.option b.option a.info b.info a.said b.said same.0 in
     a.fields ∙ ap (λ i. epc_of i a.values) info ∙ ap (epc_of b.info) same.1 ∙ sym b.fields
 
-same_read : (set : TableRows) (level : LevelName) (symbols : List ℕ) (one other : Result Epc EpcFault) → IsKnown one → IsKnown other → ReadsAs set level symbols one → ReadsAs set level symbols other → one ≡ other
+same_read : (set : TableRows) (level : LevelName) (symbols : List ℕ) (one other : Result Epc EpcFault) → IsKnown one → IsKnown other
+    → ReadsAs set level symbols one → ReadsAs set level symbols other → one ≡ other
 same_read set level symbols (Err Memory) other t u a b = absurd (t refl)
 same_read set level symbols (Err (Hex error)) other t u a b = absurd a
 same_read set level symbols (Ok epc) (Ok epc') t u a b = ap Ok (same_epc set level symbols epc epc' a b)
@@ -96,7 +97,8 @@ hex_case set text (Err NoReading) t a = inr a
 hex_case set text (Err Memory) t a = absurd (t refl)
 hex_case set text (Err (Hex error)) t a = inl (error, refl, a)
 
-same_hex : (set : TableRows) (text : List ℕ) (one other : Result Epc EpcFault) → IsKnown one → IsKnown other → ReadsHex set text one → ReadsHex set text other → one ≡ other
+same_hex : (set : TableRows) (text : List ℕ) (one other : Result Epc EpcFault) → IsKnown one → IsKnown other → ReadsHex set text one
+    → ReadsHex set text other → one ≡ other
 same_hex set text one other t u a b = elim (hex_case set text one t a) as (λ _. one ≡ other) [
   | inl f ↦ elim (hex_case set text other u b) as (λ _. one ≡ other) [
     | inl g ↦ f.1 ∙ ap (λ error. Err (Hex error)) (same_error text f.0 g.0 f.2 g.2) ∙ sym g.1
@@ -123,7 +125,9 @@ one_epc : (set : TableRows) (epc : Epc) → HasOne (MeansEpc set epc)
 one_epc set epc one other a b =
     a.2 ∙ ap (λ (x : Elements). Ok (epc_meaning epc x)) (same_laid set epc epc a.0 b.0 refl a.1 b.1) ∙ sym b.2
 
-means_one : (set : TableRows) (Reads : Result Epc EpcFault → Type 0) → ((one other : Result Epc EpcFault) → IsKnown one → IsKnown other → Reads one → Reads other → one ≡ other) → HasOne (Then (Reworded Memory NoEpc Reads) (MeansEpc set))
+means_one : (set : TableRows) (Reads : Result Epc EpcFault → Type 0)
+    → ((one other : Result Epc EpcFault) → IsKnown one → IsKnown other → Reads one → Reads other → one ≡ other)
+    → HasOne (Then (Reworded Memory NoEpc Reads) (MeansEpc set))
 means_one set Reads same =
     then_one (Reworded Memory NoEpc Reads) (MeansEpc set)
     (one_reworded Memory NoEpc Reads (λ one other t u a b. same one other (known_of one t) (known_of other u) a b)) (one_epc set)
@@ -161,13 +165,16 @@ some_info [] i = (record { kind = 0; encoding = []; gcp = 0; fields = [] }, refl
 some_info (info ∷ infos) zero = (info, refl)
 some_info (info ∷ infos) (suc i) = some_info infos i
 
-known_one : (set : TableRows) (level : LevelName) (symbols : List ℕ) (option : ℕ) (values : List (List ℕ)) → IsShaped set → OneDerivation (options_of level set) symbols option values → Known set (λ answer. ReadsAs set level symbols answer)
+known_one : (set : TableRows) (level : LevelName) (symbols : List ℕ) (option : ℕ) (values : List (List ℕ)) → IsShaped set
+    → OneDerivation (options_of level set) symbols option values → Known set (λ answer. ReadsAs set level symbols answer)
 known_one set level symbols option values shaped one =
     let info = some_info (level_rows level set).info option in
     let said = said_of set level symbols option values (level_rows level set).info info.0 shaped one refl info.1 in
-    says_epc (epc_of info.0 values) (says set level symbols option values info.0 (epc_of info.0 values) said one refl) (of_set set level option values info.0 (epc_of info.0 values) said refl)
+    says_epc (epc_of info.0 values) (says set level symbols option values info.0 (epc_of info.0 values) said one refl)
+    (of_set set level option values info.0 (epc_of info.0 values) said refl)
 
-known_counted : (set : TableRows) (level : LevelName) (symbols : List ℕ) → IsLoaded set → Counted (options_of level set) symbols → Known set (λ answer. ReadsAs set level symbols answer)
+known_counted : (set : TableRows) (level : LevelName) (symbols : List ℕ) → IsLoaded set → Counted (options_of level set) symbols
+    → Known set (λ answer. ReadsAs set level symbols answer)
 known_counted set level symbols loaded (none_of none) = has_error NoReading (λ e. cc) none
 known_counted set level symbols loaded (one_of option values one) = known_one set level symbols option values loaded.shaped one
 known_counted set level symbols loaded (two_of two) = absurd (loaded.clear level (record { w = symbols; two = two }))
@@ -197,12 +204,15 @@ digits_known : (text : List ℕ) → AreKnown text
 digits_known [] = inl (All-nil (λ x. is_hex_digit x ≡ true))
 digits_known (c ∷ text) = digits_behind c text (hex_value c) refl (digits_known text)
 
-known_bits : (set : TableRows) (text : List ℕ) → IsHex text → Known set (λ answer. ReadsAs set level.Binary (bits_of_hex text) answer) → Known set (λ answer. ReadsHex set text answer)
+known_bits : (set : TableRows) (text : List ℕ) → IsHex text → Known set (λ answer. ReadsAs set level.Binary (bits_of_hex text) answer)
+    → Known set (λ answer. ReadsHex set text answer)
 known_bits set text hex (says_epc epc read of) = says_epc epc (hex, read) of
 known_bits set text hex (has_error error t read) = has_error error t (hex_answer set text (bits_of_hex text) (Err error) hex refl read)
 
-known_digits : (set : TableRows) (text : List ℕ) → IsLoaded set → length text % 2 ≡ 0 → length text ≤ 128 → AreKnown text → Known set (λ answer. ReadsHex set text answer)
-known_digits set text loaded even few (inl all) = known_bits set text (record { even = even; short = few; digits = all }) (known_level set level.Binary (bits_of_hex text) loaded)
+known_digits : (set : TableRows) (text : List ℕ) → IsLoaded set → length text % 2 ≡ 0 → length text ≤ 128 → AreKnown text
+    → Known set (λ answer. ReadsHex set text answer)
+known_digits set text loaded even few (inl all) = known_bits set text (record { even = even; short = few; digits = all })
+    (known_level set level.Binary (bits_of_hex text) loaded)
 known_digits set text loaded even few (inr bad) = has_error (Hex (BadDigit bad.0)) (λ e. cc) (even, few, bad.1)
 
 known_hex : (set : TableRows) (text : List ℕ) → IsLoaded set → Known set (λ answer. ReadsHex set text answer)
@@ -216,7 +226,8 @@ known_hex set text loaded = elim (cases_eq (length text % 2) 0) as (λ _. Known 
 
 -- ---- a meaning of a text
 
-means_some : (set : TableRows) (Reads : Result Epc EpcFault → Type 0) → IsShaped set → Known set Reads → HasSome (Then (Reworded Memory NoEpc Reads) (MeansEpc set))
+means_some : (set : TableRows) (Reads : Result Epc EpcFault → Type 0) → IsShaped set → Known set Reads
+    → HasSome (Then (Reworded Memory NoEpc Reads) (MeansEpc set))
 means_some set Reads shaped (has_error error t read) = (Err (NoEpc error), rejects (NoEpc error) (gives_err Memory NoEpc Reads error t read) refl)
 means_some set Reads shaped (says_epc epc read of) =
     let kind = fit_kind set epc shaped of in

@@ -24,26 +24,32 @@ use Rattle.gs_translate.proofs.FilterLaws.{said_fits}
 use Rattle.gs_translate.proofs.StepLaws.{gives_err, gives_ok}
 
 -- the meaning of the EPC that a reader reads
-pub epc_means : (set : TableRows) (Reads : Result Epc EpcFault → Type 0) (epc : Epc) (meaning : Result Meaning Reason) → Reads (Ok epc) → MeansEpc set epc meaning → Then (Reworded Memory NoEpc Reads) (MeansEpc set) meaning
+pub epc_means : (set : TableRows) (Reads : Result Epc EpcFault → Type 0) (epc : Epc) (meaning : Result Meaning Reason) → Reads (Ok epc)
+    → MeansEpc set epc meaning → Then (Reworded Memory NoEpc Reads) (MeansEpc set) meaning
 epc_means set Reads epc meaning read means = goes_on epc (gives_ok Memory NoEpc Reads epc read) means
 
 -- the meaning that is made of the EPC's fields
-pub meaning_made : (set : TableRows) (seen epc : Epc) (identity : Elements) (encoding : List ℕ) → seen ≡ epc → encoding ≡ seen.encoding → IsLaidOut set epc identity → MeansEpc set epc (Ok (record { identity = identity; gcp = Some seen.gcp; filter = seen.filter; encoding = encoding }))
+pub meaning_made : (set : TableRows) (seen epc : Epc) (identity : Elements) (encoding : List ℕ) → seen ≡ epc → encoding ≡ seen.encoding
+    → IsLaidOut set epc identity → MeansEpc set epc (Ok (record { identity = identity; gcp = Some seen.gcp; filter = seen.filter; encoding = encoding }))
 meaning_made set seen epc identity encoding same is laid = (identity, laid, rw (is, same) refl)
 
 -- why nothing is read is why there is no meaning
-pub none_means : (set : TableRows) (Reads : Result Epc EpcFault → Type 0) (error : EpcFault) → Reads (Err error) → UnlessMemory {X = Meaning} (Err (epc_reason error)) (Then (Reworded Memory NoEpc Reads) (MeansEpc set) (Err (epc_reason error)))
+pub none_means : (set : TableRows) (Reads : Result Epc EpcFault → Type 0) (error : EpcFault) → Reads (Err error)
+    → UnlessMemory {X = Meaning} (Err (epc_reason error)) (Then (Reworded Memory NoEpc Reads) (MeansEpc set) (Err (epc_reason error)))
 none_means set Reads Memory h = tt
 none_means set Reads NoReading h = rejects (NoEpc NoReading) (gives_err Memory NoEpc Reads NoReading (λ e. cc) h) refl
 none_means set Reads (Hex error) h = rejects (NoEpc (Hex error)) (gives_err Memory NoEpc Reads (Hex error) (λ e. cc) h) refl
 
 -- a text of a level means what its EPC means
-pub means_at : (set : TableRows) (name : LevelName) (text : List ℕ) (epc : Epc) (elements : Elements) → ReadsText set name text (Ok epc) → IsLaidOut set epc elements → Means set (form_at name) text (Ok (epc_meaning epc elements))
+pub means_at : (set : TableRows) (name : LevelName) (text : List ℕ) (epc : Epc) (elements : Elements) → ReadsText set name text (Ok epc)
+    → IsLaidOut set epc elements → Means set (form_at name) text (Ok (epc_meaning epc elements))
 means_at set level.Binary text epc elements read laid = epc_means set (ReadsHex set text) epc (Ok (epc_meaning epc elements)) read (elements, laid, refl)
 means_at set level.Tag text epc elements read laid = epc_means set (ReadsAs set level.Tag text) epc (Ok (epc_meaning epc elements)) read (elements, laid, refl)
-means_at set level.Pure text epc elements read laid = epc_means set (ReadsAs set level.Pure text) epc (Ok (epc_meaning epc elements)) read (elements, laid, refl)
+means_at set level.Pure text epc elements read laid = epc_means set (ReadsAs set level.Pure text) epc (Ok (epc_meaning epc elements)) read
+    (elements, laid, refl)
 
-pub none_read : (set : TableRows) (name : LevelName) (text : List ℕ) (error : EpcFault) → ReadsText set name text (Err error) → UnlessMemory {X = Meaning} (Err (epc_reason error)) (Means set (form_at name) text (Err (epc_reason error)))
+pub none_read : (set : TableRows) (name : LevelName) (text : List ℕ) (error : EpcFault) → ReadsText set name text (Err error)
+    → UnlessMemory {X = Meaning} (Err (epc_reason error)) (Means set (form_at name) text (Err (epc_reason error)))
 none_read set level.Binary text error read = none_means set (ReadsHex set text) error read
 none_read set level.Tag text error read = none_means set (ReadsAs set level.Tag text) error read
 none_read set level.Pure text error read = none_means set (ReadsAs set level.Pure text) error read

@@ -58,7 +58,8 @@ said_fits set level symbols epc shaped says =
 abbrev Fits : (Result Epc EpcFault → Type 0) → Type 0
 Fits Reads = (epc : Epc) → Reads (Ok epc) → FitsFilter epc.filter
 
-epc_fits : (set : TableRows) (Reads : Result Epc EpcFault → Type 0) (meaning : Meaning) → Fits Reads → Then (Reworded NoRoom NoEpc Reads) (MeansEpc set) (Ok meaning) → FitsFilter meaning.filter
+epc_fits : (set : TableRows) (Reads : Result Epc EpcFault → Type 0) (meaning : Meaning) → Fits Reads
+    → Then (Reworded NoRoom NoEpc Reads) (MeansEpc set) (Ok meaning) → FitsFilter meaning.filter
 epc_fits set Reads meaning fits (rejects error read e) = absurd (let f : Ok meaning ≡ Err error = e in cc)
 epc_fits set Reads meaning fits (goes_on epc read (elements, laid, is)) =
     let same : meaning ≡ epc_meaning epc elements = (let f : Ok meaning ≡ Ok (epc_meaning epc elements) = is in cc) in
@@ -67,24 +68,28 @@ epc_fits set Reads meaning fits (goes_on epc read (elements, laid, is)) =
 -- ---- element strings and links
 
 identified_fits : (made : Result Elements IdentFault) (meaning : Meaning) → Ok meaning ≡ identified made → FitsFilter meaning.filter
-identified_fits (Ok identity) meaning e = let same : meaning ≡ identity_meaning identity = let f : Ok meaning ≡ Ok (identity_meaning identity) = e in cc in rw same tt
+identified_fits (Ok identity) meaning e = let same : meaning ≡ identity_meaning identity = let f : Ok meaning ≡ Ok
+    (identity_meaning identity) = e in cc in rw same tt
 identified_fits (Err error) meaning e = absurd (let f : Ok meaning ≡ Err (Ident error) = e in cc)
 
-pairs_fit : (set : TableRows) (Reads : Result (List Pair) Reason → Type 0) (meaning : Meaning) → Then Reads (IsIdentified set) (Ok meaning) → FitsFilter meaning.filter
+pairs_fit : (set : TableRows) (Reads : Result (List Pair) Reason → Type 0) (meaning : Meaning) → Then Reads (IsIdentified set) (Ok meaning)
+    → FitsFilter meaning.filter
 pairs_fit set Reads meaning (rejects error read e) = absurd (let f : Ok meaning ≡ Err error = e in cc)
 pairs_fit set Reads meaning (goes_on pairs read e) = identified_fits (identity_of_pairs set.ais pairs) meaning e
 
 -- ---- a text
 
 means_fit : (set : TableRows) (form : Form) (text : List ℕ) (meaning : Meaning) → IsShaped set → Means set form text (Ok meaning) → FitsFilter meaning.filter
-means_fit set form.Hex text meaning shaped m = epc_fits set (ReadsHex set text) meaning (λ epc read. said_fits set level.Binary (bits_of_hex text) epc shaped read.1) m
+means_fit set form.Hex text meaning shaped m = epc_fits set (ReadsHex set text) meaning
+    (λ epc read. said_fits set level.Binary (bits_of_hex text) epc shaped read.1) m
 means_fit set form.Tag text meaning shaped m = epc_fits set (ReadsAs set level.Tag text) meaning (λ epc read. said_fits set level.Tag text epc shaped read) m
 means_fit set form.Pure text meaning shaped m = epc_fits set (ReadsAs set level.Pure text) meaning (λ epc read. said_fits set level.Pure text epc shaped read) m
 means_fit set form.Raw text meaning shaped m = pairs_fit set (ReadsRaw set text) meaning m
 means_fit set form.Bracketed text meaning shaped m = pairs_fit set (ReadsBracketed set text) meaning m
 means_fit set form.Link text meaning shaped m = pairs_fit set (ReadsLink set text) meaning m
 
-pub filter_fits : (set : TableRows) (form : Form) (text : List ℕ) (meaning : Meaning) → IsShaped set → IsRead set form text (Ok meaning) → FitsFilter meaning.filter
+pub filter_fits : (set : TableRows) (form : Form) (text : List ℕ) (meaning : Meaning) → IsShaped set → IsRead set form text (Ok meaning)
+    → FitsFilter meaning.filter
 filter_fits set form text meaning shaped (too_long more e) = absurd (cc)
 filter_fits set form text meaning shaped (short few m) = means_fit set form text meaning shaped m
 

@@ -43,9 +43,12 @@ use Rattle.gs_translate.proofs.StepLaws.{given_ok, said_ok}
 
 -- ---- pairs that are read are valid
 
-joined_in_order : (table : List AiRow) (Element : ElementForm) → ((pair : Pair) (text after : List ℕ) → Element pair text after → IsInOrder table pair) → (pairs : List Pair) (text rest : List ℕ) → Joined Element pairs text rest → All (IsInOrder table) pairs
+joined_in_order : (table : List AiRow) (Element : ElementForm)
+    → ((pair : Pair) (text after : List ℕ) → Element pair text after → IsInOrder table pair) → (pairs : List Pair) (text rest : List ℕ)
+    → Joined Element pairs text rest → All (IsInOrder table) pairs
 joined_in_order table Element own [] text rest j = All-nil (IsInOrder table)
-joined_in_order table Element own (pair ∷ pairs) text rest j = All-cons (IsInOrder table) pair pairs (own pair text j.0 j.1) (joined_in_order table Element own pairs j.0 rest j.2)
+joined_in_order table Element own (pair ∷ pairs) text rest j = All-cons (IsInOrder table) pair pairs (own pair text j.0 j.1)
+    (joined_in_order table Element own pairs j.0 rest j.2)
 
 raw_in_order : (table : List AiRow) (text : List ℕ) (pairs : List Pair) → IsRaw table text pairs → All (IsInOrder table) pairs
 raw_in_order table text pairs j = joined_in_order table (IsRawElement table) (λ pair front after h. h.in_order) pairs (body_of text) [] j
@@ -53,20 +56,24 @@ raw_in_order table text pairs j = joined_in_order table (IsRawElement table) (λ
 bracketed_in_order : (table : List AiRow) (text : List ℕ) (pairs : List Pair) → IsBracketed table text pairs → All (IsInOrder table) pairs
 bracketed_in_order table text pairs j = joined_in_order table (IsBracketedElement table) (λ pair front after h. h.in_order) pairs text [] j
 
-path_in_order : (table : List AiRow) (query : List Written) (path : Option (List Written)) (pairs : List Pair) → by_key_path table query path ≡ Ok pairs → All (IsInOrder table) pairs
+path_in_order : (table : List AiRow) (query : List Written) (path : Option (List Written)) (pairs : List Pair)
+    → by_key_path table query path ≡ Ok pairs → All (IsInOrder table) pairs
 path_in_order table query None pairs e = absurd (let f : Err NoKeyPath ≡ Ok pairs = e in cc)
 path_in_order table query (Some path) pairs e = written_in_order table (path ++ query) pairs e
 
-rooted_in_order : (table : List AiRow) (query : List Written) (path : Option (List Written)) (rooted : Bool) (pairs : List Pair) → (if not rooted then Err NoKeyPath else by_key_path table query path) ≡ Ok pairs → All (IsInOrder table) pairs
+rooted_in_order : (table : List AiRow) (query : List Written) (path : Option (List Written)) (rooted : Bool) (pairs : List Pair)
+    → (if not rooted then Err NoKeyPath else by_key_path table query path) ≡ Ok pairs → All (IsInOrder table) pairs
 rooted_in_order table query path true pairs e = path_in_order table query path pairs e
 rooted_in_order table query path false pairs e = absurd (let f : Err NoKeyPath ≡ Ok pairs = e in cc)
 
 target_in_order : (table : List AiRow) (at : ℕ) (text : List ℕ) (pairs : List Pair) → target_answer table at text ≡ Ok pairs → All (IsInOrder table) pairs
 unfolding target_answer
 target_in_order table at text pairs e =
-    rooted_in_order table (query_pairs (at + length (path_of text) + 1) (query_of text)) (key_path table (segments at (path_of text))) (is_rooted (path_of text)) pairs e
+    rooted_in_order table (query_pairs (at + length (path_of text) + 1) (query_of text)) (key_path table (segments at (path_of text)))
+    (is_rooted (path_of text)) pairs e
 
-authority_in_order : (table : List AiRow) (text : List ℕ) (at : Option ℕ) (pairs : List Pair) → by_authority table text at ≡ Ok pairs → All (IsInOrder table) pairs
+authority_in_order : (table : List AiRow) (text : List ℕ) (at : Option ℕ) (pairs : List Pair) → by_authority table text at ≡ Ok pairs
+    → All (IsInOrder table) pairs
 authority_in_order table text None pairs e = absurd (let f : Err NotHttp ≡ Ok pairs = e in cc)
 authority_in_order table text (Some at) pairs e = target_in_order table at (drop at text) pairs e
 
@@ -76,13 +83,16 @@ link_in_order table text pairs e = authority_in_order table text (authority_end 
 
 -- ---- the identity of pairs
 
-identified_made : (table : List AiRow) (pairs : List Pair) (made : Result Elements IdentFault) (meaning : Meaning) → All (IsInOrder table) pairs → identity_of_pairs table pairs ≡ made → Ok meaning ≡ identified made → IsMadeWith table meaning.identity
+identified_made : (table : List AiRow) (pairs : List Pair) (made : Result Elements IdentFault) (meaning : Meaning)
+    → All (IsInOrder table) pairs → identity_of_pairs table pairs ≡ made → Ok meaning ≡ identified made → IsMadeWith table meaning.identity
 identified_made table pairs (Ok identity) meaning all own e =
     let same : meaning ≡ identity_meaning identity = let f : Ok meaning ≡ Ok (identity_meaning identity) = e in cc in
     subst (λ (x : Meaning). IsMadeWith table x.identity) (sym same) (made_with table pairs identity all own)
 identified_made table pairs (Err error) meaning all own e = absurd (let f : Ok meaning ≡ Err (Ident error) = e in cc)
 
-pairs_made : (set : TableRows) (Reads : Result (List Pair) Reason → Type 0) (meaning : Meaning) → ((pairs : List Pair) → Reads (Ok pairs) → All (IsInOrder set.ais) pairs) → Then Reads (IsIdentified set) (Ok meaning) → IsMadeWith set.ais meaning.identity
+pairs_made : (set : TableRows) (Reads : Result (List Pair) Reason → Type 0) (meaning : Meaning)
+    → ((pairs : List Pair) → Reads (Ok pairs) → All (IsInOrder set.ais) pairs) → Then Reads (IsIdentified set) (Ok meaning)
+    → IsMadeWith set.ais meaning.identity
 pairs_made set Reads meaning all (rejects error read e) = absurd (let f : Ok meaning ≡ Err error = e in cc)
 pairs_made set Reads meaning all (goes_on pairs read e) = identified_made set.ais pairs (identity_of_pairs set.ais pairs) meaning (all pairs read) refl e
 
@@ -111,7 +121,9 @@ laid_made set epc elements shaped of laid =
     let made = made_with set.ais pairs (lay set.ais kind.0 (fields_in epc)) (laid_in_order set.ais kind.0 (fields_in epc) kind.2 rules) (laid_identity set.ais kind.0 (fields_in epc) kind.2 rules) in
     subst (λ (e : Elements). IsMadeWith set.ais e) (sym is) made
 
-epc_made : (set : TableRows) (Reads : Result Epc EpcFault → Type 0) (meaning : Meaning) → IsShaped set → ((epc : Epc) → Reads (Ok epc) → IsOfSet set epc) → Then (Reworded NoRoom NoEpc Reads) (MeansEpc set) (Ok meaning) → IsMadeWith set.ais meaning.identity
+epc_made : (set : TableRows) (Reads : Result Epc EpcFault → Type 0) (meaning : Meaning) → IsShaped set
+    → ((epc : Epc) → Reads (Ok epc) → IsOfSet set epc) → Then (Reworded NoRoom NoEpc Reads) (MeansEpc set) (Ok meaning)
+    → IsMadeWith set.ais meaning.identity
 epc_made set Reads meaning shaped of (rejects error read e) = absurd (let f : Ok meaning ≡ Err error = e in cc)
 epc_made set Reads meaning shaped of (goes_on epc read (elements, laid, is)) =
     let same : meaning ≡ epc_meaning epc elements = (let f : Ok meaning ≡ Ok (epc_meaning epc elements) = is in cc) in
@@ -119,14 +131,20 @@ epc_made set Reads meaning shaped of (goes_on epc read (elements, laid, is)) =
 
 -- ---- the identity of a text
 
-means_made : (set : TableRows) (form : Form) (text : List ℕ) (meaning : Meaning) → IsShaped set → Means set form text (Ok meaning) → IsMadeWith set.ais meaning.identity
-means_made set form.Hex text meaning shaped m = epc_made set (ReadsHex set text) meaning shaped (λ epc read. says_of_set set level.Binary (bits_of_hex text) epc read.1) m
+means_made : (set : TableRows) (form : Form) (text : List ℕ) (meaning : Meaning) → IsShaped set → Means set form text (Ok meaning)
+    → IsMadeWith set.ais meaning.identity
+means_made set form.Hex text meaning shaped m = epc_made set (ReadsHex set text) meaning shaped
+    (λ epc read. says_of_set set level.Binary (bits_of_hex text) epc read.1) m
 means_made set form.Tag text meaning shaped m = epc_made set (ReadsAs set level.Tag text) meaning shaped (λ epc read. says_of_set set level.Tag text epc read) m
-means_made set form.Pure text meaning shaped m = epc_made set (ReadsAs set level.Pure text) meaning shaped (λ epc read. says_of_set set level.Pure text epc read) m
+means_made set form.Pure text meaning shaped m = epc_made set (ReadsAs set level.Pure text) meaning shaped
+    (λ epc read. says_of_set set level.Pure text epc read) m
 means_made set form.Raw text meaning shaped m = pairs_made set (ReadsRaw set text) meaning (λ pairs read. raw_in_order set.ais text pairs read) m
-means_made set form.Bracketed text meaning shaped m = pairs_made set (ReadsBracketed set text) meaning (λ pairs read. bracketed_in_order set.ais text pairs read) m
-means_made set form.Link text meaning shaped m = pairs_made set (ReadsLink set text) meaning (λ pairs read. link_in_order set.ais text pairs (said_ok link_reason (link_answer set.ais text) pairs read)) m
+means_made set form.Bracketed text meaning shaped m = pairs_made set (ReadsBracketed set text) meaning
+    (λ pairs read. bracketed_in_order set.ais text pairs read) m
+means_made set form.Link text meaning shaped m = pairs_made set (ReadsLink set text) meaning
+    (λ pairs read. link_in_order set.ais text pairs (said_ok link_reason (link_answer set.ais text) pairs read)) m
 
-pub made_of_read : (set : TableRows) (form : Form) (text : List ℕ) (meaning : Meaning) → IsShaped set → IsRead set form text (Ok meaning) → IsMadeWith set.ais meaning.identity
+pub made_of_read : (set : TableRows) (form : Form) (text : List ℕ) (meaning : Meaning) → IsShaped set → IsRead set form text (Ok meaning)
+    → IsMadeWith set.ais meaning.identity
 made_of_read set form text meaning shaped (too_long more e) = absurd (cc)
 made_of_read set form text meaning shaped (short few m) = means_made set form text meaning shaped m

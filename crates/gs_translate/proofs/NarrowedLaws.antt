@@ -8,7 +8,7 @@ use Rattle.gs_ai.specs.Tables.{KeepsRules, are_distinct, is_key, is_key_of}
 use Rattle.gs_ai.specs.Values.{has_code}
 use Rattle.gs_ai.proofs.RowLemmas.{and_left, and_right}
 use Rattle.gs_ai.proofs.TableLemmas.{key_by_row}
-use Rattle.gs_chars.proofs.TruthsAndLists.{equal_bytes, false_from_not, same_bytes, true_or_false}
+use Rattle.gs_chars.proofs.TruthsAndLists.{equal_bytes, same_bytes, true_or_false}
 use Rattle.gs_tables_document.specs.declared.document.SerialAt.{SerialAt}
 use Rattle.gs_tables_document.specs.declared.document.SerialAt.TheVariants.{Nowhere, Tail, Ai}
 use Rattle.gs_ident.proofs.KeyPairs.{IsKeyPair, alone_made, both_made, is_key_pair}
@@ -17,6 +17,7 @@ use Rattle.gs_ident.specs.Identities.{IsInOrder, IsMadeWith, counted, elements_o
 use Rattle.gs_ident.proofs.IdentityLemmas.{Made, made_facts, made_with}
 use Rattle.gs_translate.specs.Targets.{key_and_serial}
 use Rattle.gs_ident.proofs.PairLemmas.{Each, each_from_all, find_by_cases, found_each, found_passes}
+use Rattle.std.proofs.lemmas.Bool.{not-true}
 
 -- ---- the rest after a filter of pairs with distinct codes
 
@@ -24,27 +25,30 @@ use Rattle.gs_ident.proofs.PairLemmas.{Each, each_from_all, find_by_cases, found
 abbrev IsOneOf : List Pair → List (List ℕ) → List Pair → Type 0
 IsOneOf pairs codes left = (left ≡ []) ⊎ ((serial : Pair) × (left ≡ serial ∷ []) × (list_any (bytes_eq serial.code) codes ≡ true) × (pair_with pairs serial.code ≡ Some serial))
 
-none_left : (pairs : List Pair) (code : List ℕ) (codes : List (List ℕ)) → list_any (bytes_eq code) codes ≡ false → filter (is_coded code) (filter_map (pair_with pairs) codes) ≡ []
+none_left : (pairs : List Pair) (code : List ℕ) (codes : List (List ℕ)) → list_any (bytes_eq code) codes ≡ false
+    → filter (is_coded code) (filter_map (pair_with pairs) codes) ≡ []
 none_left pairs code [] none = refl
-none_left pairs code (first ∷ codes) none = elim (find_by_cases (λ (pair : Pair). bytes_eq first pair.code) pairs) as (λ _. filter (is_coded code) (filter_map (pair_with pairs) (first ∷ codes)) ≡ []) [
-  | inl found ↦
-      let same = equal_bytes first found.0.code (found_passes (λ (pair : Pair). bytes_eq first pair.code) pairs found.0 found.1) in
-      let differs : bytes_eq code first ≡ false = elim (true_or_false (bytes_eq code first)) as (λ _. bytes_eq code first ≡ false) [
-        | inl t ↦ absurd (let e = rw t at none in cc)
-        | inr f ↦ f
-      ] in
-      let other : bytes_eq code found.0.code ≡ false = rw (← same) differs in
-      let rest : list_any (bytes_eq code) codes ≡ false = rw differs at none in
-      rw (found.1, other) (none_left pairs code codes rest)
-  | inr absent ↦
-      let rest : list_any (bytes_eq code) codes ≡ false = elim (true_or_false (bytes_eq code first)) as (λ _. list_any (bytes_eq code) codes ≡ false) [
-        | inl t ↦ absurd (let e = rw t at none in cc)
-        | inr f ↦ rw f at none
-      ] in
-      rw absent (none_left pairs code codes rest)
-]
+none_left pairs code (first ∷ codes) none = elim (find_by_cases (λ (pair : Pair). bytes_eq first pair.code) pairs) as
+    (λ _. filter (is_coded code) (filter_map (pair_with pairs) (first ∷ codes)) ≡ []) [
+      | inl found ↦
+          let same = equal_bytes first found.0.code (found_passes (λ (pair : Pair). bytes_eq first pair.code) pairs found.0 found.1) in
+          let differs : bytes_eq code first ≡ false = elim (true_or_false (bytes_eq code first)) as (λ _. bytes_eq code first ≡ false) [
+            | inl t ↦ absurd (let e = rw t at none in cc)
+            | inr f ↦ f
+          ] in
+          let other : bytes_eq code found.0.code ≡ false = rw (← same) differs in
+          let rest : list_any (bytes_eq code) codes ≡ false = rw differs at none in
+          rw (found.1, other) (none_left pairs code codes rest)
+      | inr absent ↦
+          let rest : list_any (bytes_eq code) codes ≡ false = elim (true_or_false (bytes_eq code first)) as (λ _. list_any (bytes_eq code) codes ≡ false) [
+            | inl t ↦ absurd (let e = rw t at none in cc)
+            | inr f ↦ rw f at none
+          ] in
+          rw absent (none_left pairs code codes rest)
+    ]
 
-one_left : (pairs : List Pair) (code : List ℕ) (codes : List (List ℕ)) → are_distinct codes ≡ true → IsOneOf pairs codes (filter (is_coded code) (filter_map (pair_with pairs) codes))
+one_left : (pairs : List Pair) (code : List ℕ) (codes : List (List ℕ)) → are_distinct codes ≡ true
+    → IsOneOf pairs codes (filter (is_coded code) (filter_map (pair_with pairs) codes))
 one_left pairs code [] distinct = inl refl
 one_left pairs code (first ∷ codes) distinct =
     elim (true_or_false (bytes_eq code first)) as (λ _. IsOneOf pairs (first ∷ codes) (filter (is_coded code) (filter_map (pair_with pairs) (first ∷ codes)))) [
@@ -53,9 +57,10 @@ one_left pairs code (first ∷ codes) distinct =
     ]
   where
     once : list_any (bytes_eq first) codes ≡ false
-    once = false_from_not (list_any (bytes_eq first) codes) (and_left _ _ distinct)
+    once = not-true (list_any (bytes_eq first) codes) (and_left _ _ distinct)
 
-    here : code ≡ first → ((x : Pair) × (pair_with pairs first ≡ Some x)) ⊎ (pair_with pairs first ≡ None) → IsOneOf pairs (first ∷ codes) (filter (is_coded code) (filter_map (pair_with pairs) (first ∷ codes)))
+    here : code ≡ first → ((x : Pair) × (pair_with pairs first ≡ Some x)) ⊎ (pair_with pairs first ≡ None)
+        → IsOneOf pairs (first ∷ codes) (filter (is_coded code) (filter_map (pair_with pairs) (first ∷ codes)))
     here is (inl found) =
         let named = equal_bytes first found.0.code (found_passes (λ (pair : Pair). bytes_eq first pair.code) pairs found.0 found.1) in
         let none : filter (is_coded first) (filter_map (pair_with pairs) codes) ≡ [] = none_left pairs first codes once in
@@ -80,7 +85,9 @@ one_left pairs code (first ∷ codes) distinct =
       one.3,
     )
 
-    later : bytes_eq code first ≡ false → ((x : Pair) × (pair_with pairs first ≡ Some x)) ⊎ (pair_with pairs first ≡ None) → IsOneOf pairs codes (filter (is_coded code) (filter_map (pair_with pairs) codes)) → IsOneOf pairs (first ∷ codes) (filter (is_coded code) (filter_map (pair_with pairs) (first ∷ codes)))
+    later : bytes_eq code first ≡ false → ((x : Pair) × (pair_with pairs first ≡ Some x)) ⊎ (pair_with pairs first ≡ None)
+        → IsOneOf pairs codes (filter (is_coded code) (filter_map (pair_with pairs) codes))
+        → IsOneOf pairs (first ∷ codes) (filter (is_coded code) (filter_map (pair_with pairs) (first ∷ codes)))
     later differs (inl found) one =
         let named = equal_bytes first found.0.code (found_passes (λ (pair : Pair). bytes_eq first pair.code) pairs found.0 found.1) in
         let other : bytes_eq code found.0.code ≡ false = rw (← named) differs in
@@ -132,7 +139,8 @@ module _ (table : List AiRow) (identity : Elements) (rules : KeepsRules table) (
   own_row = key_row table facts.key rules (found_passes (λ (pair : Pair). is_key_of table pair.code) pairs facts.key facts.first)
 
   key_in_order : IsInOrder table facts.key
-  key_in_order = subst (λ (key : Pair). IsInOrder table key) key_is (All-head (IsInOrder table) identity.key (identity.qualifiers ++ identity.attributes) made.in_order)
+  key_in_order = subst (λ (key : Pair). IsInOrder table key) key_is
+      (All-head (IsInOrder table) identity.key (identity.qualifiers ++ identity.attributes) made.in_order)
 
   pub alone_is_made : IsMadeWith table (key_alone identity)
   alone_is_made =
@@ -141,28 +149,33 @@ module _ (table : List AiRow) (identity : Elements) (rules : KeepsRules table) (
       subst (λ (key : Pair). IsMadeWith table (record { key = key; qualifiers = []; attributes = [] })) (sym key_is) is
 
   each_counts : Each (λ pair. not (stands_for_none table pair) ≡ true) pairs
-  each_counts = each_from_all (λ pair. not (stands_for_none table pair) ≡ true) pairs (filter_passes (λ pair. not (stands_for_none table pair)) (pairs_of identity))
+  each_counts = each_from_all (λ pair. not (stands_for_none table pair) ≡ true) pairs
+      (filter_passes (λ pair. not (stands_for_none table pair)) (pairs_of identity))
 
   each_in_order : Each (IsInOrder table) (pairs_of identity)
   each_in_order = each_from_all (IsInOrder table) (pairs_of identity) made.in_order
 
   -- the key with a pair of the identity that is listed
-  both_are_made : (serial : Pair) → IsInOrder table serial → stands_for_none table serial ≡ false → list_any (bytes_eq serial.code) own_row.row.qualifiers ≡ true → IsMadeWith table (record { key = facts.key; qualifiers = serial ∷ []; attributes = [] })
+  both_are_made : (serial : Pair) → IsInOrder table serial → stands_for_none table serial ≡ false → list_any
+      (bytes_eq serial.code) own_row.row.qualifiers ≡ true → IsMadeWith table
+      (record { key = facts.key; qualifiers = serial ∷ []; attributes = [] })
   both_are_made serial in_order counts there =
       let alone : counted table (serial ∷ []) ≡ serial ∷ [] = rw counts refl in
       let made_of : identity_of_pairs table (facts.key ∷ serial ∷ []) ≡ Ok (record { key = facts.key; qualifiers = serial ∷ []; attributes = [] }) =
-      both_made table own_row.row.qualifiers facts.key own_row.is serial there ∙ ap (λ (q : List Pair). Ok (record { key = facts.key; qualifiers = q; attributes = [] })) alone in
+      both_made table own_row.row.qualifiers facts.key own_row.is serial there ∙ ap
+      (λ (q : List Pair). Ok (record { key = facts.key; qualifiers = q; attributes = [] })) alone in
       made_with table (facts.key ∷ serial ∷ []) (record { key = facts.key; qualifiers = serial ∷ []; attributes = [] })
       (All-cons (IsInOrder table) facts.key (serial ∷ []) key_in_order (All-cons (IsInOrder table) serial [] in_order (All-nil (IsInOrder table)))) made_of
 
   -- the key with the pairs that the list of its codes leaves
-  one_is_made : (left : List Pair) → IsOneOf pairs own_row.row.qualifiers left → IsMadeWith table (record { key = facts.key; qualifiers = left; attributes = [] })
+  one_is_made : (left : List Pair) → IsOneOf pairs own_row.row.qualifiers left → IsMadeWith table
+      (record { key = facts.key; qualifiers = left; attributes = [] })
   one_is_made left (inl none) = rw none (subst (λ (key : Pair). IsMadeWith table (record { key = key; qualifiers = []; attributes = [] })) key_is alone_is_made)
   one_is_made left (inr one) =
       let serial = one.0 in
       let counts : not (stands_for_none table serial) ≡ true = found_each (λ pair. not (stands_for_none table pair) ≡ true) (λ (pair : Pair). bytes_eq serial.code pair.code) pairs serial one.3 each_counts in
       let in_order : IsInOrder table serial = found_each (IsInOrder table) (λ (pair : Pair). bytes_eq serial.code pair.code) pairs serial one.3 (each_from_all (IsInOrder table) pairs (All-filter (λ pair. not (stands_for_none table pair)) (IsInOrder table) (pairs_of identity) made.in_order)) in
-      rw one.1 (both_are_made serial in_order (false_from_not (stands_for_none table serial) counts) one.2)
+      rw one.1 (both_are_made serial in_order (not-true (stands_for_none table serial) counts) one.2)
 
   pub one_qualifier_is_made : (code : List ℕ) → IsMadeWith table (with_qualifier code identity)
   one_qualifier_is_made code =

@@ -29,7 +29,9 @@ use Rattle.gs_translate.proofs.StepLaws.{then_one, then_some}
 module _ (set : TableRows) (prefixes : List PrefixEntry) (options : Options) where
   one_of_level : (level : LevelName) (meaning : Meaning) → HasOne (IsOfLevel set prefixes options level meaning)
   one_of_level level meaning =
-      then_one (λ epc. epc ≡ epc_for set prefixes options level meaning) (λ epc. Reworded write.Memory write_reason (WritesAs set level epc)) (λ one other a b. a ∙ sym b) (λ epc. one_written set level epc)
+      then_one (λ epc. epc ≡ epc_for set prefixes options level meaning)
+      (λ epc. Reworded write.Memory write_reason (WritesAs set level epc)) (λ one other a b. a ∙ sym b)
+      (λ epc. one_written set level epc)
 
   one_spelling : (to : Target) (meaning : Meaning) → HasOne (IsSpelling set prefixes options to meaning)
   one_spelling Hex meaning = one_of_level level.Binary meaning
@@ -42,11 +44,14 @@ module _ (set : TableRows) (prefixes : List PrefixEntry) (options : Options) whe
 
   pub one_translation : (from : Form) (to : Target) (text : List ℕ) → AsksForOne from set → HasOne (IsTranslation set prefixes options from to text)
   one_translation from to text asks =
-      then_one (IsRead set from text) (λ meaning. IsSpelling set prefixes options to (kept set options.keys_only meaning)) (one_read set from text asks) (λ meaning. one_spelling to (kept set options.keys_only meaning))
+      then_one (IsRead set from text) (λ meaning. IsSpelling set prefixes options to (kept set options.keys_only meaning))
+      (one_read set from text asks) (λ meaning. one_spelling to (kept set options.keys_only meaning))
 
   some_of_level : (level : LevelName) (meaning : Meaning) → HasSome (IsOfLevel set prefixes options level meaning)
   some_of_level level meaning =
-      then_some (λ epc. epc ≡ epc_for set prefixes options level meaning) (λ epc. Reworded write.Memory write_reason (WritesAs set level epc)) (epc_for set prefixes options level meaning, refl) (λ epc said. some_written set level epc)
+      then_some (λ epc. epc ≡ epc_for set prefixes options level meaning)
+      (λ epc. Reworded write.Memory write_reason (WritesAs set level epc)) (epc_for set prefixes options level meaning, refl)
+      (λ epc said. some_written set level epc)
 
   some_spelling : (to : Target) (meaning : Meaning) → HasSome (IsSpelling set prefixes options to meaning)
   some_spelling Hex meaning = some_of_level level.Binary meaning
@@ -59,4 +64,5 @@ module _ (set : TableRows) (prefixes : List PrefixEntry) (options : Options) whe
 
   pub some_translation : (from : Form) (to : Target) (text : List ℕ) → AsksForSome from set → HasSome (IsTranslation set prefixes options from to text)
   some_translation from to text asks =
-      then_some (IsRead set from text) (λ meaning. IsSpelling set prefixes options to (kept set options.keys_only meaning)) (some_read set from text asks) (λ meaning read. some_spelling to (kept set options.keys_only meaning))
+      then_some (IsRead set from text) (λ meaning. IsSpelling set prefixes options to (kept set options.keys_only meaning))
+      (some_read set from text asks) (λ meaning read. some_spelling to (kept set options.keys_only meaning))

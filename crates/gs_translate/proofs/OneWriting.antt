@@ -65,11 +65,13 @@ Says items values fields out field why =
     ((k : ℕ) × IsFirstRejection items values k why × (field ≡ field_at fields k)) ⊎ (AreHeld items values × (out ≡ Some field) × (why ≡ Length))
 
 -- if there is a rejection, not every field is held
-pub not_says : (items : List Item) (values : List (List ℕ)) (fields : List (Option Field)) (out : Option Field) (field : Field) (why : Why) → Says items values fields out field why → AreHeld items values → out ≡ None → ⊥
+pub not_says : (items : List Item) (values : List (List ℕ)) (fields : List (Option Field)) (out : Option Field) (field : Field) (why : Why)
+    → Says items values fields out field why → AreHeld items values → out ≡ None → ⊥
 not_says items values fields out field why (inl a) held none = not_held items values a.0 why a.1 held
 not_says items values fields out field why (inr a) held none = let both : Some field ≡ None = sym a.1 ∙ none in cc
 
-same_says : (items : List Item) (values : List (List ℕ)) (fields : List (Option Field)) (out : Option Field) (f g : Field) (w v : Why) → Says items values fields out f w → Says items values fields out g v → (f ≡ g) × (w ≡ v)
+same_says : (items : List Item) (values : List (List ℕ)) (fields : List (Option Field)) (out : Option Field) (f g : Field) (w v : Why)
+    → Says items values fields out f w → Says items values fields out g v → (f ≡ g) × (w ≡ v)
 same_says items values fields out f g w v (inl a) (inl b) =
     (a.2 ∙ ap (field_at fields) (same_rejected items values a.0 b.0 w v a.1 b.1) ∙ sym b.2, same_why items values a.0 b.0 w v a.1 b.1)
 same_says items values fields out f g w v (inl a) (inr b) = absurd (not_held items values a.0 w a.1 b.0)
@@ -126,7 +128,8 @@ module _ (set : TableRows) (level : LevelName) (epc : Epc) where
   not_both text (write.CannotHold field why) t a b = b.none (suc a.option) a.option a.candidate (omega arith) a.holds
   not_both text write.Memory t a b = t refl
 
-  pub writes_one : (one other : Result (List ℕ) EpcWriteFault) → one ≢ Err write.Memory → other ≢ Err write.Memory → WritesAs set level epc one → WritesAs set level epc other → one ≡ other
+  pub writes_one : (one other : Result (List ℕ) EpcWriteFault) → one ≢ Err write.Memory → other ≢ Err write.Memory
+      → WritesAs set level epc one → WritesAs set level epc other → one ≡ other
   writes_one (Ok text) (Ok other) t u a b = ap Ok (one_text text other a b)
   writes_one (Ok text) (Err error) t u a b = absurd (not_both text error (λ e. u (ap Err e)) a b)
   writes_one (Err error) (Ok text) t u a b = absurd (not_both text error (λ e. t (ap Err e)) b a)
@@ -136,7 +139,8 @@ module _ (set : TableRows) (level : LevelName) (epc : Epc) where
   one_written = one_reworded write.Memory write_reason (WritesAs set level epc) writes_one
 
 -- why nothing is appended is why there is no spelling
-pub appended_none : (set : TableRows) (level : LevelName) (epc : Epc) (before now : List ℕ) (error : EpcWriteFault) → AppendsAs set level epc before now (Err error)
+pub appended_none : (set : TableRows) (level : LevelName) (epc : Epc) (before now : List ℕ) (error : EpcWriteFault)
+    → AppendsAs set level epc before now (Err error)
     → UnlessMemory {X = Unit {0}} (Err (write_reason error)) (AppendsText {Done = Unit {0}} (Reworded write.Memory write_reason (WritesAs set level epc)) before now (Err (write_reason error)))
 appended_none set level epc before now write.NoOption a = (a.0, gives_err write.Memory write_reason (WritesAs set level epc) write.NoOption (λ e. cc) a.1)
 appended_none set level epc before now (write.CannotHold field why) a = (a.0, gives_err write.Memory write_reason (WritesAs set level epc) (write.CannotHold field why) (λ e. cc) a.1)

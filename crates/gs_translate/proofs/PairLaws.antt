@@ -41,7 +41,8 @@ ais_kept set shaped = rw shaped.made (rules_kept shaped.document.ais (no_errors 
 
 -- ---- at most one reading
 
-one_of_two : (Are : List Pair → Type 0) (IsWhy : Reason → Type 0) → HasOne Are → HasOne IsWhy → ((pairs : List Pair) (why : Reason) → Are pairs → IsWhy why → ⊥) → HasOne (λ answer. MatchResult answer Are IsWhy)
+one_of_two : (Are : List Pair → Type 0) (IsWhy : Reason → Type 0) → HasOne Are → HasOne IsWhy
+    → ((pairs : List Pair) (why : Reason) → Are pairs → IsWhy why → ⊥) → HasOne (λ answer. MatchResult answer Are IsWhy)
 one_of_two Are IsWhy are why apart (Ok a) (Ok b) j k = ap Ok (are a b j k)
 one_of_two Are IsWhy are why apart (Ok a) (Err b) j k = absurd (apart a b j k)
 one_of_two Are IsWhy are why apart (Err a) (Ok b) j k = absurd (apart b a k j)
@@ -72,16 +73,19 @@ one_link set text one other a b = a ∙ sym b
 
 -- ---- a reading
 
-some_of_two : (Are : List Pair → Type 0) (IsError : ElementFault → Type 0) → HasSome Are ⊎ HasSome IsError → HasSome (λ answer. MatchResult answer Are (OfElement IsError))
+some_of_two : (Are : List Pair → Type 0) (IsError : ElementFault → Type 0) → HasSome Are ⊎ HasSome IsError
+    → HasSome (λ answer. MatchResult answer Are (OfElement IsError))
 some_of_two Are IsError (inl a) = (Ok a.0, a.1)
 some_of_two Are IsError (inr f) = (Err (Element f.0), (f.0, refl, f.1))
 
 module _ (set : TableRows) (text : List ℕ) (rules : KeepsRules set.ais) where
   pub some_raw : HasSome (ReadsRaw set text)
-  some_raw = some_of_two (IsRaw set.ais text) (IsRawError set.ais text) (answered (IsRawElement set.ais) (raw_error set.ais) (raw_known set.ais rules) text (body_of text) (body_shorter text))
+  some_raw = some_of_two (IsRaw set.ais text) (IsRawError set.ais text)
+      (answered (IsRawElement set.ais) (raw_error set.ais) (raw_known set.ais rules) text (body_of text) (body_shorter text))
 
   pub some_bracketed : HasSome (ReadsBracketed set text)
-  some_bracketed = some_of_two (IsBracketed set.ais text) (IsBracketedError set.ais text) (answered (IsBracketedElement set.ais) (bracketed_error set.ais) (bracketed_known set.ais rules) text text (omega arith))
+  some_bracketed = some_of_two (IsBracketed set.ais text) (IsBracketedError set.ais text)
+      (answered (IsBracketedElement set.ais) (bracketed_error set.ais) (bracketed_known set.ais rules) text text (omega arith))
 
 pub some_link : (set : TableRows) (text : List ℕ) → HasSome (ReadsLink set text)
 some_link set text = (reworded link_reason (link_answer set.ais text), refl)
@@ -104,7 +108,9 @@ some_of_pairs set Reads some = then_some Reads (IsIdentified set) some (λ pairs
 -- ---- why none are read
 
 -- a rejection of a reader of element strings is that of the text
-pub elements_rejected : (set : TableRows) (Are : List Pair → Type 0) (IsError : ElementFault → Type 0) (Rejects : RawFault → Type 0) (error : RawFault) → ((f : ElementFault) → Rejects (WrongElement f) → IsError f) → Rejects error → UnlessMemory {X = Elements} (Err (elements_reason error)) (Then (λ answer. MatchResult answer Are (OfElement IsError)) (IsIdentified set) (Err (elements_reason error)))
+pub elements_rejected : (set : TableRows) (Are : List Pair → Type 0) (IsError : ElementFault → Type 0) (Rejects : RawFault → Type 0)
+    (error : RawFault) → ((f : ElementFault) → Rejects (WrongElement f) → IsError f) → Rejects error → UnlessMemory {X = Elements}
+    (Err (elements_reason error)) (Then (λ answer. MatchResult answer Are (OfElement IsError)) (IsIdentified set) (Err (elements_reason error)))
 elements_rejected set Are IsError Rejects (WrongElement error) f r = rejects (Element error) (error, refl, f error r) refl
 elements_rejected set Are IsError Rejects NoMemory f r = tt
 
@@ -112,7 +118,8 @@ why_said : (set : TableRows) (text : List ℕ) (error : LinkFault) → link_erro
 why_said set text error e = ap (reworded link_reason) (sym (error_said (link_answer set.ais text) error e))
 
 -- a rejection of the reader of links is that of the text
-pub link_rejected : (set : TableRows) (text : List ℕ) (error : LinkFault) → (error ≢ link.Memory → link_error set.ais text ≡ Some error) → UnlessMemory {X = Elements} (Err (link_reason error)) (Then (ReadsLink set text) (IsIdentified set) (Err (link_reason error)))
+pub link_rejected : (set : TableRows) (text : List ℕ) (error : LinkFault) → (error ≢ link.Memory → link_error set.ais text ≡ Some error)
+    → UnlessMemory {X = Elements} (Err (link_reason error)) (Then (ReadsLink set text) (IsIdentified set) (Err (link_reason error)))
 link_rejected set text link.NotHttp f = rejects NotHttp (why_said set text link.NotHttp (f (λ e. cc))) refl
 link_rejected set text link.NoKeyPath f = rejects NoKeyPath (why_said set text link.NoKeyPath (f (λ e. cc))) refl
 link_rejected set text (link.Element error) f = rejects (Element error) (why_said set text (link.Element error) (f (λ e. cc))) refl

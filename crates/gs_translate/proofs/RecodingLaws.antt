@@ -7,12 +7,11 @@ use Rattle.std.specs.Option.{option_map_or}
 use Rattle.std.proofs.lemmas.Bool.Decides.{nat_tests}
 use Rattle.std.proofs.lemmas.Option.{slice_get-map}
 use Rattle.gs_chars.specs.Limits.{longest_text}
-use Rattle.gs_chars.proofs.TruthsAndLists.{and_parts, and_true, false_from, false_from_not, get_take, mapped_some, same_bytes}
+use Rattle.gs_chars.proofs.TruthsAndLists.{get_take, mapped_some, same_bytes, same_number}
 use Rattle.gs_ai.specs.declared.pair.Pair.{Pair}
 use Rattle.gs_ai.specs.declared.row.AiRow.{AiRow}
 use Rattle.gs_ai.specs.Values.{has_code}
 use Rattle.gs_ai.proofs.RuleLemmas.{none_at}
-use Rattle.gs_ai.proofs.Searches.{find_at_place, position-map, position_is}
 use Rattle.gs_ident.specs.Elements.{Elements, elements_with, is_coded}
 use Rattle.gs_ident.specs.Identities.{stands_for_none}
 use Rattle.gs_ident.proofs.MovedPairs.{any_at}
@@ -54,6 +53,8 @@ use Rattle.gs_translate.specs.Targets as targets
 use Rattle.gs_translate.specs.Translations.{IsOfLevel, IsSpelling, IsTranslation, form_of, write_reason}
 use Rattle.gs_translate.proofs.EpcTexts.{means_at, none_read}
 use Rattle.gs_translate.proofs.StepLaws.{appends_map, then_appended, unless_map, unless_rejected}
+use Rattle.gs_chars.proofs.Searches.{find_at_place, position-map, position_is}
+use Rattle.std.proofs.lemmas.Bool.{and_from, and_parts, not-true, false_from_ne_true}
 
 -- ---- a kind is the first that has its key
 
@@ -65,9 +66,10 @@ new_key : (ais : List AiRow) (earlier : List KindRow) (kind : KindRow) → is_ki
 unfolding is_kind
 new_key ais earlier kind h =
     let parts = and_parts (is_new_name earlier kind.name && not (list_any (has_key kind.key) earlier)) (option_map_or (λ row. fits_key ais row kind) (find (has_code kind.key) ais) false) h in
-    false_from_not _ (and_parts (is_new_name earlier kind.name) (not (list_any (has_key kind.key) earlier)) parts.0).1
+    not-true _ (and_parts (is_new_name earlier kind.name) (not (list_any (has_key kind.key) earlier)) parts.0).1
 
-not_earlier : (ais : List AiRow) (kinds : List KindRow) (i : ℕ) (kind : KindRow) → kinds_rejections ais kinds ≡ [] → slice_get kinds i ≡ Some kind → list_any (has_key kind.key) (take i kinds) ≡ false
+not_earlier : (ais : List AiRow) (kinds : List KindRow) (i : ℕ) (kind : KindRow) → kinds_rejections ais kinds ≡ []
+    → slice_get kinds i ≡ Some kind → list_any (has_key kind.key) (take i kinds) ≡ false
 unfolding kinds_rejections
 not_earlier ais kinds i kind none at =
     let zero_plus : 0 + i ≡ i = omega arith in
@@ -75,10 +77,11 @@ not_earlier ais kinds i kind none at =
     let row : kind_rejections ais kinds (i, kind) ≡ [] = rw zero_plus at here in
     new_key ais (take i kinds) kind (passes_kind (is_kind ais (take i kinds) kind) (BadKind i) row)
 
-first_row : (kinds : List KindRow) (i : ℕ) (kind : KindRow) → slice_get kinds i ≡ Some kind → list_any (has_key kind.key) (take i kinds) ≡ false → position (has_key kind.key) kinds ≡ Some i
+first_row : (kinds : List KindRow) (i : ℕ) (kind : KindRow) → slice_get kinds i ≡ Some kind
+    → list_any (has_key kind.key) (take i kinds) ≡ false → position (has_key kind.key) kinds ≡ Some i
 first_row kinds i kind at none =
     position_is (has_key kind.key) kinds i kind at (same_bytes kind.key) (λ j other less there.
-    false_from (has_key kind.key other) (λ same.
+    false_from_ne_true (has_key kind.key other) (λ same.
     let early : slice_get (take i kinds) j ≡ Some other = get_take kinds i j less ∙ there in
     let some = any_at (has_key kind.key) (take i kinds) j other early same in
     let both : true ≡ false = sym some ∙ none in
@@ -96,7 +99,8 @@ first_kind set i kind shaped at =
 
 -- ---- nothing but the key and its serial
 
-own_or_none : (code : List ℕ) (pair : Pair) (none : Bool) → pair.code ≡ code → find (λ (p : Pair). not (is_serial (Ai code) p)) ((if none then [] else pair ∷ []) ++ []) ≡ None
+own_or_none : (code : List ℕ) (pair : Pair) (none : Bool) → pair.code ≡ code
+    → find (λ (p : Pair). not (is_serial (Ai code) p)) ((if none then [] else pair ∷ []) ++ []) ≡ None
 own_or_none code pair true same = refl
 own_or_none code pair false same = rw (same, same_bytes code) refl
 
@@ -107,11 +111,8 @@ none_extra ais (Ai code) serial = own_or_none code (record { code = code; value 
 
 -- ---- an option has the kind and the length
 
-same_number : (n : ℕ) → (n == n) ≡ true
-same_number n = grind (arith, nat_tests)
-
 of_info : (info : OptInfo) (kind n : ℕ) → kind ≡ info.kind → n ≡ info.gcp → is_option_of kind n info ≡ true
-of_info info kind n k g = rw (k, g) (and_true (info.kind == info.kind) (info.gcp == info.gcp) (same_number info.kind) (same_number info.gcp))
+of_info info kind n k g = rw (k, g) (and_from (info.kind == info.kind) (info.gcp == info.gcp) (same_number info.kind) (same_number info.gcp))
 
 in_first : (a b c : Bool) → a ≡ true → (a || b || c) ≡ true
 in_first true b c h = refl
@@ -130,9 +131,12 @@ in_third false false true h = refl
 in_third a b false h = absurd (let g : false ≡ true = h in cc)
 
 in_a_level : (set : TableRows) (name : LevelName) (kind n : ℕ) → list_any (is_option_of kind n) (level_rows name set).info ≡ true → has_option set kind n ≡ true
-in_a_level set level.Binary kind n h = in_first (list_any (is_option_of kind n) set.binary.info) (list_any (is_option_of kind n) set.tag.info) (list_any (is_option_of kind n) set.pure.info) h
-in_a_level set level.Tag kind n h = in_second (list_any (is_option_of kind n) set.binary.info) (list_any (is_option_of kind n) set.tag.info) (list_any (is_option_of kind n) set.pure.info) h
-in_a_level set level.Pure kind n h = in_third (list_any (is_option_of kind n) set.binary.info) (list_any (is_option_of kind n) set.tag.info) (list_any (is_option_of kind n) set.pure.info) h
+in_a_level set level.Binary kind n h = in_first (list_any (is_option_of kind n) set.binary.info)
+    (list_any (is_option_of kind n) set.tag.info) (list_any (is_option_of kind n) set.pure.info) h
+in_a_level set level.Tag kind n h = in_second (list_any (is_option_of kind n) set.binary.info) (list_any (is_option_of kind n) set.tag.info)
+    (list_any (is_option_of kind n) set.pure.info) h
+in_a_level set level.Pure kind n h = in_third (list_any (is_option_of kind n) set.binary.info) (list_any (is_option_of kind n) set.tag.info)
+    (list_any (is_option_of kind n) set.pure.info) h
 
 own_option : (set : TableRows) (epc : Epc) → IsOfSet set epc → has_option set epc.kind epc.gcp ≡ true
 own_option set epc of =
@@ -143,7 +147,8 @@ own_option set epc of =
 
 -- ---- the EPC that is written
 
-module _ (set : TableRows) (prefixes : List PrefixEntry) (options : Options) (epc : Epc) (identity : Elements) (shaped : IsShaped set) (of : IsOfSet set epc) (laid : IsLaidOut set epc identity) where
+module _ (set : TableRows) (prefixes : List PrefixEntry) (options : Options) (epc : Epc) (identity : Elements) (shaped : IsShaped set)
+    (of : IsOfSet set epc) (laid : IsLaidOut set epc identity) where
   own_kind : kind_for set identity ≡ Ok epc.kind
   own_kind =
       let first = first_kind set epc.kind laid.kind shaped laid.named in
@@ -161,34 +166,42 @@ module _ (set : TableRows) (prefixes : List PrefixEntry) (options : Options) (ep
 
 -- ---- the spelling of an EPC
 
-of_first : {A B : Type 0} (First Other : Result A Reason → Type 0) (Next : A → Result B Reason → Type 0) (answer : Result B Reason) → ((a : Result A Reason) → First a → Other a) → Then First Next answer → Then Other Next answer
+of_first : {A B : Type 0} (First Other : Result A Reason → Type 0) (Next : A → Result B Reason → Type 0) (answer : Result B Reason)
+    → ((a : Result A Reason) → First a → Other a) → Then First Next answer → Then Other Next answer
 of_first First Other Next answer f (rejects error first is) = rejects error (f (Err error) first) is
 of_first First Other Next answer f (goes_on a first next) = goes_on a (f (Ok a) first) next
 
-spelled_at : (set : TableRows) (prefixes : List PrefixEntry) (options : Options) (to : LevelName) (meaning : Meaning) (answer : Result (List ℕ) Reason) → IsOfLevel set prefixes options to meaning answer → IsSpelling set prefixes options (target_at to) meaning answer
+spelled_at : (set : TableRows) (prefixes : List PrefixEntry) (options : Options) (to : LevelName) (meaning : Meaning) (answer : Result (List ℕ) Reason)
+    → IsOfLevel set prefixes options to meaning answer → IsSpelling set prefixes options (target_at to) meaning answer
 spelled_at set prefixes options level.Binary meaning answer h = h
 spelled_at set prefixes options level.Tag meaning answer h = h
 spelled_at set prefixes options level.Pure meaning answer h = h
 
 pub appended_at : {Done : Type 0} (set : TableRows) (prefixes : List PrefixEntry) (options : Options) (to : LevelName) (meaning : Meaning) (before now : List ℕ) (result : Result Done Reason)
-    → UnlessMemory result (AppendsText (IsOfLevel set prefixes options to meaning) before now result) → UnlessMemory result (AppendsText (IsSpelling set prefixes options (target_at to) meaning) before now result)
+    → UnlessMemory result (AppendsText (IsOfLevel set prefixes options to meaning) before now result) → UnlessMemory result
+    (AppendsText (IsSpelling set prefixes options (target_at to) meaning) before now result)
 appended_at set prefixes options to meaning before now result appended =
     unless_map result (appends_map (IsOfLevel set prefixes options to meaning) (IsSpelling set prefixes options (target_at to) meaning) before now result (spelled_at set prefixes options to meaning)) appended
 
 -- the text of a level for an EPC is the spelling of its meaning
-recoded_spelled : (set : TableRows) (prefixes : List PrefixEntry) (options : Options) (to : LevelName) (epc : Epc) (identity : Elements) (answer : Result (List ℕ) Reason) → IsShaped set → IsOfSet set epc → IsLaidOut set epc identity → IsRecoded set options to epc identity answer → IsSpelling set prefixes options (target_at to) (epc_meaning epc identity) answer
+recoded_spelled : (set : TableRows) (prefixes : List PrefixEntry) (options : Options) (to : LevelName) (epc : Epc) (identity : Elements) (answer : Result (List ℕ) Reason)
+    → IsShaped set → IsOfSet set epc → IsLaidOut set epc identity → IsRecoded set options to epc identity answer
+    → IsSpelling set prefixes options (target_at to) (epc_meaning epc identity) answer
 recoded_spelled set prefixes options to epc identity answer shaped of laid written =
     let meaning = epc_meaning epc identity in
     let back = own_epc set prefixes options epc identity shaped of laid to in
     spelled_at set prefixes options to meaning answer (of_first (λ tagged. tagged ≡ with_tag options to meaning epc) (λ tagged. tagged ≡ epc_for set prefixes options to meaning) (λ tagged. Reworded write.Memory write_reason (WritesAs set to tagged)) answer (λ tagged is. is ∙ sym back) written)
 
-pub appended_recoded : {Done : Type 0} (set : TableRows) (prefixes : List PrefixEntry) (options : Options) (to : LevelName) (epc : Epc) (identity : Elements) (before now : List ℕ) (result : Result Done Reason) → IsShaped set → IsOfSet set epc → IsLaidOut set epc identity
-    → UnlessMemory result (AppendsText (IsRecoded set options to epc identity) before now result) → UnlessMemory result (AppendsText (IsSpelling set prefixes options (target_at to) (epc_meaning epc identity)) before now result)
+pub appended_recoded : {Done : Type 0} (set : TableRows) (prefixes : List PrefixEntry) (options : Options) (to : LevelName) (epc : Epc) (identity : Elements) (before now : List ℕ) (result : Result Done Reason)
+    → IsShaped set → IsOfSet set epc → IsLaidOut set epc identity
+    → UnlessMemory result (AppendsText (IsRecoded set options to epc identity) before now result) → UnlessMemory result
+    (AppendsText (IsSpelling set prefixes options (target_at to) (epc_meaning epc identity)) before now result)
 appended_recoded set prefixes options to epc identity before now result shaped of laid appended =
     unless_map result (appends_map (IsRecoded set options to epc identity) (IsSpelling set prefixes options (target_at to) (epc_meaning epc identity)) before now result (λ answer written. recoded_spelled set prefixes options to epc identity answer shaped of laid written)) appended
 
 -- the text of an identity is the spelling of a meaning with it
-pub pairs_spelled : (set : TableRows) (prefixes : List PrefixEntry) (options : Options) (to : PairsForm) (meaning : Meaning) → IsSpelling set prefixes options (pairs_target to) meaning (Ok (pairs_text options to meaning.identity))
+pub pairs_spelled : (set : TableRows) (prefixes : List PrefixEntry) (options : Options) (to : PairsForm) (meaning : Meaning)
+    → IsSpelling set prefixes options (pairs_target to) meaning (Ok (pairs_text options to meaning.identity))
 pairs_spelled set prefixes options pairs.Raw meaning = refl
 pairs_spelled set prefixes options pairs.Bracketed meaning = refl
 pairs_spelled set prefixes options pairs.Link meaning = refl
@@ -196,11 +209,13 @@ pairs_spelled set prefixes options pairs.Canon meaning = refl
 
 -- ---- the identity of an EPC has no more than its key and its serial
 
-own_kept : (code : List ℕ) (pair : Pair) (none : Bool) → pair.code ≡ code → filter (is_coded code) (if none then [] else pair ∷ []) ≡ (if none then [] else pair ∷ [])
+own_kept : (code : List ℕ) (pair : Pair) (none : Bool) → pair.code ≡ code
+    → filter (is_coded code) (if none then [] else pair ∷ []) ≡ (if none then [] else pair ∷ [])
 own_kept code pair true same = refl
 own_kept code pair false same = rw (same, same_bytes code) refl
 
-serial_kept : (ais : List AiRow) (at : SerialAt) (key : Pair) (serial : List ℕ) → key_and_serial at (elements_with key (serial_elements ais at serial) []) ≡ elements_with key (serial_elements ais at serial) []
+serial_kept : (ais : List AiRow) (at : SerialAt) (key : Pair) (serial : List ℕ)
+    → key_and_serial at (elements_with key (serial_elements ais at serial) []) ≡ elements_with key (serial_elements ais at serial) []
 serial_kept ais Nowhere key serial = refl
 serial_kept ais Tail key serial = refl
 serial_kept ais (Ai code) key serial =
@@ -212,7 +227,8 @@ narrowed_laid set epc identity shaped laid =
     let found : find (targets.has_key laid.kind.key) set.kinds ≡ Some laid.kind = find_at_place (targets.has_key laid.kind.key) set.kinds epc.kind laid.kind first laid.named in
     rw (laid.laid, found) (serial_kept set.ais laid.kind.serial (key_pair set.ais laid.kind (fields_in epc)) (fields_in epc).serial)
 
-kept_laid : (set : TableRows) (keys_only : Bool) (epc : Epc) (identity : Elements) → IsShaped set → IsLaidOut set epc identity → epc_meaning epc identity ≡ kept set keys_only (epc_meaning epc identity)
+kept_laid : (set : TableRows) (keys_only : Bool) (epc : Epc) (identity : Elements) → IsShaped set → IsLaidOut set epc identity
+    → epc_meaning epc identity ≡ kept set keys_only (epc_meaning epc identity)
 kept_laid set true epc identity shaped laid = ap (epc_meaning epc) (sym (narrowed_laid set epc identity shaped laid))
 kept_laid set false epc identity shaped laid = refl
 
@@ -225,7 +241,8 @@ form_read level.Tag = refl
 form_read level.Pure = refl
 
 -- what is appended as the spelling of the EPC of a text is the translation of the text, also if only keys are kept
-pub translated : {Done : Type 0} (set : TableRows) (prefixes : List PrefixEntry) (options : Options) (from : LevelName) (to : Target) (text : List ℕ) (epc : Epc) (before now : List ℕ) (result : Result Done Reason) → IsShaped set → length text ≤ longest_text → ReadsText set from text (Ok epc) → IsOfSet set epc
+pub translated : {Done : Type 0} (set : TableRows) (prefixes : List PrefixEntry) (options : Options) (from : LevelName) (to : Target) (text : List ℕ) (epc : Epc) (before now : List ℕ) (result : Result Done Reason)
+    → IsShaped set → length text ≤ longest_text → ReadsText set from text (Ok epc) → IsOfSet set epc
     → ((identity : Elements) → IsLaidOut set epc identity → UnlessMemory result (AppendsText (IsSpelling set prefixes options to (epc_meaning epc identity)) before now result))
     → UnlessMemory result (AppendsText (IsTranslation set prefixes options (form_at from) to text) before now result)
 translated set prefixes options from to text epc before now result shaped few read of spelled =
@@ -237,13 +254,18 @@ translated set prefixes options from to text epc before now result shaped few re
     then_appended (IsRead set (form_at from) text) (λ m. IsSpelling set prefixes options to (kept set options.keys_only m)) meaning before now result (short few (means_at set from text epc elements read laid)) whole
 
 -- why a text is not read is why it has no translation
-pub long_rejected : (set : TableRows) (prefixes : List PrefixEntry) (options : Options) (from : LevelName) (to : Target) (text : List ℕ) → longest_text < length text → IsTranslation set prefixes options (form_at from) to text (Err Long)
+pub long_rejected : (set : TableRows) (prefixes : List PrefixEntry) (options : Options) (from : LevelName) (to : Target) (text : List ℕ)
+    → longest_text < length text → IsTranslation set prefixes options (form_at from) to text (Err Long)
 long_rejected set prefixes options from to text more = rejects Long (too_long more refl) refl
 
-not_read : (set : TableRows) (prefixes : List PrefixEntry) (options : Options) (from : LevelName) (to : Target) (text : List ℕ) (error : EpcFault) → length text ≤ longest_text → ReadsText set from text (Err error) → UnlessMemory {X = List ℕ} (Err (epc_reason error)) (IsTranslation set prefixes options (form_at from) to text (Err (epc_reason error)))
+not_read : (set : TableRows) (prefixes : List PrefixEntry) (options : Options) (from : LevelName) (to : Target) (text : List ℕ)
+    (error : EpcFault) → length text ≤ longest_text → ReadsText set from text (Err error) → UnlessMemory {X = List ℕ}
+    (Err (epc_reason error)) (IsTranslation set prefixes options (form_at from) to text (Err (epc_reason error)))
 not_read set prefixes options from to text error few read =
     unless_rejected Meaning (List ℕ) (epc_reason error) (λ said. rejects (epc_reason error) (short few said) refl) (none_read set from text error read)
 
-pub not_appended : (set : TableRows) (prefixes : List PrefixEntry) (options : Options) (from : LevelName) (to : Target) (text before : List ℕ) (error : EpcFault) → length text ≤ longest_text → ReadsText set from text (Err error) → UnlessMemory {X = Unit {0}} (Err (epc_reason error)) (AppendsText {Done = Unit {0}} (IsTranslation set prefixes options (form_at from) to text) before before (Err (epc_reason error)))
+pub not_appended : (set : TableRows) (prefixes : List PrefixEntry) (options : Options) (from : LevelName) (to : Target)
+    (text before : List ℕ) (error : EpcFault) → length text ≤ longest_text → ReadsText set from text (Err error)
+    → UnlessMemory {X = Unit {0}} (Err (epc_reason error)) (AppendsText {Done = Unit {0}} (IsTranslation set prefixes options (form_at from) to text) before before (Err (epc_reason error)))
 not_appended set prefixes options from to text before error few read =
     unless_rejected (List ℕ) (Unit {0}) {B = AppendsText {Done = Unit {0}} (IsTranslation set prefixes options (form_at from) to text) before before (Err (epc_reason error))} (epc_reason error) (λ said. (refl, said)) (not_read set prefixes options from to text error few read)

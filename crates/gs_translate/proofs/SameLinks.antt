@@ -40,10 +40,12 @@ answered : (set : TableRows) (form : Form) (text link : List ℕ) → IsAnswer s
 answered set form text link (rejects error read e) = absurd (let f : Ok link ≡ Err error = e in cc)
 answered set form text link (goes_on meaning read e) = record { meaning = meaning; read = read; is = let f : Ok link ≡ Ok (canonical_link meaning.identity) = e in cc }
 
-pub same_meaning : (set : TableRows) (form : Form) (text : List ℕ) (one two : Meaning) → IsShaped set → IsRead set form text (Ok one) → IsRead set form text (Ok two) → one ≡ two
+pub same_meaning : (set : TableRows) (form : Form) (text : List ℕ) (one two : Meaning) → IsShaped set → IsRead set form text (Ok one)
+    → IsRead set form text (Ok two) → one ≡ two
 same_meaning set form text one two shaped a b = let e : Ok one ≡ Ok two = one_read set form text (shaped_suits_one set form shaped) (Ok one) (Ok two) a b in cc
 
-pub equal_links : (set : TableRows) (form other : Form) (text given link wanted : List ℕ) → IsShaped set → IsAnswer set form text (Ok link) → IsAnswer set other given (Ok wanted) → (link ≡ wanted) ↔ NameOne set form text other given
+pub equal_links : (set : TableRows) (form other : Form) (text given link wanted : List ℕ) → IsShaped set → IsAnswer set form text (Ok link)
+    → IsAnswer set other given (Ok wanted) → (link ≡ wanted) ↔ NameOne set form text other given
 equal_links set form other text given link wanted shaped a b =
     let one = answered set form text link a in
     let two = answered set other given wanted b in
@@ -52,7 +54,8 @@ equal_links set form other text given link wanted shaped a b =
     let each = one_link_each set.ais (ais_kept set shaped) one.meaning.identity two.meaning.identity made made' in (
       (λ e m n r s.
           let same = each.1 (sym one.is ∙ e ∙ two.is) in
-          ap (λ (x : Meaning). x.identity) (same_meaning set form text m one.meaning shaped r one.read) ∙ same ∙ ap (λ (x : Meaning). x.identity) (same_meaning set other given two.meaning n shaped two.read s)),
+          ap (λ (x : Meaning). x.identity) (same_meaning set form text m one.meaning shaped r one.read) ∙ same ∙ ap
+          (λ (x : Meaning). x.identity) (same_meaning set other given two.meaning n shaped two.read s)),
       (λ same. one.is ∙ each.0 (same one.meaning two.meaning one.read two.read) ∙ sym two.is),
     )
 
@@ -62,13 +65,18 @@ all_kept : (set : TableRows) (keys_only : Bool) (meaning : Meaning) → keys_onl
 all_kept set true meaning e = absurd (cc)
 all_kept set false meaning e = refl
 
-spelled_so : (set : TableRows) (prefixes : List PrefixEntry) (options : Options) (form : Form) (text : List ℕ) (answer : Result (List ℕ) Reason) → options.keys_only ≡ false → IsTranslation set prefixes options form Canon text answer → IsAnswer set form text answer
+spelled_so : (set : TableRows) (prefixes : List PrefixEntry) (options : Options) (form : Form) (text : List ℕ) (answer : Result (List ℕ) Reason)
+    → options.keys_only ≡ false → IsTranslation set prefixes options form Canon text answer → IsAnswer set form text answer
 spelled_so set prefixes options form text answer all (rejects error read e) = rejects error read e
-spelled_so set prefixes options form text answer all (goes_on meaning read e) = goes_on meaning read (subst (λ (m : Meaning). IsCanonical m answer) (all_kept set options.keys_only meaning all) e)
+spelled_so set prefixes options form text answer all (goes_on meaning read e) = goes_on meaning read
+    (subst (λ (m : Meaning). IsCanonical m answer) (all_kept set options.keys_only meaning all) e)
 
-answered_so : (set : TableRows) (prefixes : List PrefixEntry) (options : Options) (form : Form) (text : List ℕ) (answer : Result (List ℕ) Reason) → options.keys_only ≡ false → IsAnswer set form text answer → IsTranslation set prefixes options form Canon text answer
+answered_so : (set : TableRows) (prefixes : List PrefixEntry) (options : Options) (form : Form) (text : List ℕ) (answer : Result (List ℕ) Reason)
+    → options.keys_only ≡ false → IsAnswer set form text answer → IsTranslation set prefixes options form Canon text answer
 answered_so set prefixes options form text answer all (rejects error read e) = rejects error read e
-answered_so set prefixes options form text answer all (goes_on meaning read e) = goes_on meaning read (subst (λ (m : Meaning). IsCanonical m answer) (sym (all_kept set options.keys_only meaning all)) e)
+answered_so set prefixes options form text answer all (goes_on meaning read e) = goes_on meaning read
+    (subst (λ (m : Meaning). IsCanonical m answer) (sym (all_kept set options.keys_only meaning all)) e)
 
-pub canonical_translation : (set : TableRows) (prefixes : List PrefixEntry) (options : Options) (form : Form) (text : List ℕ) (answer : Result (List ℕ) Reason) → options.keys_only ≡ false → IsTranslation set prefixes options form Canon text answer ↔ IsAnswer set form text answer
+pub canonical_translation : (set : TableRows) (prefixes : List PrefixEntry) (options : Options) (form : Form) (text : List ℕ) (answer : Result (List ℕ) Reason)
+    → options.keys_only ≡ false → IsTranslation set prefixes options form Canon text answer ↔ IsAnswer set form text answer
 canonical_translation set prefixes options form text answer all = (spelled_so set prefixes options form text answer all, answered_so set prefixes options form text answer all)

@@ -22,11 +22,7 @@ use Rattle.gs_translate.specs.StepsSupport.{HasSome}
 use Rattle.gs_translate.specs.Translations.{write_reason}
 use Rattle.gs_translate.proofs.StepLaws.{some_reworded}
 use Rattle.gs_translate.proofs.OneWriting.{Says, not_says, says_of, same_info, same_items}
-
--- an optional value is present or absent
-one_or_none : {X : Type 0} (o : Option X) → ((x : X) × (o ≡ Some x)) ⊎ (o ≡ None)
-one_or_none (Some x) = inl (x, refl)
-one_or_none None = inr refl
+use Rattle.gs_chars.proofs.TruthsAndLists.{one_or_none}
 
 -- ---- the items of one option
 
@@ -35,13 +31,16 @@ abbrev Judged : List Item → List (List ℕ) → ℕ → Type 0
 Judged items values n = AreHeldBefore items values n ⊎ ((k : ℕ) × (why : Why) × IsFirstRejection items values k why)
 
 module _ (items : List Item) (values : List (List ℕ)) where
-  one_more : (n : ℕ) → AreHeldBefore items values n → ((item : Item) (value : List ℕ) → slice_get items n ≡ Some item → slice_get values n ≡ Some value → why_not item value ≡ None) → AreHeldBefore items values (suc n)
+  one_more : (n : ℕ) → AreHeldBefore items values n
+      → ((item : Item) (value : List ℕ) → slice_get items n ≡ Some item → slice_get values n ≡ Some value → why_not item value ≡ None)
+      → AreHeldBefore items values (suc n)
   one_more n held here k item value less at of = elim (cases_eq k n) as (λ _. why_not item value ≡ None) [
     | inl same ↦ here item value (ap (slice_get items) (sym same) ∙ at) (ap (slice_get values) (sym same) ∙ of)
     | inr other ↦ held k item value (omega arith) at of
   ]
 
-  judge_here : (n : ℕ) → AreHeldBefore items values n → ((item : Item) × (slice_get items n ≡ Some item)) ⊎ (slice_get items n ≡ None) → ((value : List ℕ) × (slice_get values n ≡ Some value)) ⊎ (slice_get values n ≡ None) → Judged items values (suc n)
+  judge_here : (n : ℕ) → AreHeldBefore items values n → ((item : Item) × (slice_get items n ≡ Some item)) ⊎ (slice_get items n ≡ None)
+      → ((value : List ℕ) × (slice_get values n ≡ Some value)) ⊎ (slice_get values n ≡ None) → Judged items values (suc n)
   judge_here n held (inr none) value = inl (one_more n held (λ item value at of. absurd (let both : None ≡ Some item = sym none ∙ at in cc)))
   judge_here n held (inl item) (inr none) = inl (one_more n held (λ item value at of. absurd (let both : None ≡ Some value = sym none ∙ of in cc)))
   judge_here n held (inl item) (inl value) = by (one_or_none (why_not item.0 value.0))
@@ -67,10 +66,13 @@ module _ (items : List Item) (values : List (List ℕ)) where
 
 module _ (set : TableRows) (level : LevelName) (epc : Epc) where
   -- a candidate holds every field, or does not hold one
-  try_candidate : (i : ℕ) (candidate : Candidate set level epc i) → HoldsAll set level epc candidate ⊎ ((field : Field) × (why : Why) × Rejects set level epc candidate field why)
-  try_candidate i candidate = by (judged candidate.items (values_for level epc candidate.info) (length candidate.items)) (one_or_none (left_out candidate.info.fields epc))
+  try_candidate : (i : ℕ) (candidate : Candidate set level epc i)
+      → HoldsAll set level epc candidate ⊎ ((field : Field) × (why : Why) × Rejects set level epc candidate field why)
+  try_candidate i candidate = by (judged candidate.items (values_for level epc candidate.info) (length candidate.items))
+      (one_or_none (left_out candidate.info.fields epc))
     where
-      by : Judged candidate.items (values_for level epc candidate.info) (length candidate.items) → ((field : Field) × (left_out candidate.info.fields epc ≡ Some field)) ⊎ (left_out candidate.info.fields epc ≡ None)
+      by : Judged candidate.items (values_for level epc candidate.info) (length candidate.items)
+          → ((field : Field) × (left_out candidate.info.fields epc ≡ Some field)) ⊎ (left_out candidate.info.fields epc ≡ None)
           → HoldsAll set level epc candidate ⊎ ((field : Field) × (why : Why) × Rejects set level epc candidate field why)
       by (inr rejected) left = inr (field_at candidate.info.fields rejected.0, rejected.1, inl (record { k = rejected.0; first = rejected.2; stands_for = refl }))
       by (inl held) (inl left) = inr (left.0, Length, inr (record { held = held; left = left.1; size = refl }))
@@ -79,7 +81,9 @@ module _ (set : TableRows) (level : LevelName) (epc : Epc) where
   candidate_here : (i : ℕ) → Candidate set level epc i ⊎ (Candidate set level epc i → ⊥)
   candidate_here i = by (one_or_none (slice_get (options_of level set) i)) (one_or_none (slice_get (level_rows level set).info i))
     where
-      passes : (items : List Item) (info : OptInfo) (b : Bool) → slice_get (options_of level set) i ≡ Some items → slice_get (level_rows level set).info i ≡ Some info → is_candidate level epc info ≡ b → Candidate set level epc i ⊎ (Candidate set level epc i → ⊥)
+      passes : (items : List Item) (info : OptInfo) (b : Bool) → slice_get (options_of level set) i ≡ Some items
+          → slice_get (level_rows level set).info i ≡ Some info → is_candidate level epc info ≡ b
+          → Candidate set level epc i ⊎ (Candidate set level epc i → ⊥)
       passes items info true of said p = inl (record { items = items; info = info; of_level = of; said = said; passes = p })
       passes items info false of said p = inr (λ candidate.
           let both : Some info ≡ Some candidate.info = sym said ∙ candidate.said in
@@ -88,7 +92,9 @@ module _ (set : TableRows) (level : LevelName) (epc : Epc) where
           let r : true ≡ false = sym candidate.passes ∙ q in
           cc)
 
-      by : ((items : List Item) × (slice_get (options_of level set) i ≡ Some items)) ⊎ (slice_get (options_of level set) i ≡ None) → ((info : OptInfo) × (slice_get (level_rows level set).info i ≡ Some info)) ⊎ (slice_get (level_rows level set).info i ≡ None) → Candidate set level epc i ⊎ (Candidate set level epc i → ⊥)
+      by : ((items : List Item) × (slice_get (options_of level set) i ≡ Some items)) ⊎ (slice_get (options_of level set) i ≡ None)
+          → ((info : OptInfo) × (slice_get (level_rows level set).info i ≡ Some info)) ⊎ (slice_get (level_rows level set).info i ≡ None)
+          → Candidate set level epc i ⊎ (Candidate set level epc i → ⊥)
       by (inr none) info = inr (λ candidate. let both : None ≡ Some candidate.items = sym none ∙ candidate.of_level in cc)
       by (inl items) (inr none) = inr (λ candidate. let both : None ≡ Some candidate.info = sym none ∙ candidate.said in cc)
       by (inl items) (inl info) = passes items.0 info.0 (is_candidate level epc info.0) items.1 info.1 refl
@@ -110,7 +116,8 @@ module _ (set : TableRows) (level : LevelName) (epc : Epc) where
     rejected : Refused n → Tried n
 
   -- a candidate that a rejection names does not hold every field
-  not_all : (i j : ℕ) (one : Candidate set level epc i) (other : Candidate set level epc j) (field : Field) (why : Why) → i ≡ j → Rejects set level epc one field why → HoldsAll set level epc other → ⊥
+  not_all : (i j : ℕ) (one : Candidate set level epc i) (other : Candidate set level epc j) (field : Field) (why : Why) → i ≡ j
+      → Rejects set level epc one field why → HoldsAll set level epc other → ⊥
   not_all i j one other field why same rejects holds =
       let items = same_items set level epc i j one other same in
       let info = same_info set level epc i j one other same in
@@ -123,9 +130,11 @@ module _ (set : TableRows) (level : LevelName) (epc : Epc) where
   none_before n (no_candidate none) = inr (λ i candidate less holds. none i less candidate)
   none_before n (rejected r) = inr r.none
 
-  with_candidate : (n : ℕ) (candidate : Candidate set level epc n) → NoneHoldsBefore set level epc n → HoldsAll set level epc candidate ⊎ ((field : Field) × (why : Why) × Rejects set level epc candidate field why) → Tried (suc n)
+  with_candidate : (n : ℕ) (candidate : Candidate set level epc n) → NoneHoldsBefore set level epc n
+      → HoldsAll set level epc candidate ⊎ ((field : Field) × (why : Why) × Rejects set level epc candidate field why) → Tried (suc n)
   with_candidate n candidate none (inl holds) =
-      writes (text_on level (written candidate.items (values_for level epc candidate.info))) (record { option = n; candidate = candidate; holds = holds; first = none; text_is = refl })
+      writes (text_on level (written candidate.items (values_for level epc candidate.info)))
+      (record { option = n; candidate = candidate; holds = holds; first = none; text_is = refl })
   with_candidate n candidate none (inr r) = rejected (record {
     option = n;
     candidate = candidate;

@@ -6,7 +6,8 @@ use Rattle.gs_translate.specs.declared.reason.Reason.TheVariants.{CannotHold, El
 use Rattle.gs_translate.specs.Steps.{AppendsText, Reworded, Then, UnlessMemory, goes_on, rejects, reworded}
 use Rattle.gs_translate.specs.StepsSupport.{HasOne, HasSome}
 
-pub then_one : {A B E : Type 0} (First : Result A E → Type 0) (Next : A → Result B E → Type 0) → HasOne First → ((a : A) → HasOne (Next a)) → HasOne (Then First Next)
+pub then_one : {A B E : Type 0} (First : Result A E → Type 0) (Next : A → Result B E → Type 0) → HasOne First → ((a : A) → HasOne (Next a))
+    → HasOne (Then First Next)
 then_one First Next first next one other (rejects error f e) (rejects error' f' e') =
     let same : Err error ≡ Err error' = first (Err error) (Err error') f f' in
     let errors : error ≡ error' = cc in
@@ -21,11 +22,13 @@ then_one First Next first next one other (goes_on a f n) (goes_on a' f' n') =
     let moved : Next a other = rw is n' in
     next a one other n moved
 
-then_some_from : {A B E : Type 0} (First : Result A E → Type 0) (Next : A → Result B E → Type 0) (answer : Result A E) → First answer → ((a : A) → First (Ok a) → HasSome (Next a)) → HasSome (Then First Next)
+then_some_from : {A B E : Type 0} (First : Result A E → Type 0) (Next : A → Result B E → Type 0) (answer : Result A E) → First answer
+    → ((a : A) → First (Ok a) → HasSome (Next a)) → HasSome (Then First Next)
 then_some_from First Next (Ok a) f next = let n = next a f in (n.0, goes_on a f n.1)
 then_some_from First Next (Err error) f next = (Err error, rejects error f refl)
 
-pub then_some : {A B E : Type 0} (First : Result A E → Type 0) (Next : A → Result B E → Type 0) → HasSome First → ((a : A) → First (Ok a) → HasSome (Next a)) → HasSome (Then First Next)
+pub then_some : {A B E : Type 0} (First : Result A E → Type 0) (Next : A → Result B E → Type 0) → HasSome First
+    → ((a : A) → First (Ok a) → HasSome (Next a)) → HasSome (Then First Next)
 then_some First Next first next = then_some_from First Next first.0 first.1 next
 
 -- an answer whose reason is reworded is the given one
@@ -34,7 +37,8 @@ said_ok say (Ok own) a e = let same : own ≡ a = (let f : Ok a ≡ Ok own = e i
 said_ok say (Err error) a e = absurd (let f : Ok a ≡ Err (say error) = e in cc)
 
 module _ {A E R : Type 0} (memory : E) (say : E → R) (Answer : Result A E → Type 0) where
-  pub one_reworded : ((one other : Result A E) → one ≢ Err memory → other ≢ Err memory → Answer one → Answer other → one ≡ other) → HasOne (Reworded memory say Answer)
+  pub one_reworded : ((one other : Result A E) → one ≢ Err memory → other ≢ Err memory → Answer one → Answer other → one ≡ other)
+      → HasOne (Reworded memory say Answer)
   one_reworded unique one other a b = a.is ∙ ap (reworded say) (unique a.given b.given a.enough b.enough a.is_given b.is_given) ∙ sym b.is
 
   pub some_reworded : ((given : Result A E) × (given ≢ Err memory) × Answer given) → HasSome (Reworded memory say Answer)
@@ -98,15 +102,20 @@ unless_rejected X Y Memory f a = tt
 
 -- ---- texts that are appended
 
-pub appends_map : {Done : Type 0} (Answer Other : Result (List ℕ) Reason → Type 0) (before now : List ℕ) (result : Result Done Reason) → ((answer : Result (List ℕ) Reason) → Answer answer → Other answer) → AppendsText Answer before now result → AppendsText Other before now result
+pub appends_map : {Done : Type 0} (Answer Other : Result (List ℕ) Reason → Type 0) (before now : List ℕ) (result : Result Done Reason)
+    → ((answer : Result (List ℕ) Reason) → Answer answer → Other answer) → AppendsText Answer before now result
+    → AppendsText Other before now result
 appends_map Answer Other before now (Ok done) f a = (a.0, a.1, f (Ok a.0) a.2)
 appends_map Answer Other before now (Err reason) f a = (a.0, f (Err reason) a.1)
 
 -- the text that a later step appends is appended by the steps together
-pub then_appended : {A Done : Type 0} (First : Result A Reason → Type 0) (Next : A → Result (List ℕ) Reason → Type 0) (a : A) (before now : List ℕ) (result : Result Done Reason) → First (Ok a) → UnlessMemory result (AppendsText (Next a) before now result) → UnlessMemory result (AppendsText (Then First Next) before now result)
+pub then_appended : {A Done : Type 0} (First : Result A Reason → Type 0) (Next : A → Result (List ℕ) Reason → Type 0) (a : A) (before now : List ℕ) (result : Result Done Reason)
+    → First (Ok a) → UnlessMemory result (AppendsText (Next a) before now result)
+    → UnlessMemory result (AppendsText (Then First Next) before now result)
 then_appended First Next a before now result first next =
     unless_map result (appends_map (Next a) (Then First Next) before now result (λ answer is. goes_on a first is)) next
 
 -- text appended to nothing is the answer
-pub appended_alone : (Answer : Result (List ℕ) Reason → Type 0) (before now text whole : List ℕ) → before ≡ [] → now ≡ before ++ text → whole ≡ now → Answer (Ok text) → Answer (Ok whole)
+pub appended_alone : (Answer : Result (List ℕ) Reason → Type 0) (before now text whole : List ℕ) → before ≡ [] → now ≡ before ++ text
+    → whole ≡ now → Answer (Ok text) → Answer (Ok whole)
 appended_alone Answer before now text whole none appended is answer = rw (is, appended, none) answer

@@ -3,7 +3,7 @@ use Rattle.std.proofs.Common.{◌≡◌, ℕ, Bool, true, false, not, List, Opti
 use Rattle.std.specs.Prelude.{Result, if◌then◌else◌}
 use Rattle.std.specs.List.{list_any}
 use Rattle.std.specs.Option.{option_map, option_map_or, option_or}
-use Rattle.std.proofs.lemmas.Bool.{eqb-true}
+use Rattle.std.proofs.lemmas.Bool.{eqb-true, not-true}
 use Rattle.std.proofs.lemmas.List.Elements.{filter_passes}
 use Rattle.std.proofs.lemmas.List.Quantifiers.{position-Some}
 use Rattle.std.proofs.lemmas.Option.{get_or_from_slice_get}
@@ -11,7 +11,7 @@ use Rattle.gs_ai.specs.declared.pair.Pair.{Pair}
 use Rattle.gs_ai.specs.declared.row.AiRow.{AiRow}
 use Rattle.gs_ai.specs.Values.{has_code}
 use Rattle.gs_ai.proofs.RowLemmas.{and_left, and_right}
-use Rattle.gs_chars.proofs.TruthsAndLists.{equal_bytes, false_from_not, place_left, place_right, true_or_false}
+use Rattle.gs_chars.proofs.TruthsAndLists.{equal_bytes, place_left, place_right, true_or_false}
 use Rattle.gs_tables_document.specs.declared.document.Kind.{Kind}
 use Rattle.gs_tables_document.specs.declared.document.SerialAt.{SerialAt}
 use Rattle.gs_tables_document.specs.declared.document.SerialAt.TheVariants.{Nowhere, Tail, Ai}
@@ -60,7 +60,8 @@ use Rattle.gs_translate.proofs.SameLinks.{same_meaning}
 
 -- ---- steps that are all made
 
-both_steps : {A B : Type 0} (first : Result A Reason) (next : A → Result B Reason) (b : B) → and_then first next ≡ Ok b → (a : A) × (first ≡ Ok a) × (next a ≡ Ok b)
+both_steps : {A B : Type 0} (first : Result A Reason) (next : A → Result B Reason) (b : B) → and_then first next ≡ Ok b
+    → (a : A) × (first ≡ Ok a) × (next a ≡ Ok b)
 both_steps (Ok a) next b e = (a, refl, e)
 both_steps (Err reason) next b e = absurd (let f : Err reason ≡ Ok b = e in cc)
 
@@ -104,7 +105,9 @@ own_serial Nowhere pair e = absurd (let f : true ≡ false = e in cc)
 own_serial Tail pair e = absurd (let f : true ≡ false = e in cc)
 
 -- the code of an attribute is not among those that the key's row lists
-not_listed : (ais : List AiRow) (identity : Elements) (row : AiRow) → IsMadeWith ais identity → find (has_code identity.key.code) ais ≡ Some row → (i : ℕ) (pair : Pair) → slice_get identity.attributes i ≡ Some pair → list_any (bytes_eq pair.code) row.qualifiers ≡ false
+not_listed : (ais : List AiRow) (identity : Elements) (row : AiRow) → IsMadeWith ais identity
+    → find (has_code identity.key.code) ais ≡ Some row → (i : ℕ) (pair : Pair) → slice_get identity.attributes i ≡ Some pair
+    → list_any (bytes_eq pair.code) row.qualifiers ≡ false
 unfolding elements_of
 not_listed ais identity row made found i pair at =
     let pairs = counted ais (pairs_of identity) in
@@ -115,12 +118,13 @@ not_listed ais identity row made found i pair at =
     let here : slice_get (ascending (filter test pairs)) i ≡ Some pair = ap (λ (ps : List Pair). slice_get ps i) (sym attributes) ∙ at in
     let own = own_ascending (filter test pairs) i pair here in
     let other : test pair ≡ true = found_each (λ p. test p ≡ true) (λ (p : Pair). bytes_eq pair.code p.code) (filter test pairs) pair own (each_from_all (λ p. test p ≡ true) (filter test pairs) (filter_passes test pairs)) in
-    let apart = false_from_not (list_any (bytes_eq pair.code) (listed ais facts.key)) (and_right _ _ other) in
+    let apart = not-true (list_any (bytes_eq pair.code) (listed ais facts.key)) (and_right _ _ other) in
     let row_is : find (has_code facts.key.code) ais ≡ Some row = rw key at found in
     let lists : listed ais facts.key ≡ row.qualifiers = rw row_is refl in
     rw lists at apart
 
-of_kind : (set : TableRows) (identity : Elements) (kind : ℕ) (is : IsOfKindAt set identity kind) → KeptKind set.ais is.row → IsMadeWith set.ais identity → IsOfKind is.row identity
+of_kind : (set : TableRows) (identity : Elements) (kind : ℕ) (is : IsOfKindAt set identity kind) → KeptKind set.ais is.row
+    → IsMadeWith set.ais identity → IsOfKind is.row identity
 of_kind set identity kind is kept made =
     let each = not_found (λ (pair : Pair). not (is_serial is.row.serial pair)) _ is.alone in
     let found : find (has_code identity.key.code) set.ais ≡ Some kept.row = rw is.key kept.found in
@@ -142,7 +146,8 @@ kind_of_fields : (kind n : ℕ) (fields : Option KeyFields) (epc : Epc) → opti
 kind_of_fields kind n None epc e = absurd (let f : None ≡ Some epc = e in cc)
 kind_of_fields kind n (Some fields) epc e = let same : epc_of_key kind n fields ≡ epc = (let f : Some (epc_of_key kind n fields) ≡ Some epc = e in cc) in ap (λ (x : Epc). x.kind) (sym same)
 
-kind_taken : (set : TableRows) (kind n : ℕ) (row : Kind) (identity : Elements) (epc : Epc) → slice_get set.kinds kind ≡ Some row → epc_at set kind identity n ≡ Some epc → epc.kind ≡ kind
+kind_taken : (set : TableRows) (kind n : ℕ) (row : Kind) (identity : Elements) (epc : Epc) → slice_get set.kinds kind ≡ Some row
+    → epc_at set kind identity n ≡ Some epc → epc.kind ≡ kind
 kind_taken set kind n row identity epc named e = kind_of_fields kind n (take_apart set.ais row identity n) epc (rw named at e)
 
 -- ---- the filter value and the encoding
@@ -174,7 +179,9 @@ record IsTaken (set : TableRows) (name : LevelName) (identity : Elements) (epc :
   is : epc ≡ record fields { encoding = encoding; filter = filter }
   has : HasFilterOn name filter
 
-taken_of : (set : TableRows) (prefixes : List PrefixEntry) (options : Options) (name : LevelName) (meaning : Meaning) (epc : Epc) → FitsFilter options.filter → FitsFilter meaning.filter → epc_for set prefixes options name meaning ≡ Ok epc → IsTaken set name meaning.identity epc
+taken_of : (set : TableRows) (prefixes : List PrefixEntry) (options : Options) (name : LevelName) (meaning : Meaning) (epc : Epc)
+    → FitsFilter options.filter → FitsFilter meaning.filter → epc_for set prefixes options name meaning ≡ Ok epc
+    → IsTaken set name meaning.identity epc
 taken_of set prefixes options name meaning epc own fits e =
     let kind = both_steps (kind_for set meaning.identity) (λ k. and_then (length_for set prefixes options meaning k) (λ n. and_then (else_rejected (Missing Serial) (epc_at set k meaning.identity n)) (with_tag options name meaning))) epc e in
     let n = both_steps (length_for set prefixes options meaning kind.0) (λ n. and_then (else_rejected (Missing Serial) (epc_at set kind.0 meaning.identity n)) (with_tag options name meaning)) epc kind.2 in
@@ -202,7 +209,8 @@ record SaysAgain (set : TableRows) (name : LevelName) (text : List ℕ) (identit
   read : ReadsText set name text (Ok epc)
   laid : IsLaidOut set epc identity
 
-row_kept : (set : TableRows) (name : LevelName) (epc : Epc) (i : ℕ) (candidate : Candidate set name epc i) (row : Kind) → IsShaped set → slice_get set.kinds epc.kind ≡ Some row → KeptKind set.ais row
+row_kept : (set : TableRows) (name : LevelName) (epc : Epc) (i : ℕ) (candidate : Candidate set name epc i) (row : Kind) → IsShaped set
+    → slice_get set.kinds epc.kind ≡ Some row → KeptKind set.ais row
 row_kept set name epc i candidate row shaped named =
     let info = candidate.info in
     let kept = candidate_kept set name epc i candidate shaped in
@@ -211,7 +219,8 @@ row_kept set name epc i candidate row shaped named =
     let one : kept.kind ≡ row = cc in
     subst (λ (k : Kind). KeptKind set.ais k) one kept.of_kind
 
-says_again : (set : TableRows) (name : LevelName) (identity : Elements) (epc : Epc) (text : List ℕ) → IsLoaded set → IsMadeWith set.ais identity → IsTaken set name identity epc → Writes set name epc text → SaysAgain set name text identity
+says_again : (set : TableRows) (name : LevelName) (identity : Elements) (epc : Epc) (text : List ℕ) → IsLoaded set
+    → IsMadeWith set.ais identity → IsTaken set name identity epc → Writes set name epc text → SaysAgain set name text identity
 says_again set name identity epc text loaded made t writes =
     let shaped = loaded.shaped in
     let info = writes.candidate.info in
@@ -231,10 +240,12 @@ says_again set name identity epc text loaded made t writes =
 -- ---- spellings
 
 -- a text means the identity that an EPC is laid out to, which is read of it
-epc_means : (set : TableRows) (Reads : Result Epc EpcFault → Type 0) (epc : Epc) (identity : Elements) → Reads (Ok epc) → IsLaidOut set epc identity → Then (Reworded NoRoom NoEpc Reads) (MeansEpc set) (Ok (epc_meaning epc identity))
+epc_means : (set : TableRows) (Reads : Result Epc EpcFault → Type 0) (epc : Epc) (identity : Elements) → Reads (Ok epc)
+    → IsLaidOut set epc identity → Then (Reworded NoRoom NoEpc Reads) (MeansEpc set) (Ok (epc_meaning epc identity))
 epc_means set Reads epc identity read laid = goes_on epc (gives_ok NoRoom NoEpc Reads epc read) (identity, laid, refl)
 
-module _ (set : TableRows) (prefixes : List PrefixEntry) (options : Options) (from : Form) (text answer : List ℕ) (source : Meaning) (loaded : IsLoaded set) (in_order : AreInOrder options) (read : IsRead set from text (Ok source)) where
+module _ (set : TableRows) (prefixes : List PrefixEntry) (options : Options) (from : Form) (text answer : List ℕ) (source : Meaning)
+    (loaded : IsLoaded set) (in_order : AreInOrder options) (read : IsRead set from text (Ok source)) where
   abbrev narrow : Meaning
   narrow = kept set options.keys_only source
 
@@ -248,11 +259,14 @@ module _ (set : TableRows) (prefixes : List PrefixEntry) (options : Options) (fr
   spelling_kept : (to : Target) → IsTranslation set prefixes options from to text (Ok answer) → IsSpelling set prefixes options to narrow (Ok answer)
   spelling_kept to (rejects error first e) = absurd (let f : Ok answer ≡ Err error = e in cc)
   spelling_kept to (goes_on own first spelling) =
-      subst (λ (m : Meaning). IsSpelling set prefixes options to (kept set options.keys_only m) (Ok answer)) (same_meaning set from text own source loaded.shaped first read) spelling
+      subst (λ (m : Meaning). IsSpelling set prefixes options to (kept set options.keys_only m) (Ok answer))
+      (same_meaning set from text own source loaded.shaped first read) spelling
 
   said_again : (name : LevelName) → IsOfLevel set prefixes options name narrow (Ok answer) → SaysAgain set name answer narrow.identity
   said_again name (rejects error first e) = absurd (let f : Ok answer ≡ Err error = e in cc)
-  said_again name (goes_on epc first writes) = says_again set name narrow.identity epc answer loaded made (taken_of set prefixes options name narrow epc in_order.filter fits (sym first)) (given_ok write.Memory write_reason (WritesAs set name epc) answer writes)
+  said_again name (goes_on epc first writes) = says_again set name narrow.identity epc answer loaded made
+      (taken_of set prefixes options name narrow epc in_order.filter fits (sym first))
+      (given_ok write.Memory write_reason (WritesAs set name epc) answer writes)
 
   meant : (to : Target) → IsTranslation set prefixes options from to text (Ok answer) → MeansIdentity set to answer narrow.identity
   meant Hex t =
@@ -269,5 +283,7 @@ module _ (set : TableRows) (prefixes : List PrefixEntry) (options : Options) (fr
   meant Link t = means_again set prefixes options from Link text answer source loaded.shaped in_order tt read t
   meant Canon t = means_again set prefixes options from Canon text answer source loaded.shaped in_order tt read t
 
-pub each_means_again : (set : TableRows) (prefixes : List PrefixEntry) (options : Options) (from : Form) (to : Target) (text answer : List ℕ) (source : Meaning) → IsLoaded set → AreInOrder options → IsRead set from text (Ok source) → IsTranslation set prefixes options from to text (Ok answer) → MeansIdentity set to answer (kept set options.keys_only source).identity
+pub each_means_again : (set : TableRows) (prefixes : List PrefixEntry) (options : Options) (from : Form) (to : Target) (text answer : List ℕ) (source : Meaning)
+    → IsLoaded set → AreInOrder options → IsRead set from text (Ok source) → IsTranslation set prefixes options from to text (Ok answer)
+    → MeansIdentity set to answer (kept set options.keys_only source).identity
 each_means_again set prefixes options from to text answer source loaded in_order read t = meant set prefixes options from text answer source loaded in_order read to t

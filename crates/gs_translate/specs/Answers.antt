@@ -8,10 +8,10 @@ use Rattle.gs_translate.specs.declared.reason.Reason.{Reason}
 use Rattle.gs_translate.specs.Meanings.{IsRead}
 use Rattle.gs_translate.specs.Steps.{Then}
 
--- trusted, own: the canonical link of the meaning of a text
+-- trusted, own: holds if `answer` is the canonical link of `meaning`
 abbrev pub IsCanonical : Meaning → Result (List ℕ) Reason → Type 0
 IsCanonical meaning answer = answer ≡ Ok (canonical_link meaning.identity)
 
--- trusted, own: The answer to a text of a form: why it is rejected, otherwise the canonical link of its meaning.
+-- trusted, own: holds if `answer` is why `text` is rejected, or otherwise the canonical link of its meaning
 abbrev pub IsAnswer : TableRows → Form → List ℕ → Result (List ℕ) Reason → Type 0
 IsAnswer set form text answer = Then (IsRead set form text) IsCanonical answer

@@ -32,21 +32,23 @@ abbrev pub epc_meaning : Epc → Elements → Meaning
 epc_meaning epc elements =
     record { identity = elements; gcp = Some epc.gcp; filter = epc.filter; encoding = epc.encoding }
 
--- trusted, own: the meaning of an EPC, which names the elements that its key is laid out by
+-- trusted, own: holds if `answer` is the meaning of `epc`, which names the elements that its key is laid out by
 abbrev pub MeansEpc : TableRows → Epc → Result Meaning Reason → Type 0
 MeansEpc set epc answer = (elements : Elements) × IsLaidOut set epc elements × (answer ≡ Ok (epc_meaning epc elements))
 
 -- ---- of pairs
 
--- trusted, own: the reason is an error of an element
+-- trusted, own: holds if `reason` is an error of an element, for which `IsError` holds
 abbrev pub OfElement : (ElementFault → Type 0) → Reason → Type 0
 OfElement IsError reason = (error : ElementFault) × (reason ≡ Element error) × IsError error
 
--- trusted, own: the pairs of an element string as a barcode scanner transmits it, or why it has none
+-- trusted, own: holds if `answer` is the pairs of `text`, an element string that a barcode scanner transmits, or why it has
+-- none
 abbrev pub ReadsRaw : TableRows → List ℕ → Result (List Pair) Reason → Type 0
 ReadsRaw set text answer = MatchResult answer (IsRaw set.ais text) (OfElement (IsRawError set.ais text))
 
--- trusted, own: the pairs of a bracketed element string (human readable interpretation), or why it has none
+-- trusted, own: holds if `answer` is the pairs of the bracketed element string `text` (human readable interpretation), or why
+-- it has none
 abbrev pub ReadsBracketed : TableRows → List ℕ → Result (List Pair) Reason → Type 0
 ReadsBracketed set text answer =
     MatchResult answer (IsBracketed set.ais text) (OfElement (IsBracketedError set.ais text))
@@ -63,14 +65,14 @@ link_reason link.Memory = OutOfMemory
 abbrev pub identity_meaning : Elements → Meaning
 identity_meaning identity = record { identity = identity; gcp = None; filter = None; encoding = [] }
 
--- trusted, own: the meaning of pairs is their identity, or why they have none
+-- trusted, own: holds if `answer` is the meaning of the identity of `pairs`, or why they have none
 abbrev pub IsIdentified : TableRows → List Pair → Result Meaning Reason → Type 0
 IsIdentified set pairs answer = answer ≡ result_map_both identity_meaning Ident (identity_of_pairs set.ais pairs)
 
 -- ---- of a text
 
 -- trusted, TDS 2.0, sections 6, 7, 12 and 14; GS1 General Specifications, sections 4 and 7.8; GS1 Digital Link URI Syntax,
--- section 3: the meaning of a text of a form, or why it has none
+-- section 3: holds if `answer` is the meaning of `text` in a form, or why it has none
 abbrev pub Means : TableRows → Form → List ℕ → Result Meaning Reason → Type 0
 Means set Hex text answer = Then (Reworded Memory NoEpc (ReadsHex set text)) (MeansEpc set) answer
 Means set Tag text answer = Then (Reworded Memory NoEpc (ReadsAs set level.Tag text)) (MeansEpc set) answer
@@ -79,7 +81,8 @@ Means set Raw text answer = Then (ReadsRaw set text) (IsIdentified set) answer
 Means set Bracketed text answer = Then (ReadsBracketed set text) (IsIdentified set) answer
 Means set Link text answer = Then (λ pairs. pairs ≡ reworded link_reason (link_answer set.ais text)) (IsIdentified set) answer
 
--- trusted, own: A text of more than 2,048 bytes is rejected as long; of any other it is the meaning, or why it has none.
+-- trusted, own: Holds if `text` has more than 2,048 bytes and is rejected as long, or `answer` is its meaning or why it has
+-- none.
 pub data IsRead (set : TableRows) (form : Form) (text : List ℕ) (answer : Result Meaning Reason)
     : Type 0 where
   too_long : longest_text < length text → answer ≡ Err Long → IsRead set form text answer

@@ -27,7 +27,7 @@ epc_reason NoRoom = OutOfMemory
 epc_reason (Hex error) = NoEpc (Hex error)
 epc_reason NoReading = NoEpc NoReading
 
--- the pairs that a link names, or why it names none
+-- holds if `answer` is the pairs that a link names, or why it names none
 abbrev pub ReadsLink : TableRows → List ℕ → Result (List Pair) Reason → Type 0
 ReadsLink set text answer = answer ≡ reworded link_reason (link_answer set.ais text)
 

@@ -8,7 +8,7 @@ use Rattle.gs_translate.specs.declared.reason.Reason.{Reason}
 use Rattle.gs_translate.specs.declared.form.Target.{Target}
 use Rattle.gs_translate.specs.Translations.{IsTranslation}
 
--- trusted, own: each text has by both sets the same translations, whatever the prefixes, the options and the forms
+-- trusted, own: holds if each text has the same translations by both sets, whatever the prefixes, the options and the forms
 abbrev pub TranslateAlike : TableRows → TableRows → Type 0
 TranslateAlike set other =
     (prefixes : List PrefixEntry) (options : Options) (from : Form) (to : Target) (text : List ℕ) (answer : Result (List ℕ) Reason)

@@ -20,23 +20,23 @@ use Rattle.gs_translate.specs.declared.form.FieldName.TheVariants as missing
 use Rattle.gs_translate.specs.declared.reason.Reason.{Reason}
 use Rattle.gs_translate.specs.declared.reason.Reason.TheVariants as reason
 
--- trusted, own: a word, a blank and a number in decimal
+-- trusted, own: the text of a word, a blank and a number in decimal
 abbrev pub numbered : List ℕ → ℕ → List ℕ
 numbered word n = word ++ (32 ∷ decimal n)
 
--- trusted, own: why a text is not a hexadecimal text
+-- trusted, own: the text of why a text is not a hexadecimal text
 abbrev pub hex_text : HexFault → List ℕ
 hex_text OddDigits = codes "odd"
 hex_text Full = codes "full"
 hex_text (BadDigit place) = numbered (codes "digit") place
 
--- trusted, own: why tag bits or an EPC URI have no meaning
+-- trusted, own: the text of why tag bits or an EPC URI have no meaning
 abbrev pub epc_text : EpcFault → List ℕ
 epc_text (Hex error) = hex_text error
 epc_text NoReading = codes "reading"
 epc_text Memory = codes "memory"
 
--- trusted, own: of a value, with the place of its code; of a character, with its place in the value too
+-- trusted, own: the text of an error of a value, with the place of its code; for a character, with its place in the value too
 abbrev pub value_text : ℕ → ValueFault → List ℕ
 value_text at Unknown = numbered (codes "unknown") at
 value_text at Length = numbered (codes "length") at
@@ -44,17 +44,17 @@ value_text at (Char place) = numbered (codes "char") at ++ (32 ∷ decimal place
 value_text at Check = numbered (codes "check") at
 value_text at Date = numbered (codes "date") at
 
--- trusted, own: why an element is not valid, with the place of its code
+-- trusted, own: the text of why an element is not valid, with the place of its code
 abbrev pub why_text : ℕ → ElementWhy → List ℕ
 why_text at (Value error) = value_text at error
 why_text at Escape = numbered (codes "escape") at
 why_text at Bracket = numbered (codes "bracket") at
 
--- trusted, own: an element that is not valid
+-- trusted, own: the text of an element that is not valid
 abbrev pub element_text : ElementFault → List ℕ
 element_text error = why_text error.at error.why
 
--- trusted, own: why elements have no identity
+-- trusted, own: the text of why elements have no identity
 abbrev pub ident_text : IdentFault → List ℕ
 ident_text (ident.Repeat code) = codes "repeat " ++ code
 ident_text ident.NoKey = codes "key"
@@ -76,14 +76,14 @@ field_text field.Piece = codes "piece"
 field_text field.Total = codes "total"
 field_text field.Serial = codes "serial"
 
--- trusted, own: why an item does not hold a value
+-- trusted, own: the text of why an item does not hold a value
 abbrev pub held_text : Why → List ℕ
 held_text why.Char = codes "char"
 held_text why.Length = codes "length"
 held_text why.Zero = codes "zero"
 held_text why.Large = codes "large"
 
--- trusted, own: which field an option does not hold, and why
+-- trusted, own: the text of the field that an option does not hold, and why
 abbrev pub hold_text : Field → Why → List ℕ
 hold_text field why = codes "hold " ++ (field_text field ++ (32 ∷ held_text why))
 

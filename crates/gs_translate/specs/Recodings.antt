@@ -1,5 +1,5 @@
--- The texts of EPCs, by their levels: TDS 2.0, sections 6 (pure identity URIs), 12 (tag URIs) and 14 (bits). And the texts that are
--- written of an identity alone.
+-- The texts of EPCs, by their levels: TDS 2.0, sections 6 (pure identity URIs), 12 (tag URIs) and 14 (bits). And the texts that
+-- are written only of an identity.
 use Rattle.std.specs.Prelude.{◌≡◌, ℕ, List, Result}
 use Rattle.gs_tables_document.specs.declared.document.LevelName.{LevelName}
 use Rattle.gs_tables_document.specs.declared.document.LevelName.TheVariants as level
@@ -38,14 +38,14 @@ target_at level.Binary = target.Hex
 target_at level.Tag = target.Tag
 target_at level.Pure = target.Pure
 
--- the target of a form that is written of an identity alone
+-- the target of a form that is written only of an identity
 abbrev pub pairs_target : PairsForm → Target
 pairs_target pairs.Raw = target.Raw
 pairs_target pairs.Bracketed = target.Bracketed
 pairs_target pairs.Link = target.Link
 pairs_target pairs.Canon = target.Canon
 
--- the target of what is written
+-- the target of an EPC or of pairs that are written
 abbrev pub written_target : Written → Target
 written_target (written.Epc level) = target_at level
 written_target (written.Pairs form) = pairs_target form
@@ -57,8 +57,8 @@ pairs_text options pairs.Bracketed identity = bracketed_text (pairs_of identity)
 pairs_text options pairs.Link identity = spelled options.stem identity
 pairs_text options pairs.Canon identity = canonical_link identity
 
--- the text of a level for an EPC with the filter value and the encoding of the options or of the EPC, or the first reason why
--- there is none
+-- Holds if `answer` is the text of an EPC, or the first reason against it. The filter value and the encoding are those of the
+-- options, or its own.
 abbrev pub IsRecoded : TableRows → Options → LevelName → Epc → Elements → Result (List ℕ) Reason → Type 0
 IsRecoded set options to epc identity answer =
     Then (λ tagged. tagged ≡ with_tag options to (epc_meaning epc identity) epc)

@@ -26,11 +26,11 @@ use Rattle.gs_translate.specs.declared.reason.Reason.TheVariants.{NoKind, Extra,
 
 -- ---- the kind of a key
 
--- trusted, own: the key of the kind has the code
+-- trusted, own: holds if the key of `kind` has the code `code`
 abbrev pub has_key : List ℕ → Kind → Bool
 has_key code kind = bytes_eq code kind.key
 
--- trusted, own: holds if the pair is the serial, in a separate element
+-- trusted, own: holds if `pair` is the serial, in a separate element
 abbrev pub is_serial : SerialAt → Pair → Bool
 is_serial (Ai code) pair = bytes_eq code pair.code
 is_serial Nowhere pair = false
@@ -93,11 +93,11 @@ abbrev pub known_length : TableRows → List PrefixEntry → Options → Meaning
 known_length set prefixes options meaning kind =
     option_or meaning.gcp (option_or options.gcp (prefix_length prefixes (digits_from_prefix set kind meaning.identity.key.value)))
 
--- trusted, own: an option is of the kind and the length
+-- trusted, own: holds if the option `info` is of the kind `kind` and the company prefix length `n`
 abbrev pub is_option_of : ℕ → ℕ → OptInfo → Bool
 is_option_of kind n info = (info.kind == kind) && (info.gcp == n)
 
--- trusted, own: an option of any level is of the kind and the length
+-- trusted, own: holds if an option of any level is of the kind `kind` and the company prefix length `n`
 abbrev pub has_option : TableRows → ℕ → ℕ → Bool
 has_option set kind n =
     list_any (is_option_of kind n) set.binary.info || list_any (is_option_of kind n) set.tag.info || list_any (is_option_of kind n) set.pure.info
@@ -110,7 +110,7 @@ length_for set prefixes options meaning kind =
 
 -- ---- the facts of a tag apart from its key
 
--- trusted, own: holds if the filter value, if there is one, is one of 0 to 7
+-- trusted, own: holds if `filter` is nothing or a filter value of 0 to 7
 abbrev pub FitsFilter : Option ℕ → Type 0
 FitsFilter filter = IfSome filter (λ number. number ≤ 7)
 
@@ -118,7 +118,7 @@ FitsFilter filter = IfSome filter (λ number. number ≤ 7)
 abbrev pub filter_for : Options → Meaning → Option ℕ
 filter_for options meaning = option_or meaning.filter options.filter
 
--- trusted, own: a filter value is missing; a pure identity needs none
+-- trusted, own: holds if there is no filter value, and the level is not that of pure identities
 abbrev pub lacks_filter : LevelName → Option ℕ → Bool
 lacks_filter Pure filter = false
 lacks_filter Tag filter = is_none filter
@@ -136,9 +136,9 @@ with_tag options level meaning epc =
 
 -- ---- the EPC
 
--- trusted, TDS 2.0, section 7; the order is own: The EPC that is written of a meaning as a tag or an EPC URI, or the first reason
--- why there is none: the key has no kind; a pair is neither the key nor the serial; the company prefix length is missing; no
--- option of any level has it; the serial is missing; a filter value is missing.
+-- trusted, TDS 2.0, section 7; the order is own: The EPC that is written of a meaning as a tag or an EPC URI, or the first
+-- reason why there is none. The reasons: the key has no kind; a pair is neither the key nor the serial; the company prefix
+-- length is missing. Further: no option of any level has it; the serial is missing; a filter value is missing.
 abbrev pub epc_for : TableRows → List PrefixEntry → Options → LevelName → Meaning → Result Epc Reason
 epc_for set prefixes options level meaning =
     and_then (kind_for set meaning.identity) (λ kind.

@@ -25,7 +25,7 @@ use Rattle.gs_translate.specs.Meanings.{IsRead, Means}
 use Rattle.gs_translate.specs.Steps.{Reworded, Then}
 use Rattle.gs_translate.specs.Targets.{FitsFilter, epc_for, kept}
 
--- trusted, own: the rules that options satisfy: a filter value of 0 to 7, and a stem that a link may have
+-- trusted, own: holds if the filter value of `options`, if any, is from 0 to 7, and a link may have their stem
 pub record AreInOrder (options : Options) : Type 0 where
   pub filter : FitsFilter options.filter
   pub stem : stem_ok options.stem ≡ true
@@ -38,8 +38,8 @@ write_reason write.NoOption = NoOption
 write_reason (write.CannotHold field why) = CannotHold field why
 write_reason write.Memory = Memory
 
--- trusted, own: the text of a level for a text's meaning, by the first option that holds the EPC, or the first reason why there
--- is none
+-- trusted, own: holds if `answer` is the text of a level for `meaning`, by the first option that holds the EPC, or the first
+-- reason against it
 abbrev pub IsOfLevel : TableRows → List PrefixEntry → Options → LevelName → Meaning → Result (List ℕ) Reason → Type 0
 IsOfLevel set prefixes options level meaning answer =
     Then (λ epc. epc ≡ epc_for set prefixes options level meaning)
@@ -47,7 +47,7 @@ IsOfLevel set prefixes options level meaning answer =
 
 -- ---- each form
 
--- trusted, own: holds if the result is the one spelling of a meaning in the requested form, or the first reason why there is none
+-- trusted, own: holds if `answer` is the one spelling of `meaning` in the requested form, or the first reason why there is none
 abbrev pub IsSpelling : TableRows → List PrefixEntry → Options → Target → Meaning → Result (List ℕ) Reason → Type 0
 IsSpelling set prefixes options Hex meaning answer = IsOfLevel set prefixes options level.Binary meaning answer
 IsSpelling set prefixes options Tag meaning answer = IsOfLevel set prefixes options level.Tag meaning answer
@@ -58,8 +58,8 @@ IsSpelling set prefixes options Link meaning answer = answer ≡ Ok (spelled opt
 IsSpelling set prefixes options Canon meaning answer = IsCanonical meaning answer
 
 -- trusted, TDS 2.0, sections 6, 7, 12 and 14; GS1 General Specifications, sections 4 and 7.8; GS1 Digital Link URI Syntax,
--- sections 4 and 5; the reasons are own: Holds if the result is the translation of a text of a form: why it is rejected,
--- otherwise the spelling of its meaning, narrowed if only keys are kept.
+-- sections 4 and 5; the reasons are own: Holds if `answer` is the translation of `text`, or why it is rejected. The translation
+-- is the spelling of its meaning, narrowed if only keys are kept.
 abbrev pub IsTranslation : TableRows → List PrefixEntry → Options → Form → Target → List ℕ → Result (List ℕ) Reason → Type 0
 IsTranslation set prefixes options from to text answer =
     Then (IsRead set from text) (λ meaning. IsSpelling set prefixes options to (kept set options.keys_only meaning)) answer
@@ -72,17 +72,17 @@ pub record Translating : Type 0 where
   pub from : Form
   pub to : Target
 
--- trusted, own: that by these tables, prefixes and options, from this form to that
+-- trusted, own: the translation by these tables, prefixes and options, from the form `from` to the target `to`
 abbrev pub translating_by : TableRows → List PrefixEntry → Options → Form → Target → Translating
 translating_by set prefixes options from to = record { set = set; prefixes = prefixes; options = options; from = from; to = to }
 
--- trusted, own: the translation of a text by that
+-- trusted, own: holds if `answer` is the translation of `text` by `t`
 abbrev pub IsTranslated : Translating → List ℕ → Result (List ℕ) Reason → Type 0
 IsTranslated t text answer = IsTranslation t.set t.prefixes t.options t.from t.to text answer
 
 -- ---- the facts that laws state about texts
 
--- trusted, own: two texts that mean something name the same elements
+-- trusted, own: holds if `text` and `given`, if both mean something, name the same elements
 abbrev pub NameOne : TableRows → Form → List ℕ → Form → List ℕ → Type 0
 NameOne set form text other given =
     (one two : Meaning) → IsRead set form text (Ok one) → IsRead set other given (Ok two) → one.identity ≡ two.identity
@@ -97,7 +97,7 @@ form_of Bracketed = form.Bracketed
 form_of Link = form.Link
 form_of Canon = form.Link
 
--- trusted, own: element strings and links: the targets that are written of an identity directly
+-- trusted, own: holds if the target is written of an identity directly: an element string or a link
 abbrev pub IsOfPairs : Target → Type 0
 IsOfPairs Hex = ⊥
 IsOfPairs Tag = ⊥
@@ -107,7 +107,7 @@ IsOfPairs Bracketed = Unit {0}
 IsOfPairs Link = Unit {0}
 IsOfPairs Canon = Unit {0}
 
--- trusted, own: the text means this identity in the form of the target, however long it is
+-- trusted, own: holds if `text` means `identity` in the form of the target `to`, however long it is
 pub record MeansIdentity (set : TableRows) (to : Target) (text : List ℕ) (identity : Elements) : Type 0 where
   pub meaning : Meaning
   pub means : Means set (form_of to) text (Ok meaning)

@@ -37,7 +37,7 @@ pub enum Target {
     Canon,
 }
 
-/// A form of an identity alone: element strings and links.
+/// A form that is written only of an identity: element strings and links.
 #[derive(Clone, Copy)]
 pub(crate) enum PairsForm {
     /// Element strings without anything at the start.
@@ -50,7 +50,7 @@ pub(crate) enum PairsForm {
     Canon,
 }
 
-/// What is read in a form, or written in a requested one: an EPC, as a text of a level, or the pairs of an identity.
+/// The value of a text that is read or written: an EPC, with its level, or the pairs of an identity, with their form.
 #[derive(Clone, Copy)]
 pub(crate) enum Written {
     Epc(LevelName),

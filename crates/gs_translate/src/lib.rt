@@ -22,8 +22,8 @@
 //! - A translation goes by the identity, the elements that are named. GS1 EPC Tag Data Translation goes from pattern to
 //!   pattern. So element strings and links take part, and an EPC that becomes another keeps its filter value.
 //! - The order of the reasons, and the answer to a text of more than 2,048 bytes, are this project's own.
-//! - The rules of the GS1 General Specifications on elements that require or exclude each other are not checked, except for two
-//!   keys: such a text names two things and is rejected.
+//! - The rules of the GS1 General Specifications on elements that require or exclude each other are not checked. The exception
+//!   is two keys: such a text names two things and is rejected.
 #![tactic(auto)]
 
 mod form;

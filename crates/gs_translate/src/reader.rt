@@ -61,10 +61,10 @@ fn level_meaning<'a>(
 }
 
 /// Returns the meaning of a text of a form, or why it is rejected. Returns `Long` if and only if the text has more than 2,048
-/// bytes, before every other reason. For bits and EPC URIs, returns `Epc` if and only if the text is not an EPC, with the reason.
-/// For an element string, returns `Element` if and only if an element is invalid, and names the first; for a link, `NotHttp`,
-/// `NoKeyPath` and `Element` if and only if it has that error, in this order. For both, returns `Ident` if and only if there is
-/// none of these and the elements have no identity, with the reason.
+/// bytes, before every other reason. For bits and EPC URIs, returns `Epc` if and only if the text is not an EPC, with the
+/// reason. For an element string, returns `Element` if and only if an element is invalid, and names the first. For a link,
+/// returns `NotHttp`, `NoKeyPath` and `Element` if and only if it has that error, in this order. For both, returns `Ident` if
+/// and only if there is none of these and the elements have no identity, with the reason.
 pub fn read<'a>(
     alloc: Global,
     set: &TableSet,
@@ -171,8 +171,8 @@ fn link_identity<'a>(alloc: Global, set: &TableSet, text: &'a [u8]) -> Result<Id
     identity_of(alloc, set, pairs)
 }
 
-/// Returns the identity that an element string or a link names, or why it names none, as `read` does for a text of at most 2,048
-/// bytes. A canonical link is a link.
+/// Returns the identity that an element string or a link names, or the reason, like `read` for a text of at most 2,048 bytes. A
+/// canonical link is a link.
 pub(crate) fn identity_in<'a>(
     alloc: Global,
     set: &TableSet,

@@ -35,8 +35,8 @@ pub(crate) fn read_as(form: Form) -> Written
     }
 }
 
-/// Appends the text of a level for an EPC, with the filter value and the encoding of the options or of the EPC, or gives the first
-/// reason why there is none.
+/// Appends the text of a level for an EPC, or returns the first reason against it. The filter value and the encoding are those
+/// of the options, or its own.
 fn append_recoded(
     alloc: Global,
     set: &TableSet,
@@ -108,8 +108,8 @@ fn append_reading(
     }
 }
 
-/// Appends the translation of a text of a level, or gives the first reason why it is rejected. The key of an EPC and its serial,
-/// if that is a separate element, are its whole identity, so it is the same if only keys are kept.
+/// Appends the translation of a text of a level, or returns the first reason why it is rejected. The identity of an EPC has
+/// only a key and its serial, so keeping only keys does not change it.
 pub(crate) fn append_of_level(
     alloc: Global,
     set: &TableSet,

@@ -57,7 +57,7 @@ fn append_meaning(
     append_epc(alloc, set, level, &epc, out)
 }
 
-/// Returns what is written in a requested form.
+/// Returns the kind of text that a target writes: an EPC of a level, or pairs in a form.
 pub(crate) fn written_as(to: Target) -> Written
     ensures { to ≡ written_target result }
 {

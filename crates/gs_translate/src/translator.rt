@@ -113,8 +113,8 @@ impl Translator<'_> {
     }
 }
 
-/// Returns the translation of a text of a form to the requested form: the one spelling of the identity that it names, or the
-/// first reason why it is rejected. With `keys_only` the identity keeps only its key, and its serial if that is a separate
+/// Returns the translation of a text of a form to the requested form. It is the one spelling of the identity that it names, or
+/// the first reason why it is rejected. With `keys_only` the identity keeps only its key, and its serial if that is a separate
 /// element.
 ///
 /// The reasons of `read` come first. Element strings, links and canonical links are then written of every identity. For bits

@@ -32,7 +32,8 @@ use Rattle.tdl_answers.proofs.LongTextLemmas.{one_after_long, one_restated, some
 
 -- ---- class URIs
 
-one_class : (ais : List AiRow) (set : ClassRows) (text : List ℕ) → IsClear set → (one other : Result Elements ClassFault) → one ≢ Err reading.Memory → other ≢ Err reading.Memory → ReadsAs ais set text one → ReadsAs ais set text other → one ≡ other
+one_class : (ais : List AiRow) (set : ClassRows) (text : List ℕ) → IsClear set → (one other : Result Elements ClassFault)
+    → one ≢ Err reading.Memory → other ≢ Err reading.Memory → ReadsAs ais set text one → ReadsAs ais set text other → one ≡ other
 one_class ais set text clear (Ok identity) (Ok other) t u a b = ap Ok (one_identity ais set text identity other clear a b)
 one_class ais set text clear (Ok identity) (Err reading.NoReading) t u a b = absurd (b identity a)
 one_class ais set text clear (Err reading.NoReading) (Ok identity) t u a b = absurd (a identity b)
@@ -61,12 +62,14 @@ module _ (ais : List AiRow) (set : ClassRows) (text : List ℕ) (of : IsOfTable 
   some_class = counted_class (each_counted (item_lists set.level.options) text)
 
 pub one_class_read : (by : ClassReading) → IsClear by.classes → HasOneAnswer (IsClassCanonLine by)
-one_class_read by clear = one_line class_text (IsClassLink by) (one_after_long (Common Long) (LinksClass by) (λ text few. then_one (Reworded reading.Memory of_class (ReadsAs by.ais by.classes text)) (λ identity link. link ≡ Ok (canonical_link identity))
+one_class_read by clear = one_line class_text (IsClassLink by)
+    (one_after_long (Common Long) (LinksClass by) (λ text few. then_one (Reworded reading.Memory of_class (ReadsAs by.ais by.classes text)) (λ identity link. link ≡ Ok (canonical_link identity))
     (one_reworded reading.Memory of_class (ReadsAs by.ais by.classes text) (one_class by.ais by.classes text clear))
     (λ identity one other a b. a ∙ sym b)))
 
 pub some_class_read : (by : ClassReading) → IsOfTable by.ais by.classes → IsClear by.classes → HasAnswers (IsClassCanonLine by)
-some_class_read by of clear = some_line class_text (IsClassLink by) (some_after_long (Common Long) (LinksClass by) (λ text few. then_some (Reworded reading.Memory of_class (ReadsAs by.ais by.classes text)) (λ identity link. link ≡ Ok (canonical_link identity))
+some_class_read by of clear = some_line class_text (IsClassLink by)
+    (some_after_long (Common Long) (LinksClass by) (λ text few. then_some (Reworded reading.Memory of_class (ReadsAs by.ais by.classes text)) (λ identity link. link ≡ Ok (canonical_link identity))
     (some_reworded reading.Memory of_class (ReadsAs by.ais by.classes text) (some_class by.ais by.classes text of clear))
     (λ identity is. (Ok (canonical_link identity), refl))))
 

@@ -44,7 +44,8 @@ use Rattle.gs_chars.specs.Limits.{longest_text}
 
 -- ---- reading an EPC, by the meanings of texts
 
-known_said : (set : TableRows) (Reads : Result Epc EpcFault → Type 0) (answer : Result Meaning Reason) → Then (Reworded epc.Memory reason.Epc Reads) (MeansEpc set) answer → SomeKnown epc.Memory Reads
+known_said : (set : TableRows) (Reads : Result Epc EpcFault → Type 0) (answer : Result Meaning Reason)
+    → Then (Reworded epc.Memory reason.Epc Reads) (MeansEpc set) answer → SomeKnown epc.Memory Reads
 known_said set Reads answer (rejects error read e) = (read.given, read.enough, read.is_given)
 known_said set Reads answer (goes_on epc read next) = (read.given, read.enough, read.is_given)
 
@@ -71,13 +72,15 @@ hex_read set text loaded few = by (some_read set form.Hex text loaded)
 -- ---- dumps that are shown
 
 -- an answer is made of that to the EPC
-record MadeOf (set : TableRows) (level : LevelName) (dump : Dump) (make : Result (List ℕ) EpcWriteFault → Result (List ℕ) DumpWriteFault) (answer : Result (List ℕ) DumpWriteFault) : Type 0 where
+record MadeOf (set : TableRows) (level : LevelName) (dump : Dump) (make : Result (List ℕ) EpcWriteFault → Result (List ℕ) DumpWriteFault)
+    (answer : Result (List ℕ) DumpWriteFault) : Type 0 where
   given : Result (List ℕ) EpcWriteFault
   enough : given ≢ Err write.Memory
   writes : WritesAs set level dump.epc given
   is : answer ≡ make given
 
-one_made : (set : TableRows) (level : LevelName) (dump : Dump) (make : Result (List ℕ) EpcWriteFault → Result (List ℕ) DumpWriteFault) (one other : Result (List ℕ) DumpWriteFault) → MadeOf set level dump make one → MadeOf set level dump make other → one ≡ other
+one_made : (set : TableRows) (level : LevelName) (dump : Dump) (make : Result (List ℕ) EpcWriteFault → Result (List ℕ) DumpWriteFault) (one other : Result (List ℕ) DumpWriteFault)
+    → MadeOf set level dump make one → MadeOf set level dump make other → one ≡ other
 one_made set level dump make one other a b = a.is ∙ ap make (writes_one set level dump.epc a.given b.given a.enough b.enough a.writes b.writes) ∙ sym b.is
 
 text_enough : (text : List ℕ) → Ok text ≡ Err write.Memory → ⊥
@@ -87,20 +90,23 @@ abbrev shown_by : Dump → Result (List ℕ) EpcWriteFault → Result (List ℕ)
 shown_by dump (Ok tag) = Ok (shown_line dump.user dump.attributes tag)
 shown_by dump (Err error) = Err (of_writing error)
 
-shown_made : (set : TableRows) (dump : Dump) (answer : Result (List ℕ) DumpWriteFault) → answer ≢ Err writing.Memory → ShowsDump set dump answer → MadeOf set level.Tag dump (shown_by dump) answer
+shown_made : (set : TableRows) (dump : Dump) (answer : Result (List ℕ) DumpWriteFault) → answer ≢ Err writing.Memory
+    → ShowsDump set dump answer → MadeOf set level.Tag dump (shown_by dump) answer
 shown_made set dump (Ok text) t s = record { given = Ok s.tag; enough = text_enough s.tag; writes = s.written; is = ap Ok s.text_is }
 shown_made set dump (Err writing.TooLong) t s = absurd s
 shown_made set dump (Err writing.NoOption) t s = record { given = Err write.NoOption; enough = λ e. cc; writes = s; is = refl }
 shown_made set dump (Err (writing.CannotHold field why)) t s = record { given = Err (write.CannotHold field why); enough = λ e. cc; writes = s; is = refl }
 shown_made set dump (Err writing.Memory) t s = absurd (t refl)
 
-pub one_shown : (set : TableRows) (dump : Dump) (one other : Result (List ℕ) DumpWriteFault) → one ≢ Err writing.Memory → other ≢ Err writing.Memory → ShowsDump set dump one → ShowsDump set dump other → one ≡ other
+pub one_shown : (set : TableRows) (dump : Dump) (one other : Result (List ℕ) DumpWriteFault) → one ≢ Err writing.Memory
+    → other ≢ Err writing.Memory → ShowsDump set dump one → ShowsDump set dump other → one ≡ other
 one_shown set dump one other t u a b = one_made set level.Tag dump (shown_by dump) one other (shown_made set dump one t a) (shown_made set dump other u b)
 
 pub some_shown : (set : TableRows) (dump : Dump) → SomeKnown writing.Memory (ShowsDump set dump)
 some_shown set dump = by (writes_some set level.Tag dump.epc)
   where
-    by_answer : (given : Result (List ℕ) EpcWriteFault) → given ≢ Err write.Memory → WritesAs set level.Tag dump.epc given → SomeKnown writing.Memory (ShowsDump set dump)
+    by_answer : (given : Result (List ℕ) EpcWriteFault) → given ≢ Err write.Memory → WritesAs set level.Tag dump.epc given
+        → SomeKnown writing.Memory (ShowsDump set dump)
     by_answer (Ok tag) t w = (Ok (shown_line dump.user dump.attributes tag), (λ e. let f : Ok (shown_line dump.user dump.attributes tag) ≡ Err writing.Memory = e in cc), record { tag = tag; written = w; text_is = refl })
     by_answer (Err write.NoOption) t w = (Err writing.NoOption, (λ e. cc), w)
     by_answer (Err (write.CannotHold field why)) t w = (Err (writing.CannotHold field why), (λ e. cc), w)
@@ -118,7 +124,8 @@ abbrev written_by : Dump → Result (List ℕ) EpcWriteFault → Result (List �
 written_by dump (Ok encoding) = if nat_le (length encoding / 4) 31 then Ok (text_by dump encoding (length encoding / 4)) else Err writing.TooLong
 written_by dump (Err error) = Err (of_writing error)
 
-fits : (dump : Dump) (encoding text : List ℕ) (words : ℕ) → length encoding ≡ 4 * words → words ≤ 31 → text ≡ text_by dump encoding words → Ok text ≡ written_by dump (Ok encoding)
+fits : (dump : Dump) (encoding text : List ℕ) (words : ℕ) → length encoding ≡ 4 * words → words ≤ 31 → text ≡ text_by dump encoding words
+    → Ok text ≡ written_by dump (Ok encoding)
 fits dump encoding text words size few is =
     let quarter : length encoding / 4 ≡ words = omega arith in
     elim (leb_tells words 31) as (λ _. Ok text ≡ written_by dump (Ok encoding)) [
@@ -134,20 +141,24 @@ passes dump encoding words size many =
       | inr e ↦ rw (quarter, e.0) refl
     ]
 
-written_made : (set : TableRows) (dump : Dump) (answer : Result (List ℕ) DumpWriteFault) → answer ≢ Err writing.Memory → WritesDump set dump answer → MadeOf set level.Binary dump (written_by dump) answer
+written_made : (set : TableRows) (dump : Dump) (answer : Result (List ℕ) DumpWriteFault) → answer ≢ Err writing.Memory
+    → WritesDump set dump answer → MadeOf set level.Binary dump (written_by dump) answer
 written_made set dump (Ok text) t s = record { given = Ok s.encoding; enough = text_enough s.encoding; writes = s.written; is = fits dump s.encoding text s.words s.size s.few s.text_is }
 written_made set dump (Err writing.TooLong) t s = record { given = Ok s.encoding; enough = text_enough s.encoding; writes = s.written; is = passes dump s.encoding s.words s.size s.many }
 written_made set dump (Err writing.NoOption) t s = record { given = Err write.NoOption; enough = λ e. cc; writes = s; is = refl }
 written_made set dump (Err (writing.CannotHold field why)) t s = record { given = Err (write.CannotHold field why); enough = λ e. cc; writes = s; is = refl }
 written_made set dump (Err writing.Memory) t s = absurd (t refl)
 
-pub one_written_dump : (set : TableRows) (dump : Dump) (one other : Result (List ℕ) DumpWriteFault) → one ≢ Err writing.Memory → other ≢ Err writing.Memory → WritesDump set dump one → WritesDump set dump other → one ≡ other
-one_written_dump set dump one other t u a b = one_made set level.Binary dump (written_by dump) one other (written_made set dump one t a) (written_made set dump other u b)
+pub one_written_dump : (set : TableRows) (dump : Dump) (one other : Result (List ℕ) DumpWriteFault) → one ≢ Err writing.Memory
+    → other ≢ Err writing.Memory → WritesDump set dump one → WritesDump set dump other → one ≡ other
+one_written_dump set dump one other t u a b = one_made set level.Binary dump (written_by dump) one other (written_made set dump one t a)
+    (written_made set dump other u b)
 
 pub some_written_dump : (set : TableRows) (dump : Dump) → IsShaped set → SomeKnown writing.Memory (WritesDump set dump)
 some_written_dump set dump shaped = by (writes_some set level.Binary dump.epc)
   where
-    by_answer : (given : Result (List ℕ) EpcWriteFault) → given ≢ Err write.Memory → WritesAs set level.Binary dump.epc given → SomeKnown writing.Memory (WritesDump set dump)
+    by_answer : (given : Result (List ℕ) EpcWriteFault) → given ≢ Err write.Memory → WritesAs set level.Binary dump.epc given
+        → SomeKnown writing.Memory (WritesDump set dump)
     by_answer (Ok encoding) t w = elim (leb_tells (length encoding / 4) 31) as (λ _. SomeKnown writing.Memory (WritesDump set dump)) [
       | inl e ↦ (Ok (text_by dump encoding (length encoding / 4)), (λ f. let g : Ok (text_by dump encoding (length encoding / 4)) ≡ Err writing.Memory = f in cc), dump_written set dump encoding (hex_of_bits (control_bits (word_of (length encoding / 4) dump))) _ shaped w e.1 refl refl)
       | inr e ↦ (Err writing.TooLong, (λ f. cc), dump_too_long set dump encoding shaped w e.1)
@@ -171,7 +182,8 @@ some_dump_by set text loaded few =
 abbrev dump_by : Bool → ℕ → Epc → Dump
 dump_by user attributes epc = record { user = user; attributes = attributes; epc = epc }
 
-pub one_line_dump : (set : TableRows) (text : List ℕ) (one other : Result Dump DumpLineFault) → one ≢ Err line.Memory → other ≢ Err line.Memory → ReadsShown set text one → ReadsShown set text other → one ≡ other
+pub one_line_dump : (set : TableRows) (text : List ℕ) (one other : Result Dump DumpLineFault) → one ≢ Err line.Memory
+    → other ≢ Err line.Memory → ReadsShown set text one → ReadsShown set text other → one ≡ other
 one_line_dump set text (Ok dump) (Ok other) t u a b =
     let same = one_start text a.rest b.rest dump.user other.user dump.attributes other.attributes a.start b.start in
     let says : Says set level.Tag b.rest dump.epc = rw same.2 at a.says in
@@ -201,7 +213,8 @@ data StartCase (text : List ℕ) : Type 0 where
   starts_not : ((user : Bool) (attributes : ℕ) (rest : List ℕ) → IsShownStart text user attributes rest → ⊥) → StartCase text
 
 module _ (a b d e f g h : ℕ) (text : List ℕ) where
-  start_digits : (user : Bool) (high low : Option ℕ) → hex_value f ≡ high → hex_value g ≡ low → a ≡ 117 → b ≡ 48 + bit_of user → d ≡ 32 → e ≡ 97 → h ≡ 32 → StartCase (a ∷ b ∷ d ∷ e ∷ f ∷ g ∷ h ∷ text)
+  start_digits : (user : Bool) (high low : Option ℕ) → hex_value f ≡ high → hex_value g ≡ low → a ≡ 117 → b ≡ 48 + bit_of user → d ≡ 32
+      → e ≡ 97 → h ≡ 32 → StartCase (a ∷ b ∷ d ∷ e ∷ f ∷ g ∷ h ∷ text)
   start_digits user None low p q pa pb pd pe ph = starts_not (λ v n r s.
       let joined = s.joined in
       let same : f ≡ s.high = cc in
@@ -264,7 +277,8 @@ start_case (a ∷ b ∷ d ∷ e ∷ f ∷ g ∷ h ∷ text) = start_bit a b d e 
 pub some_line_dump : (set : TableRows) (text : List ℕ) → IsLoaded set → length text ≤ longest_text → SomeKnown line.Memory (ReadsShown set text)
 some_line_dump set text loaded few = by (start_case text)
   where
-    by_read : (user : Bool) (attributes : ℕ) (rest : List ℕ) → IsShownStart text user attributes rest → (said : Result Epc EpcFault) → said ≢ Err epc.Memory → ReadsAs set level.Tag rest said → SomeKnown line.Memory (ReadsShown set text)
+    by_read : (user : Bool) (attributes : ℕ) (rest : List ℕ) → IsShownStart text user attributes rest → (said : Result Epc EpcFault)
+        → said ≢ Err epc.Memory → ReadsAs set level.Tag rest said → SomeKnown line.Memory (ReadsShown set text)
     by_read user attributes rest start (Ok e) t r = (Ok (record { user = user; attributes = attributes; epc = e }), (λ f. cc), record { rest = rest; start = start; says = r })
     by_read user attributes rest start (Err epc.NoReading) t r = (Err line.NoReading, (λ f. cc), record { user = user; attributes = attributes; rest = rest; start = start; none = r })
     by_read user attributes rest start (Err (epc.Hex fault)) t r = absurd r

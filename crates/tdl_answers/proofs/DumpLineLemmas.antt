@@ -24,7 +24,8 @@ module _ (set : TableRows) where
       (λ dump. one_reworded writing.Memory of_writing (ShowsDump set dump) (one_shown set dump))))
 
   pub some_dump_read : IsLoaded set → HasAnswers (IsDumpReadLine set)
-  some_dump_read loaded = some_line dump_text (IsDumpShown set) (some_after_long (Common Long) (ShowsText set) (λ text few. then_some (Reworded reading.Memory of_reading (ReadsDump set text)) (λ dump. Reworded writing.Memory of_writing (ShowsDump set dump))
+  some_dump_read loaded = some_line dump_text (IsDumpShown set)
+      (some_after_long (Common Long) (ShowsText set) (λ text few. then_some (Reworded reading.Memory of_reading (ReadsDump set text)) (λ dump. Reworded writing.Memory of_writing (ShowsDump set dump))
       (some_reworded reading.Memory of_reading (ReadsDump set text) (some_dump_by set text loaded few))
       (λ dump is. some_reworded writing.Memory of_writing (ShowsDump set dump) (some_shown set dump))))
 
@@ -34,6 +35,7 @@ module _ (set : TableRows) where
       (λ dump. one_reworded writing.Memory of_writing (WritesDump set dump) (one_written_dump set dump))))
 
   pub some_dump_written : IsLoaded set → HasAnswers (IsDumpWriteLine set)
-  some_dump_written loaded = some_line dump_text (IsDumpWritten set) (some_after_long (Common Long) (WritesText set) (λ text few. then_some (Reworded line.Memory of_line (ReadsShown set text)) (λ dump. Reworded writing.Memory of_writing (WritesDump set dump))
+  some_dump_written loaded = some_line dump_text (IsDumpWritten set)
+      (some_after_long (Common Long) (WritesText set) (λ text few. then_some (Reworded line.Memory of_line (ReadsShown set text)) (λ dump. Reworded writing.Memory of_writing (WritesDump set dump))
       (some_reworded line.Memory of_line (ReadsShown set text) (some_line_dump set text loaded few))
       (λ dump is. some_reworded writing.Memory of_writing (WritesDump set dump) (some_written_dump set dump loaded.shaped))))

@@ -21,7 +21,8 @@ use Rattle.tdl_answers.specs.TranslatedAnswers.{IsTranslatedLine}
 
 module _ {R : Type 0} (show : R → List ℕ) (Answer : List ℕ → Result (List ℕ) R → Type 0) where
   -- the line that was added is that of an answer
-  pub adds_line : (text before now : List ℕ) (answer : Result (List ℕ) R) (any : Bool) → Answer text answer → AddsLine show answer before now any → AddsAnswer (λ text line. IsLineOf show (Answer text) line) text before now any
+  pub adds_line : (text before now : List ℕ) (answer : Result (List ℕ) R) (any : Bool) → Answer text answer
+      → AddsLine show answer before now any → AddsAnswer (λ text line. IsLineOf show (Answer text) line) text before now any
   adds_line text before now answer any is adds = record {
     answer = line_of show answer;
     is = record { answer = answer; is_answer = is; is = refl };
@@ -29,7 +30,10 @@ module _ {R : Type 0} (show : R → List ℕ) (Answer : List ℕ → Result (Lis
     known = adds.known;
   }
 
-  pub adds_known : {E : Type 0} (IsMemory : R → Type 0) (text before now : List ℕ) (answer : Result (List ℕ) R) (result : Result Bool E) → (HasMemory IsMemory answer → Answer text answer) → IfOk result (λ _. HasMemory IsMemory answer) → IfOk result (λ any. AddsLine show answer before now any) → IfOk result (λ any. AddsAnswer (λ text line. IsLineOf show (Answer text) line) text before now any)
+  pub adds_known : {E : Type 0} (IsMemory : R → Type 0) (text before now : List ℕ) (answer : Result (List ℕ) R) (result : Result Bool E)
+      → (HasMemory IsMemory answer → Answer text answer) → IfOk result (λ _. HasMemory IsMemory answer)
+      → IfOk result (λ any. AddsLine show answer before now any)
+      → IfOk result (λ any. AddsAnswer (λ text line. IsLineOf show (Answer text) line) text before now any)
   adds_known IsMemory text before now answer (Ok any) is enough adds = adds_line text before now answer any (is enough) adds
   adds_known IsMemory text before now answer (Err e) is enough adds = tt
 
@@ -42,7 +46,9 @@ module _ {R : Type 0} (show : R → List ℕ) (Answer : List ℕ → Result (Lis
 -- ---- translated lines
 
 -- the translation follows `ok `, and a line feed after it
-pub adds_accepted : (t : Translating) (text before marked appended written now : List ℕ) → marked ≡ before ++ codes "ok " → written ≡ marked ++ appended → IsTranslated t text (Ok appended) → now ≡ written ++ 10 ∷ [] → AddsAnswer (IsTranslatedLine t) text before now false
+pub adds_accepted : (t : Translating) (text before marked appended written now : List ℕ) → marked ≡ before ++ codes "ok "
+    → written ≡ marked ++ appended → IsTranslated t text (Ok appended) → now ≡ written ++ 10 ∷ []
+    → AddsAnswer (IsTranslatedLine t) text before now false
 adds_accepted t text before marked appended written now mark append is feed = record {
   answer = accepted appended;
   is = record { answer = Ok appended; is_answer = is; is = refl };
@@ -54,7 +60,10 @@ same_reason : (reason : Reason) (given none : Result (Unit {0}) Reason) → give
 same_reason reason given none e f g = cc
 
 -- the translation appended nothing, `ok ` was taken back, and the reason is not a want of memory
-pub adds_rejected : (t : Translating) (text before marked written cut now : List ℕ) (size : ℕ) (reason : Reason) → size ≡ length before → marked ≡ before ++ codes "ok " → UnlessMemory {X = Unit {0}} (Err reason) (AppendsText {Done = Unit {0}} (IsTranslated t text) marked written (Err reason)) → cut ≡ take size written → (reason ≡ Memory → ⊥) → now ≡ cut ++ printed (rejected (reason_text reason)) → AddsAnswer (IsTranslatedLine t) text before now true
+pub adds_rejected : (t : Translating) (text before marked written cut now : List ℕ) (size : ℕ) (reason : Reason) → size ≡ length before
+    → marked ≡ before ++ codes "ok " → UnlessMemory {X = Unit {0}} (Err reason)
+    (AppendsText {Done = Unit {0}} (IsTranslated t text) marked written (Err reason)) → cut ≡ take size written → (reason ≡ Memory → ⊥)
+    → now ≡ cut ++ printed (rejected (reason_text reason)) → AddsAnswer (IsTranslatedLine t) text before now true
 adds_rejected t text before marked written cut now size reason len mark given back enough line =
     let known = known_answer {X = Unit {0}} (Err reason) (AppendsText {Done = Unit {0}} (IsTranslated t text) marked written (Err reason)) (λ e. enough (same_reason reason _ _ refl refl e)) given in
     let whole : cut ≡ before = back ∙ ap (take size) (known.0 ∙ mark) ∙ rw len (take-append_seam before (codes "ok ")) in
@@ -66,7 +75,9 @@ adds_rejected t text before marked written cut now size reason len mark given ba
     }
 
 pub one_translated : (t : Translating) → IsLoaded t.set → HasOneAnswer (IsTranslatedLine t)
-one_translated t loaded = one_line reason_text (IsTranslated t) (λ text. one_translation t.set t.prefixes t.options t.from t.to text (suits_one t.set t.from loaded))
+one_translated t loaded = one_line reason_text (IsTranslated t)
+    (λ text. one_translation t.set t.prefixes t.options t.from t.to text (suits_one t.set t.from loaded))
 
 pub some_translated : (t : Translating) → IsLoaded t.set → HasAnswers (IsTranslatedLine t)
-some_translated t loaded = some_line reason_text (IsTranslated t) (λ text. some_translation t.set t.prefixes t.options t.from t.to text (suits_some t.set t.from loaded))
+some_translated t loaded = some_line reason_text (IsTranslated t)
+    (λ text. some_translation t.set t.prefixes t.options t.from t.to text (suits_some t.set t.from loaded))

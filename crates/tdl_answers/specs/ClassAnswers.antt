@@ -30,17 +30,18 @@ pub record ClassReading : Type 0 where
 abbrev pub reading_by : List AiRow → ClassRows → ClassReading
 reading_by ais classes = record { ais = ais; classes = classes }
 
--- trusted, own: the answer to a text that is not long: the canonical link of the identity that it is a class URI of, or why it
--- is not one
+-- trusted, own: holds if `answer` is the canonical link of the identity that `text`, of any length, is a class URI of, or why
+-- not
 abbrev pub LinksClass : ClassReading → List ℕ → Result (List ℕ) ClassReason → Type 0
 LinksClass by text answer =
     Then (Reworded Memory of_class (ReadsAs by.ais by.classes text)) (λ identity link. link ≡ Ok (canonical_link identity)) answer
 
--- trusted, own: the answer to a text, by the canonical link of the identity that it is a class URI of
+-- trusted, own: Holds if `answer` is the canonical link of the identity that `text` is a class URI of, or why it is not one. A
+-- long text is rejected as long.
 abbrev pub IsClassLink : ClassReading → List ℕ → Result (List ℕ) ClassReason → Type 0
 IsClassLink by text answer = AfterLong (Common Long) (LinksClass by) text answer
 
--- trusted, own: the answer line of a text, by the canonical link of the identity that it is a class URI of
+-- trusted, own: holds if `line` is the answer line of `text`, by the canonical link of the identity that it is a class URI of
 abbrev pub IsClassCanonLine : ClassReading → List ℕ → LineAnswer → Type 0
 IsClassCanonLine by text line = IsLineOf class_text (IsClassLink by text) line
 
@@ -58,12 +59,13 @@ pub record ClassWriting : Type 0 where
 abbrev pub writing_by : TableRows → List PrefixEntry → ClassRows → Option ℕ → ClassWriting
 writing_by tables prefixes classes gcp = record { tables = tables; prefixes = prefixes; classes = classes; gcp = gcp }
 
--- trusted, own: the class URI of the meaning of a text as a link, or why there is none; a long text is rejected as long
+-- trusted, own: Holds if `answer` is the class URI of the meaning of `text` as a link, or why there is none. A long text is
+-- rejected as long.
 abbrev pub IsClassText : ClassWriting → List ℕ → Result (List ℕ) ClassReason → Type 0
 IsClassText by text answer =
     Then (Restated Common (IsRead by.tables Link text))
     (λ meaning written. written ≡ reworded of_class_writing (class_answer by.tables.ais by.classes by.prefixes by.gcp meaning.identity)) answer
 
--- trusted, own: the answer line of a text, by the class URI of its meaning as a link
+-- trusted, own: holds if `line` is the answer line of `text`, by the class URI of its meaning as a link
 abbrev pub IsClassUriLine : ClassWriting → List ℕ → LineAnswer → Type 0
 IsClassUriLine by text line = IsLineOf class_text (IsClassText by text) line

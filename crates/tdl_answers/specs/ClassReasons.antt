@@ -12,12 +12,12 @@ use Rattle.gs_translate.specs.Reasons.{reason_text}
 use Rattle.tdl_answers.specs.declared.class_lines.ClassReason.{ClassReason}
 use Rattle.tdl_answers.specs.declared.class_lines.ClassReason.TheVariants.{Common, NoClass, MissingElement}
 
--- trusted, own: why a text is not a class URI
+-- trusted, own: the reason why a text is not a class URI
 abbrev pub of_class : ClassFault → ClassReason
 of_class reading.NoReading = Common (reason.Epc epc.NoReading)
 of_class reading.Memory = Common reason.Memory
 
--- trusted, own: why an identity is not written as a class URI
+-- trusted, own: the reason why an identity is not written as a class URI
 abbrev pub of_class_writing : ClassWriteFault → ClassReason
 of_class_writing writing.NoClass = NoClass
 of_class_writing writing.MissingElement = MissingElement

@@ -16,30 +16,32 @@ use Rattle.tdl_lines.specs.Outputs.{LineAnswer}
 
 -- ---- dumps
 
--- trusted, own: the answer to a text that is not long: the line that shows its dump, or why there is none
+-- trusted, own: holds if `answer` is the line that shows the dump of `text`, of any length, or why there is none
 abbrev pub ShowsText : TableRows → List ℕ → Result (List ℕ) DumpReason → Type 0
 ShowsText set text answer =
     Then (Reworded Memory of_reading (ReadsDump set text)) (λ dump. Reworded WriteMemory of_writing (ShowsDump set dump)) answer
 
--- trusted, own: the answer to a text, by the line that shows the dump that it is
+-- trusted, own: Holds if `answer` is the line that shows the dump of `text`, or why there is none. A long text is rejected as
+-- long.
 abbrev pub IsDumpShown : TableRows → List ℕ → Result (List ℕ) DumpReason → Type 0
 IsDumpShown set text answer = AfterLong (Common Long) (ShowsText set) text answer
 
--- trusted, own: the answer line of a text, by the line that shows the dump that it is
+-- trusted, own: holds if `line` is the answer line of `text`, by the line that shows the dump that it is
 abbrev pub IsDumpReadLine : TableRows → List ℕ → LineAnswer → Type 0
 IsDumpReadLine set text line = IsLineOf dump_text (IsDumpShown set text) line
 
 -- ---- lines that show dumps
 
--- trusted, own: the answer to a text that is not long: the text of its dump, or why there is none
+-- trusted, own: holds if `answer` is the text of the dump that `text`, of any length, shows, or why there is none
 abbrev pub WritesText : TableRows → List ℕ → Result (List ℕ) DumpReason → Type 0
 WritesText set text answer =
     Then (Reworded LineMemory of_line (ReadsShown set text)) (λ dump. Reworded WriteMemory of_writing (WritesDump set dump)) answer
 
--- trusted, own: the answer to a text, by the text of the dump that it shows
+-- trusted, own: Holds if `answer` is the text of the dump that `text` shows, or why there is none. A long text is rejected as
+-- long.
 abbrev pub IsDumpWritten : TableRows → List ℕ → Result (List ℕ) DumpReason → Type 0
 IsDumpWritten set text answer = AfterLong (Common Long) (WritesText set) text answer
 
--- trusted, own: the answer line of a text, by the text of the dump that it shows
+-- trusted, own: holds if `line` is the answer line of `text`, by the text of the dump that it shows
 abbrev pub IsDumpWriteLine : TableRows → List ℕ → LineAnswer → Type 0
 IsDumpWriteLine set text line = IsLineOf dump_text (IsDumpWritten set text) line

@@ -12,7 +12,7 @@ use Rattle.gs_translate.specs.Reasons.{numbered, reason_text}
 use Rattle.tdl_answers.specs.declared.dump_lines.DumpReason.{DumpReason}
 use Rattle.tdl_answers.specs.declared.dump_lines.DumpReason.TheVariants.{Common, NoWord, Extended, Toggle, Words, Line, TooLong}
 
--- trusted, own: why a text is not a dump
+-- trusted, own: the reason why a text is not a dump
 abbrev pub of_reading : DumpFault → DumpReason
 of_reading (reading.Hex error) = Common (reason.Epc (epc.Hex error))
 of_reading reading.NoWord = NoWord
@@ -22,14 +22,14 @@ of_reading (reading.Words said bits) = Words said bits
 of_reading reading.NoReading = Common (reason.Epc epc.NoReading)
 of_reading reading.Memory = Common reason.Memory
 
--- trusted, own: why a dump is not written or shown
+-- trusted, own: the reason why a dump is not written or shown
 abbrev pub of_writing : DumpWriteFault → DumpReason
 of_writing writing.NoOption = Common reason.NoOption
 of_writing (writing.CannotHold field why) = Common (reason.CannotHold field why)
 of_writing writing.TooLong = TooLong
 of_writing writing.Memory = Common reason.Memory
 
--- trusted, own: why a line shows no dump
+-- trusted, own: the reason why a line does not show a dump
 abbrev pub of_line : DumpLineFault → DumpReason
 of_line line.Line = Line
 of_line line.NoReading = Common (reason.Epc epc.NoReading)

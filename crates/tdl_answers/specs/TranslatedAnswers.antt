@@ -8,10 +8,10 @@ use Rattle.gs_translate.specs.Answers.{IsAnswer}
 use Rattle.gs_translate.specs.Reasons.{reason_text}
 use Rattle.gs_translate.specs.Translations.{IsTranslated, Translating}
 
--- trusted, own: the answer to the text of a line, by its translation
+-- trusted, own: holds if `line` is the answer line of `text`, by its translation by `t`
 abbrev pub IsTranslatedLine : Translating → List ℕ → LineAnswer → Type 0
 IsTranslatedLine t text line = IsLineOf reason_text (IsTranslated t text) line
 
--- trusted, own: the answer to the text of a line, by its canonical link
+-- trusted, own: holds if `line` is the answer line of `text`, by its canonical link
 abbrev pub IsCanonLine : TableRows → Form → List ℕ → LineAnswer → Type 0
 IsCanonLine set form text line = IsLineOf reason_text (IsAnswer set form text) line

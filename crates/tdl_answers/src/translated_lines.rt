@@ -49,8 +49,9 @@ impl Answerer for TranslatedLines<'_> {
     ghost long_alike = { λ s. long_translated s.translator };
 }
 
-/// Answers each line of the input by its translation, from one form to another, by these tables, prefixes and options: `ok TEXT`
-/// or `no REASON`, once the line has ended. The filter value of the options is at most 7, and `stem_ok` allows their stem.
+/// Answers each line of the input by its translation, from one form to another, by these tables, prefixes and options. It
+/// writes `ok TEXT` or `no REASON` once the line has ended. The filter value of the options is at most 7, and `stem_ok` allows
+/// their stem.
 ///
 /// Treats lines, the held part of a line, `limit` and the statuses as `answer_lines` of tdl_lines does. It answers at most
 /// `limit` bytes and takes at most one byte more. Returns `ReadFault` only if the input counted an error, and `WriteFault` only

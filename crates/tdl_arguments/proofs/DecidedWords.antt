@@ -21,10 +21,12 @@ abbrev ArePairsOf : List NameRow → List (List ℕ) → Type 0
 ArePairsOf rows words = Decided (λ (pairs : List (List ℕ × List ℕ)). AreOfRows rows words pairs)
 
 -- a name is taken next to all lists of pairs that the arguments form, since they are one list
-taken_beside : (rows : List NameRow) (n v : List ℕ) (words : List (List ℕ)) (pairs : List (List ℕ × List ℕ)) → AreOfRows rows words pairs → TakesBeside rows n v words (takes rows n v pairs)
+taken_beside : (rows : List NameRow) (n v : List ℕ) (words : List (List ℕ)) (pairs : List (List ℕ × List ℕ)) → AreOfRows rows words pairs
+    → TakesBeside rows n v words (takes rows n v pairs)
 taken_beside rows n v words pairs of others are = ap (takes rows n v) (same_pairs words pairs others of.are are)
 
-first_pair : (rows : List NameRow) (n v : List ℕ) (words : List (List ℕ)) (behind : HasSome (λ (pairs : List (List ℕ × List ℕ)). AreOfRows rows words pairs)) → ArePairsOf rows (n ∷ v ∷ words)
+first_pair : (rows : List NameRow) (n v : List ℕ) (words : List (List ℕ)) (behind : HasSome (λ (pairs : List (List ℕ × List ℕ)). AreOfRows rows words pairs))
+    → ArePairsOf rows (n ∷ v ∷ words)
 first_pair rows n v words behind = elim (true_or_false (takes rows n v behind.0)) as (λ _. ArePairsOf rows (n ∷ v ∷ words)) [
   | inl first ↦ inl (one_more rows n v words (takes rows n v behind.0) behind first (taken_beside rows n v words behind.0 behind.1))
   | inr none ↦ inr (λ pairs. not_taken rows n v words pairs (takes rows n v behind.0) none (taken_beside rows n v words behind.0 behind.1))
@@ -40,21 +42,24 @@ pairs_or_none rows (n ∷ v ∷ words) = elim (pairs_or_none rows words) as (λ 
 
 -- ---- the request
 
-lacks : (command : Command) (words : List (List ℕ)) (pairs : List (List ℕ × List ℕ)) → AreOfRows (names_of command) words pairs → has_required (names_of command) pairs ≡ false → (asked : Asked) → Asks command words asked → ⊥
+lacks : (command : Command) (words : List (List ℕ)) (pairs : List (List ℕ × List ℕ)) → AreOfRows (names_of command) words pairs
+    → has_required (names_of command) pairs ≡ false → (asked : Asked) → Asks command words asked → ⊥
 lacks command words pairs of lacking asked a =
     let same = same_pairs words pairs a.pairs of.are a.of_rows.are in
     let has = a.required in
     let f : false ≡ true = sym lacking ∙ ap (has_required (names_of command)) same ∙ has in
     cc
 
-unfit : (command : Command) (words : List (List ℕ)) (pairs : List (List ℕ × List ℕ)) → AreOfRows (names_of command) words pairs → may_have command (named_values pairs) ≡ false → (asked : Asked) → Asks command words asked → ⊥
+unfit : (command : Command) (words : List (List ℕ)) (pairs : List (List ℕ × List ℕ)) → AreOfRows (names_of command) words pairs
+    → may_have command (named_values pairs) ≡ false → (asked : Asked) → Asks command words asked → ⊥
 unfit command words pairs of unfitting asked a =
     let same = same_pairs words pairs a.pairs of.are a.of_rows.are in
     let fits = a.fits in
     let f : false ≡ true = sym unfitting ∙ ap (λ ps. may_have command (named_values ps)) same ∙ fits in
     cc
 
-asks_of_pairs : (command : Command) (words : List (List ℕ)) → HasSome (λ (pairs : List (List ℕ × List ℕ)). AreOfRows (names_of command) words pairs) → Decided (Asks command words)
+asks_of_pairs : (command : Command) (words : List (List ℕ))
+    → HasSome (λ (pairs : List (List ℕ × List ℕ)). AreOfRows (names_of command) words pairs) → Decided (Asks command words)
 asks_of_pairs command words pairs = elim (true_or_false (has_required (names_of command) pairs.0)) as (λ _. Decided (Asks command words)) [
   | inl all ↦ elim (true_or_false (may_have command (named_values pairs.0))) as (λ _. Decided (Asks command words)) [
     | inl fits ↦ inl (asked_of command pairs.0, record { pairs = pairs.0; of_rows = pairs.1; required = all; fits = fits; is = refl })

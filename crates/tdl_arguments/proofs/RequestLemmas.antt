@@ -1,11 +1,11 @@
 -- The request that arguments make.
 use Rattle.std.proofs.Common.{◌≡◌, ℕ, ◌≤◌, ◌&&◌, Bool, true, false, List, [], ◌∷◌, ◌++◌, Option, None, Some, append-nil, arith, drop, length, refl, subst, sym, ◌∙◌, ap, inl, inr}
 use Rattle.std.specs.List.{list_all}
-use Rattle.std.proofs.lemmas.Bool.{le-leb, leb-true}
+use Rattle.std.proofs.lemmas.Bool.{le-leb, leb-true, and_parts}
 use Rattle.std.proofs.lemmas.List.{length-map}
 use Rattle.std.specs.Borrow.{Bor}
 use Rattle.std.specs.Prelude.{bytes_eq, codes, find, option_and_then, option_map}
-use Rattle.gs_chars.proofs.TruthsAndLists.{and_parts, equal_bytes, mapped_some, true_or_false}
+use Rattle.gs_chars.proofs.TruthsAndLists.{equal_bytes, mapped_some, true_or_false}
 use Rattle.gs_ident.proofs.PairLemmas.{found_passes}
 use Rattle.gs_translate.specs.declared.form.Form.{Form}
 use Rattle.gs_translate.specs.declared.form.Form.TheVariants as form
@@ -56,7 +56,8 @@ same_parts : (one other : Parts) → Some one ≡ Some other → one ≡ other
 same_parts one other e = cc
 
 -- the arguments of each command are read as it
-command_read : (command : Command) (behind : List (List ℕ)) → operands_in_range command ≡ true → command_of (command_words command ++ behind) ≡ Some (command, behind)
+command_read : (command : Command) (behind : List (List ℕ)) → operands_in_range command ≡ true
+    → command_of (command_words command ++ behind) ≡ Some (command, behind)
 command_read (Canon form) behind fits = rw (form_read form) refl
 command_read (Translate from to) behind fits = rw (form_read from, target_read to) refl
 command_read Check behind fits = refl
@@ -122,7 +123,9 @@ stands_length (word ∷ front) (first ∷ words) e =
     omega arith
 
 -- the words of the command without operands that arguments begin with are at most as many as these
-pub plain_count : (front : List (Bor (List ℕ))) (words : List (List ℕ)) (count : ℕ) (found : Option Command) (command : Command) → found ≡ plain_command words → found ≡ Some command → known_front front ≡ command_name command → length words ≡ count → length front ≤ count
+pub plain_count : (front : List (Bor (List ℕ))) (words : List (List ℕ)) (count : ℕ) (found : Option Command) (command : Command)
+    → found ≡ plain_command words → found ≡ Some command → known_front front ≡ command_name command → length words ≡ count
+    → length front ≤ count
 plain_count front words count found command is was same counted =
     let stands = found_passes (λ (command : Command). stands_before (command_name command) words) plain_commands command (sym is ∙ was) in
     let fewer = stands_length (command_name command) words stands in
@@ -142,7 +145,9 @@ translation_spelled [] parts e = absurd (let f : None ≡ Some parts = e in cc)
 translation_spelled (word ∷ []) parts e = absurd (let f : None ≡ Some parts = e in cc)
 translation_spelled (from ∷ to ∷ words) parts e = by (form_named from) refl (target_named to) refl e
   where
-    by : (o : Option Form) → form_named from ≡ o → (p : Option Target) → target_named to ≡ p → option_and_then (λ (f : Form). option_map (λ (t : Target). let p : Parts = (Translate f t, words) in p) p) o ≡ Some parts → AreOf (codes "translate" ∷ from ∷ to ∷ words) parts
+    by : (o : Option Form) → form_named from ≡ o → (p : Option Target) → target_named to ≡ p → option_and_then
+        (λ (f : Form). option_map (λ (t : Target). let p : Parts = (Translate f t, words) in p) p) o ≡ Some parts → AreOf
+        (codes "translate" ∷ from ∷ to ∷ words) parts
     by None n p m f = absurd (let g : None ≡ Some parts = f in cc)
     by (Some form) n None m f = absurd (let g : None ≡ Some parts = f in cc)
     by (Some form) n (Some target) m f =
@@ -207,7 +212,8 @@ record SameCommand (one other : Command) (behind behind' : List (List ℕ)) : Ty
   commands : one ≡ other
   behinds : behind ≡ behind'
 
-same_command : (one other : Command) (behind behind' : List (List ℕ)) → operands_in_range one ≡ true → operands_in_range other ≡ true → command_words one ++ behind ≡ command_words other ++ behind' → SameCommand one other behind behind'
+same_command : (one other : Command) (behind behind' : List (List ℕ)) → operands_in_range one ≡ true → operands_in_range other ≡ true
+    → command_words one ++ behind ≡ command_words other ++ behind' → SameCommand one other behind behind'
 same_command one other behind behind' fits fits' e =
     let both = same_parts (one, behind) (other, behind') (sym (command_read one behind fits) ∙ ap command_of e ∙ command_read other behind' fits') in
     record { commands = ap (λ (x : Parts). x.0) both; behinds = ap (λ (x : Parts). x.1) both }

@@ -2,8 +2,8 @@
 use Rattle.std.proofs.Common.{◌≡◌, ℕ, ◌≤◌, ◌&&◌, ◌||◌, Bool, true, false, List, [], ◌∷◌, Option, None, Some, refl, sym, ◌∙◌, ap, inl, inr}
 use Rattle.std.specs.List.{list_any}
 use Rattle.std.specs.Prelude.{IfSome, bytes_eq, find, if◌then◌else◌, is_some, nat_le, not, option_and_then, option_to_list, unwrap_or}
-use Rattle.std.proofs.lemmas.Bool.{leb-true}
-use Rattle.gs_chars.proofs.TruthsAndLists.{and_parts, equal_bytes, true_or_false}
+use Rattle.std.proofs.lemmas.Bool.{leb-true, and_parts}
+use Rattle.gs_chars.proofs.TruthsAndLists.{equal_bytes, true_or_false}
 use Rattle.gs_dlink.specs.Stems.{stem_ok}
 use Rattle.gs_grammar.specs.Words.{decimal_value}
 use Rattle.gs_ident.specs.Links.{canonical_stem}
@@ -59,7 +59,8 @@ taken_by_name other name n value t e =
     rw same at both.1
 
 -- one of some names takes a pair
-taken_by_one : (others : List Name) (name : Name) (n value : List ℕ) → list_any (λ other. name_takes other n value) others ≡ true → bytes_eq n (name_word name) ≡ true → in_range name value ≡ true
+taken_by_one : (others : List Name) (name : Name) (n value : List ℕ) → list_any (λ other. name_takes other n value) others ≡ true
+    → bytes_eq n (name_word name) ≡ true → in_range name value ≡ true
 taken_by_one [] name n value t e = absurd (let f : false ≡ true = t in cc)
 taken_by_one (other ∷ others) name n value t e = elim (true_or_false (name_takes other n value)) as (λ _. in_range name value ≡ true) [
   | inl here ↦ taken_by_name other name n value here e
@@ -67,23 +68,27 @@ taken_by_one (other ∷ others) name n value t e = elim (true_or_false (name_tak
 ]
 
 -- a row that takes a pair has its name, whose range has the value
-taken_in_range : (rows : List NameRow) (pairs : List (List ℕ × List ℕ)) (name : Name) (n value : List ℕ) → takes rows n value pairs ≡ true → bytes_eq n (name_word name) ≡ true → in_range name value ≡ true
+taken_in_range : (rows : List NameRow) (pairs : List (List ℕ × List ℕ)) (name : Name) (n value : List ℕ) → takes rows n value pairs ≡ true
+    → bytes_eq n (name_word name) ≡ true → in_range name value ≡ true
 taken_in_range [] pairs name n value t e = absurd (let f : false ≡ true = t in cc)
-taken_in_range (row ∷ rows) pairs name n value t e = elim (true_or_false (not (is_given pairs row) && row_takes row n value)) as (λ _. in_range name value ≡ true) [
-  | inl here ↦ taken_by_one (row.name ∷ option_to_list row.instead) name n value (and_parts (not (is_given pairs row)) (row_takes row n value) here).1 e
-  | inr none ↦ taken_in_range rows pairs name n value (rw none at t) e
-]
+taken_in_range (row ∷ rows) pairs name n value t e = elim (true_or_false (not (is_given pairs row) && row_takes row n value)) as
+    (λ _. in_range name value ≡ true) [
+      | inl here ↦ taken_by_one (row.name ∷ option_to_list row.instead) name n value (and_parts (not (is_given pairs row)) (row_takes row n value) here).1 e
+      | inr none ↦ taken_in_range rows pairs name n value (rw none at t) e
+    ]
 
 -- the value of a name that is taken is in its range
-pub named_in_range : (rows : List NameRow) (pairs : List (List ℕ × List ℕ)) (name : Name) (value : List ℕ) → AreTaken rows pairs → look_up (name_word name) pairs ≡ Some value → in_range name value ≡ true
+pub named_in_range : (rows : List NameRow) (pairs : List (List ℕ × List ℕ)) (name : Name) (value : List ℕ) → AreTaken rows pairs
+    → look_up (name_word name) pairs ≡ Some value → in_range name value ≡ true
 named_in_range rows pairs name value none_taken e = absurd (let f : None ≡ Some value = e in cc)
-named_in_range rows pairs name value (one_taken n v others takes_it rest) e = elim (true_or_false (bytes_eq n (name_word name))) as (λ _. in_range name value ≡ true) [
-  | inl is ↦
-      let found : Some v ≡ Some value = rw is at e in
-      let same : v ≡ value = cc in
-      rw same at (taken_in_range rows others name n v takes_it is)
-  | inr differs ↦ named_in_range rows others name value rest (rw differs at e)
-]
+named_in_range rows pairs name value (one_taken n v others takes_it rest) e = elim (true_or_false (bytes_eq n (name_word name))) as
+    (λ _. in_range name value ≡ true) [
+      | inl is ↦
+          let found : Some v ≡ Some value = rw is at e in
+          let same : v ≡ value = cc in
+          rw same at (taken_in_range rows others name n v takes_it is)
+      | inr differs ↦ named_in_range rows others name value rest (rw differs at e)
+    ]
 
 -- ---- the options of translations
 
@@ -114,7 +119,8 @@ options_fit words asked o =
 
 -- ---- the vocabulary
 
-vocabulary_by : (named : Option (List ℕ)) → ((value : List ℕ) → named ≡ Some value → is_vocabulary value ≡ true) → is_vocabulary (unwrap_or named default_voc) ≡ true
+vocabulary_by : (named : Option (List ℕ)) → ((value : List ℕ) → named ≡ Some value → is_vocabulary value ≡ true)
+    → is_vocabulary (unwrap_or named default_voc) ≡ true
 vocabulary_by None ok = refl
 vocabulary_by (Some value) ok = ok value refl
 

@@ -4,7 +4,8 @@ use Rattle.std.proofs.Common.{◌≡◌, ℕ, List, [], ◌∷◌, Option, None,
 use Rattle.std.proofs.lemmas.List.{take_all}
 
 -- the first word, and the others
-pub first_word : {S : Type 0} (bytes : S → List ℕ) (words : List S) (first : S) (a : List ℕ) → 0 < length words → first ≡ get_or words 0 first → bytes first ≡ a → map bytes words ≡ a ∷ map bytes (take (length words - 1) (drop 1 words))
+pub first_word : {S : Type 0} (bytes : S → List ℕ) (words : List S) (first : S) (a : List ℕ) → 0 < length words
+    → first ≡ get_or words 0 first → bytes first ≡ a → map bytes words ≡ a ∷ map bytes (take (length words - 1) (drop 1 words))
 first_word bytes [] first a n e p = absurd (omega arith)
 first_word bytes (x ∷ words) first a n e p =
     let one : bytes x ≡ a = cc in
@@ -13,7 +14,9 @@ first_word bytes (x ∷ words) first a n e p =
     rw (one, count, whole) refl
 
 -- the first two arguments, and the others
-pub first_words : {S : Type 0} (bytes : S → List ℕ) (words : List S) (first second : S) (a b : List ℕ) → 2 ≤ length words → first ≡ get_or words 0 first → second ≡ get_or words 1 second → bytes first ≡ a → bytes second ≡ b → map bytes words ≡ a ∷ b ∷ map bytes (take (length words - 2) (drop 2 words))
+pub first_words : {S : Type 0} (bytes : S → List ℕ) (words : List S) (first second : S) (a b : List ℕ) → 2 ≤ length words
+    → first ≡ get_or words 0 first → second ≡ get_or words 1 second → bytes first ≡ a → bytes second ≡ b
+    → map bytes words ≡ a ∷ b ∷ map bytes (take (length words - 2) (drop 2 words))
 first_words bytes [] first second a b n e f p q = absurd (omega arith)
 first_words bytes (x ∷ []) first second a b n e f p q = absurd (omega arith)
 first_words bytes (x ∷ y ∷ words) first second a b n e f p q =

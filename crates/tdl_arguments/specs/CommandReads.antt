@@ -57,7 +57,7 @@ abbrev pub operated_of : List (List ℕ) → Option (Command × List (List ℕ))
 operated_of [] = None
 operated_of (word ∷ words) = command_by word words
 
--- the arguments begin with these words
+-- holds if the arguments begin with these words
 abbrev pub stands_before : List (List ℕ) → List (List ℕ) → Bool
 stands_before [] words = true
 stands_before (word ∷ front) [] = false

@@ -56,24 +56,24 @@ operands_of command = []
 abbrev pub command_words : Command → List (List ℕ)
 command_words command = command_name command ++ operands_of command
 
--- trusted, own: the operands of a command are in range
+-- trusted, own: holds if the operands of the command are in range
 abbrev pub operands_in_range : Command → Bool
 operands_in_range (Gen lines) = nat_le lines most_lines
 operands_in_range command = true
 
--- trusted, own: a name that may be absent
+-- trusted, own: the row of a name that may be absent
 abbrev pub optional : Name → NameRow
 optional name = record { name = name; instead = None; required = false }
 
--- trusted, own: a name that must be there
+-- trusted, own: the row of a name that must be there
 abbrev pub needed : Name → NameRow
 needed name = record { name = name; instead = None; required = true }
 
--- trusted, own: a name, or another instead, that may be absent
+-- trusted, own: the row of a name, or another instead, that may be absent
 abbrev pub optional_either : Name → Name → NameRow
 optional_either name other = record { name = name; instead = Some other; required = false }
 
--- trusted, own: a name that must be there, or another instead
+-- trusted, own: the row of a name that must be there, or another instead
 abbrev pub needed_either : Name → Name → NameRow
 needed_either name other = record { name = name; instead = Some other; required = true }
 
@@ -94,8 +94,8 @@ names_of DumpRead = optional Tables ∷ []
 names_of DumpWrite = optional Tables ∷ []
 names_of Merge = needed Links ∷ needed Second ∷ optional Third ∷ optional Tables ∷ optional Voc ∷ []
 
--- trusted, own: the work of a command: on the lines of the input, on its request heads like those of one connection, on the
--- listener, or on none of these
+-- trusted, own: The work of a command. It is on the lines of the input, on its request heads like those of one connection, on
+-- the listener, or on none of these.
 pub data Work : Type 0 where
   on_lines : Work
   on_heads : Work
@@ -117,12 +117,12 @@ work_of DumpRead = on_lines
 work_of DumpWrite = on_lines
 work_of Merge = on_none
 
--- trusted, own: the work is on the lines of the input
+-- trusted, own: holds if the work is on the lines of the input
 abbrev pub is_on_lines : Work → Bool
 is_on_lines on_lines = true
 is_on_lines work = false
 
--- trusted, own: the work is on the heads of the input
+-- trusted, own: holds if the work is on the heads of the input
 abbrev pub is_on_heads : Work → Bool
 is_on_heads on_heads = true
 is_on_heads work = false
@@ -132,7 +132,7 @@ abbrev pub is_on_door : Work → Bool
 is_on_door on_door = true
 is_on_door work = false
 
--- trusted, own: the command answers the lines of the input
+-- trusted, own: holds if `command` answers the lines of the input
 abbrev pub answers_lines : Command → Bool
 answers_lines command = is_on_lines (work_of command)
 
@@ -140,7 +140,7 @@ answers_lines command = is_on_lines (work_of command)
 abbrev pub answers_heads : Command → Bool
 answers_heads command = is_on_heads (work_of command)
 
--- trusted, own: the command uses the input
+-- trusted, own: holds if `command` uses the input
 abbrev pub reads_input : Command → Bool
 reads_input command = answers_lines command || answers_heads command
 

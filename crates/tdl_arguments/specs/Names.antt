@@ -32,11 +32,11 @@ name_word Encoding = codes "--encoding"
 name_word KeysOnly = codes "--keys-only"
 name_word Stem = codes "--stem"
 
--- trusted, own: a value is `yes` or `no`
+-- trusted, own: holds if `value` is `yes` or `no`
 abbrev pub is_yes_or_no : List ℕ → Bool
 is_yes_or_no value = bytes_eq value (codes "yes") || bytes_eq value (codes "no")
 
--- trusted, own: the values that a name may have; a file may have any name, and an address any text
+-- trusted, own: Holds if the name may have `value`. A file may have any name, and an address any text.
 abbrev pub in_range : Name → List ℕ → Bool
 in_range Tables value = true
 in_range Prefixes value = true
@@ -60,50 +60,50 @@ in_range Stem value = stem_ok value
 abbrev pub look_up : List ℕ → NamedPairs → Option (List ℕ)
 look_up name pairs = option_map (λ (pair : List ℕ × List ℕ). pair.1) (find (λ (pair : List ℕ × List ℕ). bytes_eq pair.0 name) pairs)
 
--- trusted, own: pairs have a value of the name
+-- trusted, own: holds if `pairs` have a value of `name`
 abbrev pub is_named : NamedPairs → Name → Bool
 is_named pairs name = is_some (look_up (name_word name) pairs)
 
--- trusted, own: one of the names of a row, its own or that instead, has the property
+-- trusted, own: holds if one of the names of `row`, its own or the one instead, has `property`
 abbrev pub has_name : (Name → Bool) → NameRow → Bool
 has_name property row = list_any property (row.name ∷ option_to_list row.instead)
 
--- trusted, own: the word is that of the name, and the name may have the value
+-- trusted, own: holds if `word` is that of `name`, and `name` may have `value`
 abbrev pub name_takes : Name → List ℕ → List ℕ → Bool
 name_takes name word value = bytes_eq (name_word name) word && in_range name value
 
--- trusted, own: a row takes this name with this value
+-- trusted, own: holds if `row` takes the name `word` with `value`
 abbrev pub row_takes : NameRow → List ℕ → List ℕ → Bool
 row_takes row word value = has_name (λ name. name_takes name word value) row
 
--- trusted, own: pairs have a value of one of the names of the row
+-- trusted, own: holds if `pairs` have a value of one of the names of `row`
 abbrev pub is_given : NamedPairs → NameRow → Bool
 is_given pairs row = has_name (is_named pairs) row
 
--- trusted, own: a row takes this name with this value, and none of its names has a value among the other pairs
+-- trusted, own: holds if a row takes the name `word` with `value`, and none of its names has a value among `others`
 abbrev pub takes : List NameRow → List ℕ → List ℕ → NamedPairs → Bool
 takes rows name value others = list_any (λ (row : NameRow). not (is_given others row) && row_takes row name value) rows
 
--- trusted, own: the arguments are these pairs, each a name and its value
+-- trusted, own: holds if the arguments are the pairs, each a name and its value
 pub data ArePairs : List (List ℕ) → NamedPairs → Type 0 where
   no_pair : ArePairs [] []
   one_pair : (name value : List ℕ) (words : List (List ℕ)) (pairs : NamedPairs) → ArePairs words pairs → ArePairs (name ∷ value ∷ words) ((name, value) ∷ pairs)
 
--- trusted, own: the rows take each of the pairs, each row at most one
+-- trusted, own: holds if `rows` take each of the pairs, each row at most one
 pub data AreTaken (rows : List NameRow) : NamedPairs → Type 0 where
   none_taken : AreTaken rows []
   one_taken : (name value : List ℕ) (pairs : NamedPairs) → takes rows name value pairs ≡ true → AreTaken rows pairs → AreTaken rows ((name, value) ∷ pairs)
 
--- trusted, own: the arguments are pairs that the rows take, each row at most one
+-- trusted, own: holds if the arguments `words` are `pairs`, which `rows` take, each row at most one
 pub record AreOfRows (rows : List NameRow) (words : List (List ℕ)) (pairs : NamedPairs) : Type 0 where
   pub are : ArePairs words pairs
   pub taken : AreTaken rows pairs
 
--- the arguments are pairs that the rows take, each row at most one
+-- holds if the arguments are pairs that the rows take, each row at most one
 abbrev pub HasPairs : List NameRow → List (List ℕ) → Type 0
 HasPairs rows words = (pairs : NamedPairs) × AreOfRows rows words pairs
 
--- the arguments are not pairs that the rows take, each row at most one
+-- holds if the arguments are not pairs that the rows take, each row at most one
 abbrev pub HasNoPairs : List NameRow → List (List ℕ) → Type 0
 HasNoPairs rows words = (pairs : NamedPairs) → AreOfRows rows words pairs → ⊥
 
@@ -111,6 +111,6 @@ HasNoPairs rows words = (pairs : NamedPairs) → AreOfRows rows words pairs → 
 abbrev pub OfPairs : List (List ℕ) → (NamedPairs → Type 0) → Type 0
 OfPairs words Fact = (pairs : NamedPairs) → ArePairs words pairs → Fact pairs
 
--- trusted, own: holds if each required row is given by one of its names
+-- trusted, own: holds if each required row of `rows` is given by one of its names
 abbrev pub has_required : List NameRow → NamedPairs → Bool
 has_required rows pairs = list_all (λ (row : NameRow). not row.required || is_given pairs row) rows

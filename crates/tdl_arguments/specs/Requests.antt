@@ -123,13 +123,13 @@ named_values pairs = record {
 abbrev pub asked_of : Command → NamedPairs → Asked
 asked_of command pairs = record { command = command; files = named_files pairs; values = named_values pairs }
 
--- trusted, own: holds if the command may have these values: the vocabulary of `merge` keeps names (`keeps_names`)
+-- trusted, own: holds if the command may have `values`: the vocabulary of `merge` keeps names (`keeps_names`)
 abbrev pub may_have : Command → Values → Bool
 may_have Merge values = keeps_names values.voc
 may_have command values = true
 
--- trusted, own: Holds if the words after a command and its operands are pairs that ask for this. The command takes these names,
--- each row at most once and the required ones present, and may have these values.
+-- trusted, own: Holds if `words`, after a command and its operands, are pairs that ask for `asked`. The command takes these
+-- names, each row at most once and the required ones present, and may have these values.
 pub record Asks (command : Command) (words : List (List ℕ)) (asked : Asked) : Type 0 where
   pub pairs : NamedPairs
   pub of_rows : AreOfRows (names_of command) words pairs
@@ -137,7 +137,7 @@ pub record Asks (command : Command) (words : List (List ℕ)) (asked : Asked) : 
   pub fits : may_have command (named_values pairs) ≡ true
   pub is : asked ≡ asked_of command pairs
 
--- trusted, own: holds if the words are valid and ask for this: a command, operands in range, and pairs
+-- trusted, own: holds if `words` are valid and ask for `asked`: a command, operands in range, and pairs
 pub record WordsInOrder (words : List (List ℕ)) (asked : Asked) : Type 0 where
   pub command : Command
   pub behind : List (List ℕ)
@@ -145,22 +145,21 @@ pub record WordsInOrder (words : List (List ℕ)) (asked : Asked) : Type 0 where
   pub in_range : operands_in_range command ≡ true
   pub asks : Asks command behind asked
 
--- trusted, own: holds if the words are invalid: they ask for nothing
+-- trusted, own: holds if `words` are invalid: they ask for nothing
 abbrev pub NotInOrder : List (List ℕ) → Type 0
 NotInOrder words = (asked : Asked) → WordsInOrder words asked → ⊥
 
--- trusted, own: holds if the words are valid, and their request has this property
+-- trusted, own: holds if `words` are valid, and `Fact` holds of their request
 pub record Asking (words : List (List ℕ)) (Fact : Asked → Type 0) : Type 0 where
   pub asked : Asked
   pub order : WordsInOrder words asked
   pub fact : Fact asked
 
--- trusted, own: holds if the words are valid and their request has this property, or if they are invalid and the other fact
--- holds
+-- trusted, own: holds if `words` are valid and `Fact` holds of their request, or they are invalid and `Other` holds
 abbrev pub AskingOr : List (List ℕ) → (Asked → Type 0) → Type 0 → Type 0
 AskingOr words Fact Other = Asking words Fact ⊎ (NotInOrder words × Other)
 
--- trusted, own: holds if the words are valid, and the command that they ask for passes the test
+-- trusted, own: holds if `words` are valid, and the command that they ask for passes `test`
 abbrev pub AsksFor : (Command → Bool) → List (List ℕ) → Type 0
 AsksFor test words = Asking words (λ asked. test asked.command ≡ true)
 
@@ -205,7 +204,7 @@ classes_named files = option_to_list files.classes
 abbrev pub names_in_order : FileNames → List (List ℕ)
 names_in_order files = tables_named files ++ (links_named files ++ (description_named files ++ classes_named files))
 
--- trusted, own: holds if the words name no file
+-- trusted, own: holds if `words` are invalid or name no file
 abbrev pub NamesNoFile : List (List ℕ) → Type 0
 NamesNoFile words = (name : List ℕ) → Asking words (λ asked. Contains (names_in_order asked.files) name) → ⊥
 

@@ -3,6 +3,6 @@ use Rattle.std.specs.Prelude.{ℕ, List}
 use Rattle.tdl_arguments.specs.declared.command.Command.{Command}
 use Rattle.tdl_arguments.specs.Requests.{Asked, Asks}
 
--- the arguments after a command and its operands ask for nothing
+-- holds if the arguments after a command and its operands ask for nothing
 abbrev pub AsksNothing : Command → List (List ℕ) → Type 0
 AsksNothing command words = (asked : Asked) → Asks command words asked → ⊥

@@ -239,8 +239,8 @@ fn may_have(command: Command, values: NamedValues<'_>) -> bool
     }
 }
 
-/// Returns the request of a command with the arguments after its operands. Returns `None` if and only if one of three holds:
-/// they are not pairs that the command takes, a required name is missing, or this command may not have a value.
+/// Returns the request of a command with the arguments after its operands. Returns `None` if and only if one of three holds.
+/// They are not pairs that the command takes, a required name is missing, or this command may not have a value.
 fn request_of(command: Command, words: &[String]) -> Option<Request<'_>>
     ensures request { IfSome result (λ request.
         Asks command (known_words words.now) (known_request request)) }

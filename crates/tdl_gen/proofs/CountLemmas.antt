@@ -15,20 +15,23 @@ use Rattle.gs_translate.specs.Steps.{UnlessMemory}
 use Rattle.gs_translate.proofs.StepLaws.{known_answer}
 use Rattle.tdl_gen.specs.Generator.{generated_line}
 
-ok_more : (answers : List (Result (List ℕ) Reason)) (answer : Result (List ℕ) Reason) → ok_answers (answers ++ answer ∷ []) ≡ ok_answers answers + ok_answers (answer ∷ [])
+ok_more : (answers : List (Result (List ℕ) Reason)) (answer : Result (List ℕ) Reason)
+    → ok_answers (answers ++ answer ∷ []) ≡ ok_answers answers + ok_answers (answer ∷ [])
 ok_more answers answer = sum_by-append (λ x. cond (is_ok x) 1 0) answers (answer ∷ [])
 
 bytes_of_one : (answer : Result (List ℕ) Reason) → answered_bytes (answer ∷ []) ≡ length (answer_bytes answer)
 bytes_of_one answer = rw (flat_map-cons answer_bytes answer [], length-append (answer_bytes answer) []) (omega arith)
 
-bytes_more : (answers : List (Result (List ℕ) Reason)) (answer : Result (List ℕ) Reason) → answered_bytes (answers ++ answer ∷ []) ≡ answered_bytes answers + length (answer_bytes answer)
+bytes_more : (answers : List (Result (List ℕ) Reason)) (answer : Result (List ℕ) Reason)
+    → answered_bytes (answers ++ answer ∷ []) ≡ answered_bytes answers + length (answer_bytes answer)
 bytes_more answers answer =
     rw (flat_map-append answer_bytes answers (answer ∷ []), length-append (flat_map answer_bytes answers) (flat_map answer_bytes (answer ∷ [])), bytes_of_one answer) refl
 
 pub counts_none : (set : TableRows) → CountsFirst set 0 0 0
 counts_none set = record { answers = []; each = no_line; ok_is = refl; bytes_is = refl }
 
-counts_next : (set : TableRows) (n : ℕ) (before now : Counts) (answer : Result (List ℕ) Reason) → CountsFirst set n before.ok before.bytes → IsLineAnswer set (generated_line n) answer → CountsOneMore before answer now → CountsFirst set (n + 1) now.ok now.bytes
+counts_next : (set : TableRows) (n : ℕ) (before now : Counts) (answer : Result (List ℕ) Reason) → CountsFirst set n before.ok before.bytes
+    → IsLineAnswer set (generated_line n) answer → CountsOneMore before answer now → CountsFirst set (n + 1) now.ok now.bytes
 counts_next set n before now answer first is more = record {
   answers = first.answers ++ answer ∷ [];
   each = subst (λ m. AnswersFirst set m (first.answers ++ answer ∷ [])) (omega arith) (one_more n first.answers answer first.each is);
@@ -37,7 +40,9 @@ counts_next set n before now answer first is more = record {
 }
 
 -- with an answer that is not out of memory, to the line of the next number
-pub counts_answered : (set : TableRows) (n : ℕ) (line : List ℕ) (before now : Counts) (answer : Result (List ℕ) Reason) → line ≡ generated_line n → CountsFirst set n before.ok before.bytes → answer ≢ Err Memory → UnlessMemory answer (IsLineAnswer set line answer) → CountsOneMore before answer now → CountsFirst set (n + 1) now.ok now.bytes
+pub counts_answered : (set : TableRows) (n : ℕ) (line : List ℕ) (before now : Counts) (answer : Result (List ℕ) Reason)
+    → line ≡ generated_line n → CountsFirst set n before.ok before.bytes → answer ≢ Err Memory
+    → UnlessMemory answer (IsLineAnswer set line answer) → CountsOneMore before answer now → CountsFirst set (n + 1) now.ok now.bytes
 counts_answered set n line before now answer same first known is more =
     let answered : IsLineAnswer set (generated_line n) answer = subst (λ (text : List ℕ). IsLineAnswer set text answer) same (known_answer answer (IsLineAnswer set line answer) known is) in
     counts_next set n before now answer first answered more

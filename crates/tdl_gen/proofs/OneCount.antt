@@ -21,7 +21,8 @@ module _ (set : TableRows) where
 
   one_line_answer : (line : List ℕ) → HasOne (IsLineAnswer set line)
   one_line_answer line =
-      then_one (IsPlain set form.Pure target.Hex line) (IsPlain set form.Hex target.Canon) (one_plain form.Pure target.Hex line tt) (λ hex. one_plain form.Hex target.Canon hex tt)
+      then_one (IsPlain set form.Pure target.Hex line) (IsPlain set form.Hex target.Canon) (one_plain form.Pure target.Hex line tt)
+      (λ hex. one_plain form.Hex target.Canon hex tt)
 
   one_answers : (n : ℕ) (one other : List (Result (List ℕ) Reason)) → AnswersFirst set n one → AnswersFirst set n other → one ≡ other
   one_answers _ _ _ no_line no_line = refl
@@ -42,7 +43,8 @@ module _ (set : TableRows) where
 
     some_line_answer : (line : List ℕ) → HasSome (IsLineAnswer set line)
     some_line_answer line =
-        then_some (IsPlain set form.Pure target.Hex line) (IsPlain set form.Hex target.Canon) (some_plain form.Pure target.Hex line loaded) (λ hex _. some_plain form.Hex target.Canon hex loaded)
+        then_some (IsPlain set form.Pure target.Hex line) (IsPlain set form.Hex target.Canon) (some_plain form.Pure target.Hex line loaded)
+        (λ hex _. some_plain form.Hex target.Canon hex loaded)
 
     some_answers : (n : ℕ) → HasSome (AnswersFirst set n)
     some_answers zero = ([], no_line)

@@ -12,9 +12,9 @@ use std::alloc::Global;
 /// The counts of answers.
 #[derive(Clone, Copy)]
 pub struct Counts {
-    /// How many are texts.
+    /// The number of answers that are texts.
     pub ok: u64,
-    /// How many bytes the lines of all answers have. No bound is set to one line, so 64 bits may be too few.
+    /// The number of bytes of the lines of all answers. No bound is set to one line, so 64 bits may be too few.
     pub bytes: u128,
 }
 

@@ -95,16 +95,17 @@ fn counts_line(alloc: Global, set: &TableSet, lines: u32) -> Result<String, Memo
     counts_text(alloc, lines, counts)
 }
 
-/// Answers `lines` lines of the generator by the tables, and writes one line of counts: of the lines, of the answers that are
-/// texts, and of the bytes of all answers' lines, with their line feeds. It does not write the answers.
+/// Answers `lines` lines of the generator by the tables, and writes one line of counts. It counts the lines, the answers that
+/// are texts, and the bytes of all answers' lines, with their line feeds. It does not write the answers.
 ///
 /// Line k, from 0, is `urn:epc:id:sgtin:P.R.k`. The state x begins at 0. For each line it becomes x * 6364136223846793005 +
-/// 1442695040888963407 modulo 2^64; P is x / 2^40 modulo 10^7 in seven digits, and R is x / 2^20 modulo 10^6 in six. The line is
-/// translated to tag bits with filter value 1 and no company prefix lengths; its answer is their canonical link, or the first
-/// rejection.
+/// 1442695040888963407 modulo 2^64. P is x / 2^40 modulo 10^7 in seven digits, and R is x / 2^20 modulo 10^6 in six. The line
+/// is translated to tag bits with filter value 1 and no company prefix lengths. Its answer is their canonical link, or the
+/// first rejection.
 ///
 /// `Done` is returned if the line was written whole, and `WriteFault` only if the output's count rose. After it and after
-/// `Memory` a prefix of the line was written. No other status comes. The tables are loaded, so that no text has two readings.
+/// `Memory` a prefix of the line was written. No other status is returned. The tables are loaded, so that no text has two
+/// readings.
 pub fn generate<K: Sink>(alloc: Global, set: &TableSet, lines: u32, output: &mut K) -> Status
     requires loaded { IsLoaded set.now }
     ensures written { AppendsGenerated set.now lines result (K.held output.old) (K.held output.new) }

@@ -11,7 +11,7 @@ usage: tdl COMMAND [--OPTION VALUE]..
        tdl --help
        tdl --version
 
-An option has a value, stands once, and in any order.
+Each option takes a value, occurs at most once, and may come in any order.
 
 commands
 

@@ -88,7 +88,7 @@ fn two_words(
     wrong_at(1, "it is not the second word of a command")
 }
 
-/// Returns the command that the arguments begin with, and how many arguments it and its operands are.
+/// Returns the command that the arguments begin with, and the number of arguments of it and its operands.
 fn command_of(words: &[String]) -> Result<(Command, usize), Wrong> {
     let Some(first) = words.first() else {
         return missing("a command is missing; tdl --help lists them");

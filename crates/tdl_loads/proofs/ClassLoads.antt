@@ -35,7 +35,8 @@ use Rattle.tdl_loads.proofs.FlatLoads.{flat_parts}
 
 -- ---- sets that the rules make are of the table
 
-set_made : {F R S : Type 0} (make : R → S) (rejections : List F) (rows : R) (set : S) → first_or rejections (make rows) ≡ Ok set → (rejections ≡ []) × (set ≡ make rows)
+set_made : {F R S : Type 0} (make : R → S) (rejections : List F) (rows : R) (set : S) → first_or rejections (make rows) ≡ Ok set
+    → (rejections ≡ []) × (set ≡ make rows)
 set_made make [] rows set h = (refl, let e : Ok (make rows) ≡ Ok set = h in let f : make rows ≡ set = cc in sym f)
 set_made make (f ∷ rejections) rows set h = absurd (let e : Err f ≡ Ok set = h in cc)
 
@@ -61,7 +62,8 @@ of_table_bytes ais bytes set h = by (document_of bytes) h
 
 -- ---- classes that are loaded
 
-kept_of : (ais : List AiRow) (ruled : Result ClassRows ClassLoadFault) → ((made : ClassRows) → ruled ≡ Ok made → IsOfTable ais made) → (set : ClassRows) → Judged ruled (Ok set) → AreKept ais set
+kept_of : (ais : List AiRow) (ruled : Result ClassRows ClassLoadFault) → ((made : ClassRows) → ruled ≡ Ok made → IsOfTable ais made)
+    → (set : ClassRows) → Judged ruled (Ok set) → AreKept ais set
 kept_of ais (Err error) of set j = absurd (let f : Ok set ≡ Err error = j in cc)
 kept_of ais (Ok made) of set j = rw j.0 (record { of_table = of made refl; clear = j.1 })
 
@@ -71,26 +73,33 @@ none_kept ais = record {
   clear = λ a. let e = a.two.one.of_level in absurd cc;
 }
 
-judged_kept : (ais : List AiRow) (Answer : Result ClassRows ClassLoadFault → Type 0) (verdict : Result ClassRows FileFault) (set : ClassRows) → ((set : ClassRows) → Answer (Ok set) → AreKept ais set) → JudgesClasses Answer verdict → Ok set ≡ of_verdict kind.Classes verdict → AreKept ais set
+judged_kept : (ais : List AiRow) (Answer : Result ClassRows ClassLoadFault → Type 0) (verdict : Result ClassRows FileFault) (set : ClassRows)
+    → ((set : ClassRows) → Answer (Ok set) → AreKept ais set) → JudgesClasses Answer verdict → Ok set ≡ of_verdict kind.Classes verdict
+    → AreKept ais set
 judged_kept ais Answer verdict set kept j e = by j.answer j.is_answer (e ∙ ap (of_verdict kind.Classes) j.is)
   where
     by : (answer : Result ClassRows ClassLoadFault) → Answer answer → Ok set ≡ of_verdict kind.Classes (classes_verdict answer) → AreKept ais set
     by (Ok other) a f = let same : set ≡ other = cc in rw same (kept other a)
     by (Err error) a f = absurd (let g : Ok set ≡ Err (rejected (record { kind = kind.Classes; error = Classes error })) = f in cc)
 
-unnamed_kept : (ais : List AiRow) (of_classes : Bool) (verdict : Result ClassRows FileFault) (set : ClassRows) → UnnamedClasses ais of_classes verdict → Ok set ≡ of_verdict kind.Classes verdict → AreKept ais set
+unnamed_kept : (ais : List AiRow) (of_classes : Bool) (verdict : Result ClassRows FileFault) (set : ClassRows)
+    → UnnamedClasses ais of_classes verdict → Ok set ≡ of_verdict kind.Classes verdict → AreKept ais set
 unnamed_kept ais true verdict set u e = judged_kept ais (BuiltInAnswer ais) verdict set (kept_of ais (ruled_rows ais built_in_rows) (of_table_built_in ais)) u e
 unnamed_kept ais false verdict set u e =
     let f : Ok set ≡ Ok (set_of []) = e ∙ ap (of_verdict kind.Classes) u in
     let same : set ≡ set_of [] = cc in
     rw same (none_kept ais)
 
-file_kept : (files : Option FilesInMemory) (ais : List AiRow) (command : Command) (name : List ℕ) (set : ClassRows) → ClassesGive files ais command (Some name) (Ok set) → AreKept ais set
+file_kept : (files : Option FilesInMemory) (ais : List AiRow) (command : Command) (name : List ℕ) (set : ClassRows)
+    → ClassesGive files ais command (Some name) (Ok set) → AreKept ais set
 file_kept files ais command name set (absent none e) = absurd (let f : Ok set ≡ Err (missing kind.Classes) = e in cc)
-file_kept files ais command name set (too_large bytes is more e) = absurd (let f : Ok set ≡ Err (rejected (record { kind = kind.Classes; error = Over })) = e in cc)
-file_kept files ais command name set (judged bytes verdict is few j e) = judged_kept ais (LoadAnswer ais bytes) verdict set (kept_of ais (ruled_bytes ais bytes) (of_table_bytes ais bytes)) j e
+file_kept files ais command name set (too_large bytes is more e) = absurd
+    (let f : Ok set ≡ Err (rejected (record { kind = kind.Classes; error = Over })) = e in cc)
+file_kept files ais command name set (judged bytes verdict is few j e) = judged_kept ais (LoadAnswer ais bytes) verdict set
+    (kept_of ais (ruled_bytes ais bytes) (of_table_bytes ais bytes)) j e
 
-given_kept : (files : Option FilesInMemory) (ais : List AiRow) (command : Command) (name : Option (List ℕ)) (set : ClassRows) → ClassesGive files ais command name (Ok set) → AreKept ais set
+given_kept : (files : Option FilesInMemory) (ais : List AiRow) (command : Command) (name : Option (List ℕ)) (set : ClassRows)
+    → ClassesGive files ais command name (Ok set) → AreKept ais set
 given_kept files ais command None set gives = unnamed_kept ais (is_of_classes command) gives.verdict set gives.judged gives.is
 given_kept files ais command (Some name) set gives = file_kept files ais command name set gives
 
@@ -98,18 +107,22 @@ parts_kept : (files : Option FilesInMemory) (asked : Asked) (loaded : Loaded) �
 parts_kept files asked loaded (rejects stop gives e) = absurd (let f : Ok loaded ≡ Err stop = e in cc)
 parts_kept files asked loaded (goes_on tabled gives (rejects stop g e)) = absurd (let f : Ok loaded ≡ Err stop = e in cc)
 parts_kept files asked loaded (goes_on tabled gives (goes_on linked g (rejects stop h e))) = absurd (let f : Ok loaded ≡ Err stop = e in cc)
-parts_kept files asked loaded (goes_on tabled gives (goes_on linked g (goes_on settings h (rejects stop k e)))) = absurd (let f : Ok loaded ≡ Err stop = e in cc)
+parts_kept files asked loaded (goes_on tabled gives (goes_on linked g (goes_on settings h (rejects stop k e)))) = absurd
+    (let f : Ok loaded ≡ Err stop = e in cc)
 parts_kept files asked loaded (goes_on tabled gives (goes_on linked g (goes_on settings h (goes_on classes k e)))) =
     let same : loaded ≡ record { tables = tabled.tables; source = tabled.source; prefixes = tabled.prefixes; links = linked.links; merged = linked.merged; settings = settings; classes = classes } = cc in
     rw same (given_kept files tabled.tables.ais asked.command asked.files.classes classes k)
 
-pub classes_kept : (files : Option FilesInMemory) (asked : Asked) (loaded : Loaded) → FilesGive files asked (Ok loaded) → AreKept loaded.tables.ais loaded.classes
+pub classes_kept : (files : Option FilesInMemory) (asked : Asked) (loaded : Loaded) → FilesGive files asked (Ok loaded)
+    → AreKept loaded.tables.ais loaded.classes
 classes_kept files asked loaded gives = parts_kept files asked loaded (flat_parts files asked (Ok loaded) gives)
 
 -- ---- how classes were loaded
 
 -- classes that were judged are loaded, or rejected, or memory ran out
-known_classes : (Give : Result ClassRows Stop → Type 0) (before now : ℕ) (answer : Result ClassRows ClassLoadFault) (result : Result ClassRows Unloaded) (Answer : Result ClassRows ClassLoadFault → Type 0) → OrMemory Answer answer → ClassesUnloadedAs answer result → (Answer answer → Give (of_verdict kind.Classes (classes_verdict answer))) → LoadedBy Give before now result
+known_classes : (Give : Result ClassRows Stop → Type 0) (before now : ℕ) (answer : Result ClassRows ClassLoadFault) (result : Result ClassRows Unloaded) (Answer : Result ClassRows ClassLoadFault → Type 0)
+    → OrMemory Answer answer → ClassesUnloadedAs answer result → (Answer answer → Give (of_verdict kind.Classes (classes_verdict answer)))
+    → LoadedBy Give before now result
 known_classes Give before now answer (Ok set) Answer (inl none) u give = absurd (let f : Ok set ≡ Err class.Memory = sym u ∙ none in cc)
 known_classes Give before now answer (Ok set) Answer (inr is) u give = let g = give is in rw u at g
 known_classes Give before now answer (Err unloaded.Memory) Answer o u give = tt
@@ -117,15 +130,20 @@ known_classes Give before now answer (Err unloaded.ReadFault) Answer o u give = 
 known_classes Give before now answer (Err (unloaded.Refused rejection)) Answer (inl none) u give = absurd (u.0 none)
 known_classes Give before now answer (Err (unloaded.Refused rejection)) Answer (inr is) u give = let g = give is in rw u.1 at g
 
-pub file_loaded : (files : Option FilesInMemory) (ais : List AiRow) (command : Command) (name bytes : List ℕ) (before now : ℕ) (answer : Result ClassRows ClassLoadFault) (result : Result ClassRows Unloaded) → IsFile files name bytes → length bytes ≤ file_limit kind.Classes → OrMemory (LoadAnswer ais bytes) answer → ClassesUnloadedAs answer result → LoadedBy (ClassesGive files ais command (Some name)) before now result
+pub file_loaded : (files : Option FilesInMemory) (ais : List AiRow) (command : Command) (name bytes : List ℕ) (before now : ℕ) (answer : Result ClassRows ClassLoadFault) (result : Result ClassRows Unloaded)
+    → IsFile files name bytes → length bytes ≤ file_limit kind.Classes → OrMemory (LoadAnswer ais bytes) answer
+    → ClassesUnloadedAs answer result → LoadedBy (ClassesGive files ais command (Some name)) before now result
 file_loaded files ais command name bytes before now answer result is few load u =
     known_classes (ClassesGive files ais command (Some name)) before now answer result (LoadAnswer ais bytes) load u
     (λ a. judged bytes (classes_verdict answer) is few (record { answer = answer; is_answer = a; is = refl }) refl)
 
-pub built_in_loaded : (ais : List AiRow) (command : Command) (answer : Result ClassRows ClassLoadFault) (result : Result ClassRows Unloaded) → is_of_classes command ≡ true → OrMemory (BuiltInAnswer ais) answer → ClassesUnloadedAs answer result → AreUnnamedClasses ais command result
+pub built_in_loaded : (ais : List AiRow) (command : Command) (answer : Result ClassRows ClassLoadFault) (result : Result ClassRows Unloaded)
+    → is_of_classes command ≡ true → OrMemory (BuiltInAnswer ais) answer → ClassesUnloadedAs answer result
+    → AreUnnamedClasses ais command result
 built_in_loaded ais command answer result of load u = λ before now. rw of
     (known_classes (StandsFor kind.Classes (UnnamedClasses ais true)) before now answer result (BuiltInAnswer ais) load u
     (λ a. record { verdict = classes_verdict answer; judged = record { answer = answer; is_answer = a; is = refl }; is = refl }))
 
-pub none_loaded : (ais : List AiRow) (command : Command) (set : ClassRows) → is_of_classes command ≡ false → set ≡ set_of [] → AreUnnamedClasses ais command (Ok set)
+pub none_loaded : (ais : List AiRow) (command : Command) (set : ClassRows) → is_of_classes command ≡ false → set ≡ set_of []
+    → AreUnnamedClasses ais command (Ok set)
 none_loaded ais command set not none = λ before now. rw not (record { verdict = Ok (set_of []); judged = refl; is = ap Ok none })

@@ -15,21 +15,26 @@ use Rattle.tdl_loads.specs.LoadsSupport.{LoadedBy}
 use Rattle.tdl_loads.specs.Reads.{JudgedAs, JudgedBy, ReadBy}
 
 -- a file that was not read
-pub file_unloaded : {A : Type 0} (files : Option (List (List ℕ × List ℕ))) (kind : FileKind) (Judges : List ℕ → Result A FileFault → Type 0) (name : List ℕ) (before now : ℕ) (u : Unloaded) → ReadBy files kind name before now (Err u) → LoadedBy (FileGives files kind Judges name) before now (Err u)
+pub file_unloaded : {A : Type 0} (files : Option (List (List ℕ × List ℕ))) (kind : FileKind) (Judges : List ℕ → Result A FileFault → Type 0) (name : List ℕ) (before now : ℕ) (u : Unloaded)
+    → ReadBy files kind name before now (Err u) → LoadedBy (FileGives files kind Judges name) before now (Err u)
 file_unloaded files kind Judges name before now unloaded.Memory r = tt
 file_unloaded files kind Judges name before now unloaded.ReadFault (inl rises) = inl rises
 file_unloaded files kind Judges name before now unloaded.ReadFault (inr none) = inr (kind, absent none refl)
 file_unloaded files kind Judges name before now (unloaded.Refused rejection) r = too_large r.0 r.1 r.2 (ap (λ x. Err (rejected x)) r.3)
 
 -- a file that was judged
-pub file_judged : {A : Type 0} (files : Option (List (List ℕ × List ℕ))) (kind : FileKind) (Judges : List ℕ → Result A FileFault → Type 0) (name bytes : List ℕ) (before now : ℕ) (verdict : Result A FileFault) (result : Result A Unloaded) → IsFile files name bytes → length bytes ≤ file_limit kind → Judges bytes verdict → JudgedAs kind verdict result → LoadedBy (FileGives files kind Judges name) before now result
+pub file_judged : {A : Type 0} (files : Option (List (List ℕ × List ℕ))) (kind : FileKind) (Judges : List ℕ → Result A FileFault → Type 0) (name bytes : List ℕ) (before now : ℕ) (verdict : Result A FileFault) (result : Result A Unloaded)
+    → IsFile files name bytes → length bytes ≤ file_limit kind → Judges bytes verdict → JudgedAs kind verdict result
+    → LoadedBy (FileGives files kind Judges name) before now result
 file_judged files kind Judges name bytes before now verdict (Ok a) is few j e = judged bytes verdict is few j (sym (ap (of_verdict kind) e))
 file_judged files kind Judges name bytes before now verdict (Err unloaded.Memory) is few j e = tt
 file_judged files kind Judges name bytes before now verdict (Err unloaded.ReadFault) is few j e = absurd e
 file_judged files kind Judges name bytes before now verdict (Err (unloaded.Refused rejection)) is few j e = judged bytes verdict is few j (sym e)
 
 -- a file that was judged by a relation of verdicts
-pub file_judged_by : {A : Type 0} (files : Option (List (List ℕ × List ℕ))) (kind : FileKind) (Judges : List ℕ → Result A FileFault → Type 0) (name bytes : List ℕ) (before now : ℕ) (result : Result A Unloaded) → IsFile files name bytes → length bytes ≤ file_limit kind → JudgedBy kind (Judges bytes) result → LoadedBy (FileGives files kind Judges name) before now result
+pub file_judged_by : {A : Type 0} (files : Option (List (List ℕ × List ℕ))) (kind : FileKind) (Judges : List ℕ → Result A FileFault → Type 0) (name bytes : List ℕ) (before now : ℕ) (result : Result A Unloaded)
+    → IsFile files name bytes → length bytes ≤ file_limit kind → JudgedBy kind (Judges bytes) result
+    → LoadedBy (FileGives files kind Judges name) before now result
 file_judged_by files kind Judges name bytes before now (Ok a) is few j = judged bytes (Ok a) is few j refl
 file_judged_by files kind Judges name bytes before now (Err unloaded.Memory) is few j = tt
 file_judged_by files kind Judges name bytes before now (Err unloaded.ReadFault) is few j = absurd j
@@ -37,7 +42,8 @@ file_judged_by files kind Judges name bytes before now (Err (unloaded.Refused re
     judged bytes (Err rejection.error) is few j.1 (ap (λ (k : FileKind). Err (rejected (record { kind = k; error = rejection.error }))) j.0)
 
 -- the default if no file is named
-pub unnamed_judged : {A : Type 0} (kind : FileKind) (Unnamed : Result A FileFault → Type 0) (before now : ℕ) (verdict : Result A FileFault) (result : Result A Unloaded) → Unnamed verdict → JudgedAs kind verdict result → LoadedBy (StandsFor kind Unnamed) before now result
+pub unnamed_judged : {A : Type 0} (kind : FileKind) (Unnamed : Result A FileFault → Type 0) (before now : ℕ) (verdict : Result A FileFault) (result : Result A Unloaded)
+    → Unnamed verdict → JudgedAs kind verdict result → LoadedBy (StandsFor kind Unnamed) before now result
 unnamed_judged kind Unnamed before now verdict (Ok a) j e = record { verdict = verdict; judged = j; is = sym (ap (of_verdict kind) e) }
 unnamed_judged kind Unnamed before now verdict (Err unloaded.Memory) j e = tt
 unnamed_judged kind Unnamed before now verdict (Err unloaded.ReadFault) j e = absurd e
@@ -46,7 +52,8 @@ unnamed_judged kind Unnamed before now verdict (Err (unloaded.Refused rejection)
 -- ---- one file after another
 
 -- a file that is not loaded ends the load
-pub not_loaded : {A B : Type 0} (First : Result A Stop → Type 0) (Next : A → Result B Stop → Type 0) (before now : ℕ) (u : Unloaded) → LoadedBy First before now (Err u) → LoadedBy (Then First Next) before now (Err u)
+pub not_loaded : {A B : Type 0} (First : Result A Stop → Type 0) (Next : A → Result B Stop → Type 0) (before now : ℕ) (u : Unloaded)
+    → LoadedBy First before now (Err u) → LoadedBy (Then First Next) before now (Err u)
 not_loaded First Next before now unloaded.Memory g = tt
 not_loaded First Next before now unloaded.ReadFault (inl rises) = inl rises
 not_loaded First Next before now unloaded.ReadFault (inr none) = inr (none.0, rejects (missing none.0) none.1 refl)
@@ -56,7 +63,8 @@ rises_before : (before between now : ℕ) → before ≤ between → Rises betwe
 rises_before before between now less rises = grind (arith, common_steps)
 
 -- after a file that is loaded the load goes on
-pub loads_on : {A B : Type 0} (First : Result A Stop → Type 0) (Next : A → Result B Stop → Type 0) (before between now : ℕ) (a : A) (result : Result B Unloaded) → First (Ok a) → before ≤ between → LoadedBy (Next a) between now result → LoadedBy (Then First Next) before now result
+pub loads_on : {A B : Type 0} (First : Result A Stop → Type 0) (Next : A → Result B Stop → Type 0) (before between now : ℕ) (a : A) (result : Result B Unloaded)
+    → First (Ok a) → before ≤ between → LoadedBy (Next a) between now result → LoadedBy (Then First Next) before now result
 loads_on First Next before between now a (Ok b) f less g = goes_on a f g
 loads_on First Next before between now a (Err unloaded.Memory) f less g = tt
 loads_on First Next before between now a (Err unloaded.ReadFault) f less (inl rises) = inl (rises_before before between now less rises)

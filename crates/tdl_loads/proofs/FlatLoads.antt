@@ -16,12 +16,15 @@ use Rattle.tdl_loads.specs.LoadsSupport.{FilesKnown, LoadedBy, Loads, PartsGive,
 -- ---- steps in a row
 
 module _ {A B E : Type 0} where
-  next_map : (First : Result A E → Type 0) (Next Other : A → Result B E → Type 0) → ((a : A) (answer : Result B E) → Next a answer → Other a answer) → (answer : Result B E) → Then First Next answer → Then First Other answer
+  next_map : (First : Result A E → Type 0) (Next Other : A → Result B E → Type 0)
+      → ((a : A) (answer : Result B E) → Next a answer → Other a answer) → (answer : Result B E) → Then First Next answer
+      → Then First Other answer
   next_map First Next Other f answer (rejects error g e) = rejects error g e
   next_map First Next Other f answer (goes_on a g n) = goes_on a g (f a answer n)
 
   -- a first step that gives one thing
-  skip_first : (First : Result A E → Type 0) (Next : A → Result B E → Type 0) (a : A) → ((given : Result A E) → First given → given ≡ Ok a) → (answer : Result B E) → Then First Next answer → Next a answer
+  skip_first : (First : Result A E → Type 0) (Next : A → Result B E → Type 0) (a : A) → ((given : Result A E) → First given → given ≡ Ok a)
+      → (answer : Result B E) → Then First Next answer → Next a answer
   skip_first First Next a one answer (rejects error g e) = absurd (let f : Err error ≡ Ok a = one (Err error) g in cc)
   skip_first First Next a one answer (goes_on b g n) =
       let f : Ok b ≡ Ok a = one (Ok b) g in
@@ -49,7 +52,9 @@ module _ (links : List Link) (Next : Linked → Result Loaded Stop → Type 0) w
   abbrev with_links : List Context → Linked
   with_links contexts = record { links = links; merged = contexts }
 
-  merged_flat : (verdict : Result (List Context) Stop) (answer : Result Loaded Stop) → Then (λ linked. linked ≡ linked_with links verdict) Next answer → Then (λ merged. merged ≡ verdict) (λ contexts. Next (with_links contexts)) answer
+  merged_flat : (verdict : Result (List Context) Stop) (answer : Result Loaded Stop)
+      → Then (λ linked. linked ≡ linked_with links verdict) Next answer
+      → Then (λ merged. merged ≡ verdict) (λ contexts. Next (with_links contexts)) answer
   merged_flat (Ok contexts) answer t = goes_on contexts refl (skip_first (λ linked. linked ≡ Ok (with_links contexts)) Next (with_links contexts) (λ given e. e) answer t)
   merged_flat (Err stop) answer (rejects stop' g e) =
       let given : Result Linked Stop = Err stop' in
@@ -58,7 +63,9 @@ module _ (links : List Link) (Next : Linked → Result Loaded Stop → Type 0) w
       rejects stop' (ap Err same) e
   merged_flat (Err stop) answer (goes_on linked g n) = absurd (let given : Result Linked Stop = Ok linked in let f : given ≡ Err stop = g in cc)
 
-  flat_merged : (verdict : Result (List Context) Stop) (answer : Result Loaded Stop) → Then (λ merged. merged ≡ verdict) (λ contexts. Next (with_links contexts)) answer → Then (λ linked. linked ≡ linked_with links verdict) Next answer
+  flat_merged : (verdict : Result (List Context) Stop) (answer : Result Loaded Stop)
+      → Then (λ merged. merged ≡ verdict) (λ contexts. Next (with_links contexts)) answer
+      → Then (λ linked. linked ≡ linked_with links verdict) Next answer
   flat_merged (Ok contexts) answer t =
       goes_on (with_links contexts) refl (skip_first (λ merged. merged ≡ Ok contexts) (λ c. Next (with_links c)) contexts (λ given e. e) answer t)
   flat_merged (Err stop) answer (rejects stop' g e) =
@@ -111,16 +118,20 @@ flat_parts files asked answer x =
 
 -- ---- loads by one and by the other
 
-loaded_flat : (files : Option FilesInMemory) (asked : Asked) (before now : ℕ) (answer : Result Loaded Unloaded) → LoadedBy (PartsGive files asked) before now answer → LoadedBy (FilesGive files asked) before now answer
+loaded_flat : (files : Option FilesInMemory) (asked : Asked) (before now : ℕ) (answer : Result Loaded Unloaded)
+    → LoadedBy (PartsGive files asked) before now answer → LoadedBy (FilesGive files asked) before now answer
 loaded_flat files asked before now (Ok loaded) g = parts_flat files asked (Ok loaded) g
 loaded_flat files asked before now (Err (unloaded.Refused rejection)) g = parts_flat files asked (Err (rejected rejection)) g
 loaded_flat files asked before now (Err unloaded.ReadFault) (inl rises) = inl rises
 loaded_flat files asked before now (Err unloaded.ReadFault) (inr none) = inr (none.0, parts_flat files asked (Err (missing none.0)) none.1)
 loaded_flat files asked before now (Err unloaded.Memory) g = tt
 
-pub loads_flat : {As : Type 0} {before now : FilesKnown} (asked : Asked) (names : List (List ℕ)) (answer : Result Loaded Unloaded) → Loads (λ known. PartsGive known asked) names As before now answer → Loads (λ known. FilesGive known asked) names As before now answer
+pub loads_flat : {As : Type 0} {before now : FilesKnown} (asked : Asked) (names : List (List ℕ)) (answer : Result Loaded Unloaded)
+    → Loads (λ known. PartsGive known asked) names As before now answer → Loads (λ known. FilesGive known asked) names As before now answer
 loads_flat {before = before} {now = now} asked names answer l =
     record { loaded = loaded_flat before.files asked before.errors now.errors answer l.loaded; opened = l.opened; all_opened = l.all_opened; unopened = l.unopened; known = l.known; counts = l.counts }
 
-pub stops_flat : {before now : FilesKnown} {lost : Bool} (asked : Asked) (up_to : FileKind → List (List ℕ)) → StopsOpening (λ known. PartsGive known asked) up_to lost before now → StopsOpening (λ known. FilesGive known asked) up_to lost before now
+pub stops_flat : {before now : FilesKnown} {lost : Bool} (asked : Asked) (up_to : FileKind → List (List ℕ))
+    → StopsOpening (λ known. PartsGive known asked) up_to lost before now
+    → StopsOpening (λ known. FilesGive known asked) up_to lost before now
 stops_flat {before = before} asked up_to d = record { decided = λ known stop is gives. d.decided known stop is (flat_parts before.files asked (Err stop) gives) }

@@ -60,7 +60,9 @@ pub data AlikeStops {A : Type 0} (one other : Result A Stop) : Type 0 where
 abbrev AlikeVerdicts : {A : Type 0} → FileKind → (Result A FileFault → Type 0) → Type 0
 AlikeVerdicts {A = A} kind Judges = (one other : Result A FileFault) → Judges one → Judges other → AlikeStops (of_verdict kind one) (of_verdict kind other)
 
-file_one : {A : Type 0} (files : List (List ℕ × List ℕ)) (kind : FileKind) (Judges : List ℕ → Result A FileFault → Type 0) (name : List ℕ) → ((bytes : List ℕ) → AlikeVerdicts kind (Judges bytes)) → (a b : Result A Stop) → FileGives (Some files) kind Judges name a → FileGives (Some files) kind Judges name b → AlikeStops a b
+file_one : {A : Type 0} (files : List (List ℕ × List ℕ)) (kind : FileKind) (Judges : List ℕ → Result A FileFault → Type 0) (name : List ℕ)
+    → ((bytes : List ℕ) → AlikeVerdicts kind (Judges bytes)) → (a b : Result A Stop) → FileGives (Some files) kind Judges name a
+    → FileGives (Some files) kind Judges name b → AlikeStops a b
 file_one files kind Judges name one a b (absent n e) (absent n' e') = one_stop (e ∙ sym e')
 file_one files kind Judges name one a b (absent n e) (too_large bytes is more e') = absurd (not_absent files name bytes n is)
 file_one files kind Judges name one a b (absent n e) (judged bytes verdict is few j e') = absurd (not_absent files name bytes n is)
@@ -76,7 +78,9 @@ file_one files kind Judges name one a b (judged bytes verdict is few j e) (judge
     let moved : Judges bytes verdict' = rw same j' in
     rw (e, e') (one bytes verdict verdict' j moved)
 
-gives_one : {A : Type 0} (files : List (List ℕ × List ℕ)) (kind : FileKind) (Judges : List ℕ → Result A FileFault → Type 0) (Unnamed : Result A FileFault → Type 0) (name : Option (List ℕ)) → ((bytes : List ℕ) → AlikeVerdicts kind (Judges bytes)) → AlikeVerdicts kind Unnamed → (a b : Result A Stop) → Gives (Some files) kind Judges Unnamed name a → Gives (Some files) kind Judges Unnamed name b → AlikeStops a b
+gives_one : {A : Type 0} (files : List (List ℕ × List ℕ)) (kind : FileKind) (Judges : List ℕ → Result A FileFault → Type 0) (Unnamed : Result A FileFault → Type 0) (name : Option (List ℕ))
+    → ((bytes : List ℕ) → AlikeVerdicts kind (Judges bytes)) → AlikeVerdicts kind Unnamed → (a b : Result A Stop)
+    → Gives (Some files) kind Judges Unnamed name a → Gives (Some files) kind Judges Unnamed name b → AlikeStops a b
 gives_one files kind Judges Unnamed None one other a b x y = rw (x.is, y.is) (other x.verdict y.verdict x.judged y.judged)
 gives_one files kind Judges Unnamed (Some name) one other a b x y = file_one files kind Judges name one a b x y
 
@@ -105,8 +109,10 @@ same_given a a' (two_texts place text text' e f) = absurd (let g : Ok a ≡ Err 
 abbrev pub AreAlikeAll : {A : Type 0} → (Result A Stop → Type 0) → Type 0
 AreAlikeAll {A = A} Step = (one other : Result A Stop) → Step one → Step other → AlikeStops one other
 
-then_alike : {A B : Type 0} (First : Result A Stop → Type 0) (Next : A → Result B Stop → Type 0) → AreAlikeAll First → ((a : A) → AreAlikeAll (Next a)) → AreAlikeAll (Then First Next)
-then_alike {A = A} {B = B} First Next alike next x y (rejects stop gives e) (rejects stop' gives' e') = rw (e, e') (same_rejection stop stop' (alike (Err stop) (Err stop') gives gives'))
+then_alike : {A B : Type 0} (First : Result A Stop → Type 0) (Next : A → Result B Stop → Type 0) → AreAlikeAll First
+    → ((a : A) → AreAlikeAll (Next a)) → AreAlikeAll (Then First Next)
+then_alike {A = A} {B = B} First Next alike next x y (rejects stop gives e) (rejects stop' gives' e') = rw (e, e')
+    (same_rejection stop stop' (alike (Err stop) (Err stop') gives gives'))
   where
     same_rejection : (stop stop' : Stop) → AlikeStops {A = A} (Err stop) (Err stop') → AlikeStops {A = B} (Err stop) (Err stop')
     same_rejection stop stop' (one_stop f) = let is : stop ≡ stop' = cc in one_stop (ap Err is)
@@ -141,33 +147,40 @@ text_one templates ais voc bytes a b (unread error not x e) (unread other not' y
 json_one : (templates : Bool) (ais : List AiRow) (voc bytes : List ℕ) → AlikeVerdicts kind.Links (JudgesLinks templates ais voc bytes)
 json_one templates ais voc bytes x y e f = one_stop (ap (of_verdict kind.Links) (e ∙ sym f))
 
-file_links_one : (templates : Bool) (ais : List AiRow) (voc : List ℕ) (name : Option LinksName) (bytes : List ℕ) → AlikeVerdicts kind.Links (JudgesFile templates ais voc name bytes)
+file_links_one : (templates : Bool) (ais : List AiRow) (voc : List ℕ) (name : Option LinksName) (bytes : List ℕ)
+    → AlikeVerdicts kind.Links (JudgesFile templates ais voc name bytes)
 file_links_one templates ais voc None bytes = json_one templates ais voc bytes
 file_links_one templates ais voc (Some (in_json name)) bytes = json_one templates ais voc bytes
 file_links_one templates ais voc (Some (as_text name)) bytes = text_one templates ais voc bytes
 
-pub links_one : (files : List (List ℕ × List ℕ)) (templates : Bool) (ais : List AiRow) (voc : List ℕ) (name : Option LinksName) → AreAlikeAll (LinksGive (Some files) templates ais voc name)
+pub links_one : (files : List (List ℕ × List ℕ)) (templates : Bool) (ais : List AiRow) (voc : List ℕ) (name : Option LinksName)
+    → AreAlikeAll (LinksGive (Some files) templates ais voc name)
 links_one files templates ais voc name = gives_one files kind.Links (JudgesFile templates ais voc name) IsNoLink (option_map name_of_links name)
     (file_links_one templates ais voc name)
     (λ x y e f. one_stop (ap (of_verdict kind.Links) (e ∙ sym f)))
 
-pub other_one : (files : List (List ℕ × List ℕ)) (kind : FileKind) (ais : List AiRow) (voc : List ℕ) (name : Option (List ℕ)) → AreAlikeAll (OtherGives (Some files) kind ais voc name)
+pub other_one : (files : List (List ℕ × List ℕ)) (kind : FileKind) (ais : List AiRow) (voc : List ℕ) (name : Option (List ℕ))
+    → AreAlikeAll (OtherGives (Some files) kind ais voc name)
 other_one files kind ais voc name = gives_one files kind (JudgesOther ais voc) IsNoOther name
     (λ bytes x y e f. one_stop (ap (of_verdict kind) (e ∙ sym f)))
     (λ x y e f. one_stop (ap (of_verdict kind) (e ∙ sym f)))
 
-third_one : (files : List (List ℕ × List ℕ)) (names : FileNames) (ais : List AiRow) (voc : List ℕ) (links : List Link) (second : Option (List Link)) → AreAlikeAll (GivesThird (Some files) names ais voc links second)
+third_one : (files : List (List ℕ × List ℕ)) (names : FileNames) (ais : List AiRow) (voc : List ℕ) (links : List Link) (second : Option (List Link))
+    → AreAlikeAll (GivesThird (Some files) names ais voc links second)
 third_one files names ais voc links second = then_alike (OtherGives (Some files) kind.Third ais voc names.third) (AreLinked ais voc links second)
     (other_one files kind.Third ais voc names.third)
     (λ third x y e f. one_stop (e ∙ sym f))
 
-others_one : (files : List (List ℕ × List ℕ)) (names : FileNames) (ais : List AiRow) (voc : List ℕ) (links : List Link) → AreAlikeAll (GivesOthers (Some files) names ais voc links)
+others_one : (files : List (List ℕ × List ℕ)) (names : FileNames) (ais : List AiRow) (voc : List ℕ) (links : List Link)
+    → AreAlikeAll (GivesOthers (Some files) names ais voc links)
 others_one files names ais voc links = then_alike (OtherGives (Some files) kind.Second ais voc names.second) (GivesThird (Some files) names ais voc links)
     (other_one files kind.Second ais voc names.second)
     (third_one files names ais voc links)
 
-pub linked_one : (files : List (List ℕ × List ℕ)) (names : FileNames) (values : Values) (ais : List AiRow) → AreAlikeAll (LinkedGive (Some files) names values ais)
-linked_one files names values ais = then_alike (LinksGive (Some files) values.templates ais values.voc names.links) (GivesOthers (Some files) names ais values.voc)
+pub linked_one : (files : List (List ℕ × List ℕ)) (names : FileNames) (values : Values) (ais : List AiRow)
+    → AreAlikeAll (LinkedGive (Some files) names values ais)
+linked_one files names values ais = then_alike (LinksGive (Some files) values.templates ais values.voc names.links)
+    (GivesOthers (Some files) names ais values.voc)
     (links_one files values.templates ais values.voc names.links)
     (others_one files names ais values.voc)
 
@@ -188,24 +201,31 @@ alike_classes : (one other : Result ClassRows ClassLoadFault) → AlikeClasses o
 alike_classes one other (same_classes e) = one_stop (ap classes_stop e)
 alike_classes one other (but_class_text i j text text' e f) = two_texts (of_classes i j) text text' (ap classes_stop e) (ap classes_stop f)
 
-judged_classes_one : (Answer : Result ClassRows ClassLoadFault → Type 0) → ((one other : Result ClassRows ClassLoadFault) → Answer one → Answer other → AlikeClasses one other) → AlikeVerdicts kind.Classes (JudgesClasses Answer)
+judged_classes_one : (Answer : Result ClassRows ClassLoadFault → Type 0)
+    → ((one other : Result ClassRows ClassLoadFault) → Answer one → Answer other → AlikeClasses one other)
+    → AlikeVerdicts kind.Classes (JudgesClasses Answer)
 judged_classes_one Answer both a b x y = rw (x.is, y.is) (alike_classes x.answer y.answer (both x.answer y.answer x.is_answer y.is_answer))
 
 unnamed_classes_one : (ais : List AiRow) (works : Bool) → AlikeVerdicts kind.Classes (UnnamedClasses ais works)
 unnamed_classes_one ais true = judged_classes_one (BuiltInClasses ais) (both_alike (ruled_rows ais built_in_rows))
 unnamed_classes_one ais false = λ x y e f. one_stop (ap (of_verdict kind.Classes) (e ∙ sym f))
 
-classes_one : (files : List (List ℕ × List ℕ)) (ais : List AiRow) (command : Command) (name : Option (List ℕ)) → AreAlikeAll (ClassesGive (Some files) ais command name)
-classes_one files ais command name = gives_one files kind.Classes (λ bytes. JudgesClasses (ClassesAnswer ais bytes)) (UnnamedClasses ais (is_of_classes command)) name
+classes_one : (files : List (List ℕ × List ℕ)) (ais : List AiRow) (command : Command) (name : Option (List ℕ))
+    → AreAlikeAll (ClassesGive (Some files) ais command name)
+classes_one files ais command name = gives_one files kind.Classes (λ bytes. JudgesClasses (ClassesAnswer ais bytes))
+    (UnnamedClasses ais (is_of_classes command)) name
     (λ bytes. judged_classes_one (ClassesAnswer ais bytes) (both_alike (ruled_bytes ais bytes)))
     (unnamed_classes_one ais (is_of_classes command))
 
-with_classes_one : (files : List (List ℕ × List ℕ)) (asked : Asked) (tabled : Tabled) (linked : Linked) (settings : Settings) → AreAlikeAll (GivesClasses (Some files) asked tabled linked settings)
-with_classes_one files asked tabled linked settings = then_alike (ClassesGive (Some files) tabled.tables.ais asked.command asked.files.classes) (IsLoadedOf tabled linked settings)
+with_classes_one : (files : List (List ℕ × List ℕ)) (asked : Asked) (tabled : Tabled) (linked : Linked) (settings : Settings)
+    → AreAlikeAll (GivesClasses (Some files) asked tabled linked settings)
+with_classes_one files asked tabled linked settings = then_alike
+    (ClassesGive (Some files) tabled.tables.ais asked.command asked.files.classes) (IsLoadedOf tabled linked settings)
     (classes_one files tabled.tables.ais asked.command asked.files.classes)
     (λ classes x y e f. one_stop (e ∙ sym f))
 
-with_settings_one : (files : List (List ℕ × List ℕ)) (asked : Asked) (tabled : Tabled) (linked : Linked) → AreAlikeAll (GivesSettings (Some files) asked tabled linked)
+with_settings_one : (files : List (List ℕ × List ℕ)) (asked : Asked) (tabled : Tabled) (linked : Linked)
+    → AreAlikeAll (GivesSettings (Some files) asked tabled linked)
 with_settings_one files asked tabled linked = then_alike (SettingsGive (Some files) asked.files asked.values) (GivesClasses (Some files) asked tabled linked)
     (settings_one files asked.files asked.values)
     (with_classes_one files asked tabled linked)
@@ -235,31 +255,37 @@ parts_one files asked = then_alike (TabledGive (Some files) asked.files) (GivesL
     (tabled_one files asked.files)
     (with_links_one files asked)
 
-pub files_one : (files : List (List ℕ × List ℕ)) (asked : Asked) (a b : Result Loaded Stop) → FilesGive (Some files) asked a → FilesGive (Some files) asked b → AlikeStops a b
+pub files_one : (files : List (List ℕ × List ℕ)) (asked : Asked) (a b : Result Loaded Stop) → FilesGive (Some files) asked a
+    → FilesGive (Some files) asked b → AlikeStops a b
 files_one files asked a b x y = parts_one files asked a b (flat_parts (Some files) asked a x) (flat_parts (Some files) asked b y)
 
 -- ---- an answer
 
-file_some_by : {A : Type 0} (files : Option (List (List ℕ × List ℕ))) (kind : FileKind) (Judges : List ℕ → Result A FileFault → Type 0) (name bytes : List ℕ) → IsFile files name bytes → ((bytes : List ℕ) → HasSome (Judges bytes)) → HasSome (FileGives files kind Judges name)
+file_some_by : {A : Type 0} (files : Option (List (List ℕ × List ℕ))) (kind : FileKind) (Judges : List ℕ → Result A FileFault → Type 0) (name bytes : List ℕ)
+    → IsFile files name bytes → ((bytes : List ℕ) → HasSome (Judges bytes)) → HasSome (FileGives files kind Judges name)
 file_some_by files kind Judges name bytes is some = elim (leb_tells (length bytes) (file_limit kind)) as (λ _. HasSome (FileGives files kind Judges name)) [
   | inl few ↦ let j = some bytes in (of_verdict kind j.0, judged bytes j.0 is few.1 j.1 refl)
   | inr more ↦ (of_verdict kind (Err Over), too_large bytes is more.1 refl)
 ]
 
 -- a known file, or its absence
-file_some_in : {A : Type 0} (files : List (List ℕ × List ℕ)) (kind : FileKind) (Judges : List ℕ → Result A FileFault → Type 0) (name : List ℕ) (found : Option (List ℕ)) → file_of files name ≡ found → ((bytes : List ℕ) → HasSome (Judges bytes)) → HasSome (FileGives (Some files) kind Judges name)
+file_some_in : {A : Type 0} (files : List (List ℕ × List ℕ)) (kind : FileKind) (Judges : List ℕ → Result A FileFault → Type 0) (name : List ℕ) (found : Option (List ℕ))
+    → file_of files name ≡ found → ((bytes : List ℕ) → HasSome (Judges bytes)) → HasSome (FileGives (Some files) kind Judges name)
 file_some_in files kind Judges name None e some = (Err (missing kind), absent e refl)
 file_some_in files kind Judges name (Some bytes) e some = file_some_by (Some files) kind Judges name bytes e some
 
-file_some : {A : Type 0} (files : Option (List (List ℕ × List ℕ))) (kind : FileKind) (Judges : List ℕ → Result A FileFault → Type 0) (name : List ℕ) → ((bytes : List ℕ) → HasSome (Judges bytes)) → HasSome (FileGives files kind Judges name)
+file_some : {A : Type 0} (files : Option (List (List ℕ × List ℕ))) (kind : FileKind) (Judges : List ℕ → Result A FileFault → Type 0) (name : List ℕ)
+    → ((bytes : List ℕ) → HasSome (Judges bytes)) → HasSome (FileGives files kind Judges name)
 file_some None kind Judges name some = file_some_by None kind Judges name [] tt some
 file_some (Some files) kind Judges name some = file_some_in files kind Judges name (file_of files name) refl some
 
-gives_some : {A : Type 0} (files : Option (List (List ℕ × List ℕ))) (kind : FileKind) (Judges : List ℕ → Result A FileFault → Type 0) (Unnamed : Result A FileFault → Type 0) (name : Option (List ℕ)) → ((bytes : List ℕ) → HasSome (Judges bytes)) → HasSome Unnamed → HasSome (Gives files kind Judges Unnamed name)
+gives_some : {A : Type 0} (files : Option (List (List ℕ × List ℕ))) (kind : FileKind) (Judges : List ℕ → Result A FileFault → Type 0) (Unnamed : Result A FileFault → Type 0) (name : Option (List ℕ))
+    → ((bytes : List ℕ) → HasSome (Judges bytes)) → HasSome Unnamed → HasSome (Gives files kind Judges Unnamed name)
 gives_some files kind Judges Unnamed None some other = (of_verdict kind other.0, record { verdict = other.0; judged = other.1; is = refl })
 gives_some files kind Judges Unnamed (Some name) some other = file_some files kind Judges name some
 
-tables_some : (source : List ℕ) (Answer : Result TableRows LoadFault → Type 0) → ((answer : Result TableRows LoadFault) × HasMemory answer × Answer answer) → HasSome (JudgesTables source Answer)
+tables_some : (source : List ℕ) (Answer : Result TableRows LoadFault → Type 0)
+    → ((answer : Result TableRows LoadFault) × HasMemory answer × Answer answer) → HasSome (JudgesTables source Answer)
 tables_some source Answer some = (tables_verdict source some.0, record { answer = some.0; enough = some.1; is_answer = some.2; is = refl })
 
 prefixes_some : (files : Option (List (List ℕ × List ℕ))) (name : Option (List ℕ)) → HasSome (PrefixesGive files name)
@@ -269,23 +295,30 @@ text_some : (templates : Bool) (ais : List AiRow) (voc bytes : List ℕ) → Has
 text_some templates ais voc bytes (inl found) = (store_verdict templates ais (store_answer ais voc found.0), read_as found.0 found.1 refl)
 text_some templates ais voc bytes (inr none) = (Err (LinkText none.0), unread none.0 none.1 none.2 refl)
 
-file_links_some : (templates : Bool) (ais : List AiRow) (voc : List ℕ) (name : Option LinksName) (bytes : List ℕ) → HasSome (JudgesFile templates ais voc name bytes)
+file_links_some : (templates : Bool) (ais : List AiRow) (voc : List ℕ) (name : Option LinksName) (bytes : List ℕ)
+    → HasSome (JudgesFile templates ais voc name bytes)
 file_links_some templates ais voc None bytes = (links_verdict templates ais voc (read_answer bytes), refl)
 file_links_some templates ais voc (Some (in_json name)) bytes = (links_verdict templates ais voc (read_answer bytes), refl)
 file_links_some templates ais voc (Some (as_text name)) bytes = text_some templates ais voc bytes (some_reading bytes)
 
-links_some : (files : Option (List (List ℕ × List ℕ))) (templates : Bool) (ais : List AiRow) (voc : List ℕ) (name : Option LinksName) → HasSome (LinksGive files templates ais voc name)
-links_some files templates ais voc name = gives_some files kind.Links (JudgesFile templates ais voc name) IsNoLink (option_map name_of_links name) (file_links_some templates ais voc name) (Ok [], refl)
+links_some : (files : Option (List (List ℕ × List ℕ))) (templates : Bool) (ais : List AiRow) (voc : List ℕ) (name : Option LinksName)
+    → HasSome (LinksGive files templates ais voc name)
+links_some files templates ais voc name = gives_some files kind.Links (JudgesFile templates ais voc name) IsNoLink
+    (option_map name_of_links name) (file_links_some templates ais voc name) (Ok [], refl)
 
-other_some : (files : Option (List (List ℕ × List ℕ))) (kind : FileKind) (ais : List AiRow) (voc : List ℕ) (name : Option (List ℕ)) → HasSome (OtherGives files kind ais voc name)
-other_some files kind ais voc name = gives_some files kind (JudgesOther ais voc) IsNoOther name (λ bytes. (other_verdict (links_verdict false ais voc (read_answer bytes)), refl)) (Ok None, refl)
+other_some : (files : Option (List (List ℕ × List ℕ))) (kind : FileKind) (ais : List AiRow) (voc : List ℕ) (name : Option (List ℕ))
+    → HasSome (OtherGives files kind ais voc name)
+other_some files kind ais voc name = gives_some files kind (JudgesOther ais voc) IsNoOther name
+    (λ bytes. (other_verdict (links_verdict false ais voc (read_answer bytes)), refl)) (Ok None, refl)
 
-third_some : (files : Option (List (List ℕ × List ℕ))) (names : FileNames) (ais : List AiRow) (voc : List ℕ) (links : List Link) (second : Option (List Link)) → HasSome (GivesThird files names ais voc links second)
+third_some : (files : Option (List (List ℕ × List ℕ))) (names : FileNames) (ais : List AiRow) (voc : List ℕ) (links : List Link) (second : Option (List Link))
+    → HasSome (GivesThird files names ais voc links second)
 third_some files names ais voc links second = then_some (OtherGives files kind.Third ais voc names.third) (AreLinked ais voc links second)
     (other_some files kind.Third ais voc names.third)
     (λ third gives. (linked_with links (of_verdict kind.Merge (merging ais voc links second third)), refl))
 
-others_some : (files : Option (List (List ℕ × List ℕ))) (names : FileNames) (ais : List AiRow) (voc : List ℕ) (links : List Link) → HasSome (GivesOthers files names ais voc links)
+others_some : (files : Option (List (List ℕ × List ℕ))) (names : FileNames) (ais : List AiRow) (voc : List ℕ) (links : List Link)
+    → HasSome (GivesOthers files names ais voc links)
 others_some files names ais voc links = then_some (OtherGives files kind.Second ais voc names.second) (GivesThird files names ais voc links)
     (other_some files kind.Second ais voc names.second)
     (λ second gives. third_some files names ais voc links second)
@@ -304,20 +337,26 @@ settings_some files names values = then_some (DescriptionGives files names.descr
     (λ describe gives. (Ok (record { voc = values.voc; describe = describe; templates = values.templates }), refl))
 
 classes_some_by : (ais : List AiRow) (works : Bool) → HasSome (UnnamedClasses ais works)
-classes_some_by ais true = let some = some_judged (ruled_rows ais built_in_rows) (good_of_rows ais built_in_rows) in (classes_verdict some.0, record { answer = some.0; is_answer = some.1; is = refl })
+classes_some_by ais true = let some = some_judged (ruled_rows ais built_in_rows)
+    (good_of_rows ais built_in_rows) in (classes_verdict some.0, record { answer = some.0; is_answer = some.1; is = refl })
 classes_some_by ais false = (Ok (set_of []), refl)
 
-classes_some : (files : Option (List (List ℕ × List ℕ))) (ais : List AiRow) (command : Command) (name : Option (List ℕ)) → HasSome (ClassesGive files ais command name)
-classes_some files ais command name = gives_some files kind.Classes (λ bytes. JudgesClasses (ClassesAnswer ais bytes)) (UnnamedClasses ais (is_of_classes command)) name
+classes_some : (files : Option (List (List ℕ × List ℕ))) (ais : List AiRow) (command : Command) (name : Option (List ℕ))
+    → HasSome (ClassesGive files ais command name)
+classes_some files ais command name = gives_some files kind.Classes (λ bytes. JudgesClasses (ClassesAnswer ais bytes))
+    (UnnamedClasses ais (is_of_classes command)) name
     (λ bytes. let some = some_judged (ruled_bytes ais bytes) (good_of_bytes ais bytes) in (classes_verdict some.0, record { answer = some.0; is_answer = some.1; is = refl }))
     (classes_some_by ais (is_of_classes command))
 
-with_classes_some : (files : Option (List (List ℕ × List ℕ))) (asked : Asked) (tabled : Tabled) (linked : Linked) (settings : Settings) → HasSome (GivesClasses files asked tabled linked settings)
-with_classes_some files asked tabled linked settings = then_some (ClassesGive files tabled.tables.ais asked.command asked.files.classes) (IsLoadedOf tabled linked settings)
+with_classes_some : (files : Option (List (List ℕ × List ℕ))) (asked : Asked) (tabled : Tabled) (linked : Linked) (settings : Settings)
+    → HasSome (GivesClasses files asked tabled linked settings)
+with_classes_some files asked tabled linked settings = then_some (ClassesGive files tabled.tables.ais asked.command asked.files.classes)
+    (IsLoadedOf tabled linked settings)
     (classes_some files tabled.tables.ais asked.command asked.files.classes)
     (λ classes gives. (Ok (record { tables = tabled.tables; source = tabled.source; prefixes = tabled.prefixes; links = linked.links; merged = linked.merged; settings = settings; classes = classes }), refl))
 
-with_settings_some : (files : Option (List (List ℕ × List ℕ))) (asked : Asked) (tabled : Tabled) (linked : Linked) → HasSome (GivesSettings files asked tabled linked)
+with_settings_some : (files : Option (List (List ℕ × List ℕ))) (asked : Asked) (tabled : Tabled) (linked : Linked)
+    → HasSome (GivesSettings files asked tabled linked)
 with_settings_some files asked tabled linked = then_some (SettingsGive files asked.files asked.values) (GivesClasses files asked tabled linked)
     (settings_some files asked.files asked.values)
     (λ settings gives. with_classes_some files asked tabled linked settings)
@@ -335,7 +374,8 @@ with_prefixes_some files names given = then_some (PrefixesGive files names.prefi
 tabled_some : (files : Option (List (List ℕ × List ℕ))) (names : FileNames) → HasSome (TabledGive files names)
 tabled_some files names = then_some (TablesGive files names.tables) (GivesPrefixes files names)
     (gives_some files kind.Tables (λ bytes. JudgesTables bytes (LoadAnswer bytes)) (JudgesTables [] BuiltInAnswer) names.tables
-    (λ bytes. tables_some bytes (LoadAnswer bytes) (judged_some (Shape bytes) (ruling_of_bytes bytes))) (tables_some [] BuiltInAnswer (judged_some RuledRows ruling_of_builtin)))
+    (λ bytes. tables_some bytes (LoadAnswer bytes) (judged_some (Shape bytes) (ruling_of_bytes bytes)))
+    (tables_some [] BuiltInAnswer (judged_some RuledRows ruling_of_builtin)))
     (λ given gives. with_prefixes_some files names given)
 
 parts_some : (files : Option (List (List ℕ × List ℕ))) (asked : Asked) → HasSome (PartsGive files asked)

@@ -25,7 +25,8 @@ pub record NamedBytes (files : Option FilesInMemory) (kind : FileKind) (name : O
   pub is_file : IsFile files file bytes
   pub few : length bytes ≤ file_limit kind
 
-file_bytes : (files : Option FilesInMemory) (kind : FileKind) (file bytes : List ℕ) → FileGives files kind AreBytes file (Ok (Some bytes)) → NamedBytes files kind (Some file) bytes
+file_bytes : (files : Option FilesInMemory) (kind : FileKind) (file bytes : List ℕ) → FileGives files kind AreBytes file (Ok (Some bytes))
+    → NamedBytes files kind (Some file) bytes
 file_bytes files kind file bytes (absent none e) = absurd (let f : Ok (Some bytes) ≡ Err (missing kind) = e in cc)
 file_bytes files kind file bytes (too_large b is more e) = absurd (let f : Ok (Some bytes) ≡ Err (rejected (record { kind = kind; error = Over })) = e in cc)
 file_bytes files kind file bytes (judged b verdict is few j e) =
@@ -33,20 +34,23 @@ file_bytes files kind file bytes (judged b verdict is few j e) =
     let same : b ≡ bytes = cc in
     record { file = file; is_named = refl; is_file = rw same at is; few = rw same at few }
 
-pub bytes_named : (files : Option FilesInMemory) (kind : FileKind) (name : Option (List ℕ)) (bytes : List ℕ) → BytesGive files kind name (Ok (Some bytes)) → NamedBytes files kind name bytes
+pub bytes_named : (files : Option FilesInMemory) (kind : FileKind) (name : Option (List ℕ)) (bytes : List ℕ)
+    → BytesGive files kind name (Ok (Some bytes)) → NamedBytes files kind name bytes
 bytes_named files kind None bytes gives = absurd (let f : Ok (Some bytes) ≡ Ok None = gives.is ∙ ap (of_verdict kind) gives.judged in cc)
 bytes_named files kind (Some file) bytes gives = file_bytes files kind file bytes gives
 
 file_some : (files : Option FilesInMemory) (kind : FileKind) (file : List ℕ) → FileGives files kind AreBytes file (Ok None) → ⊥
 file_some files kind file (absent none e) = let none : Result (Option (List ℕ)) Stop = Ok None in let f : none ≡ Err (missing kind) = e in cc
-file_some files kind file (too_large b is more e) = let none : Result (Option (List ℕ)) Stop = Ok None in let f : none ≡ Err (rejected (record { kind = kind; error = Over })) = e in cc
+file_some files kind file (too_large b is more e) = let none : Result (Option (List ℕ)) Stop = Ok None in let f : none ≡ Err
+    (rejected (record { kind = kind; error = Over })) = e in cc
 file_some files kind file (judged b verdict is few j e) = let f : Ok None ≡ Ok (Some b) = e ∙ ap (of_verdict kind) j in cc
 
 pub none_is_named : (files : Option FilesInMemory) (kind : FileKind) (name : Option (List ℕ)) → BytesGive files kind name (Ok None) → name ≡ None
 none_is_named files kind None gives = refl
 none_is_named files kind (Some file) gives = absurd (file_some files kind file gives)
 
-module _ {A : Type 0} (files : Option FilesInMemory) (kind : FileKind) (Judges : List ℕ → Result A FileFault → Type 0) (Unnamed : Result A FileFault → Type 0) where
+module _ {A : Type 0} (files : Option FilesInMemory) (kind : FileKind) (Judges : List ℕ → Result A FileFault → Type 0)
+    (Unnamed : Result A FileFault → Type 0) where
   file_stops : (file : List ℕ) (stop : Stop) → FileGives files kind AreBytes file (Err stop) → FileGives files kind Judges file (Err stop)
   file_stops file stop (absent none e) =
       let given : Result (Option (List ℕ)) Stop = Err stop in
@@ -65,7 +69,8 @@ module _ {A : Type 0} (files : Option FilesInMemory) (kind : FileKind) (Judges :
   bytes_stop (Some file) stop gives = file_stops file stop gives
 
   -- bytes that are not read are not loaded
-  pub bytes_unloaded : (name : Option (List ℕ)) (before now : ℕ) (u : Unloaded) → LoadedBy (BytesGive files kind name) before now (Err u) → LoadedBy (Gives files kind Judges Unnamed name) before now (Err u)
+  pub bytes_unloaded : (name : Option (List ℕ)) (before now : ℕ) (u : Unloaded) → LoadedBy (BytesGive files kind name) before now (Err u)
+      → LoadedBy (Gives files kind Judges Unnamed name) before now (Err u)
   bytes_unloaded name before now unloaded.Memory g = tt
   bytes_unloaded name before now unloaded.ReadFault (inl rises) = inl rises
   bytes_unloaded name before now unloaded.ReadFault (inr gives) = inr (gives.0, bytes_stop name (missing gives.0) gives.1)
@@ -73,11 +78,15 @@ module _ {A : Type 0} (files : Option FilesInMemory) (kind : FileKind) (Judges :
 
 -- ---- a load whose last step uses the earlier results
 
-pub loads_given : {A B : Type 0} (Give : Option FilesInMemory → Result A Stop → Type 0) (Made : Option FilesInMemory → Result B Stop → Type 0) (names : List (List ℕ)) (As : Type 0) (before now : FilesKnown) (a : A) (result : Result B Unloaded) → Loads Give names As before now (Ok a) → LoadedBy (Made before.files) before.errors now.errors result → Loads Made names As before now result
+pub loads_given : {A B : Type 0} (Give : Option FilesInMemory → Result A Stop → Type 0) (Made : Option FilesInMemory → Result B Stop → Type 0) (names : List (List ℕ)) (As : Type 0) (before now : FilesKnown) (a : A) (result : Result B Unloaded)
+    → Loads Give names As before now (Ok a) → LoadedBy (Made before.files) before.errors now.errors result
+    → Loads Made names As before now result
 loads_given Give Made names As before now a result l g =
     record { loaded = g; opened = opens_anyway (is_load_short result) names before.opened now.opened l.opened; all_opened = whatever_given result _ l.all_opened; unopened = l.unopened; known = l.known; counts = l.counts }
 
-pub loads_failed : {A B : Type 0} (Give : Option FilesInMemory → Result A Stop → Type 0) (Made : Option FilesInMemory → Result B Stop → Type 0) (names : List (List ℕ)) (As : Type 0) (before now : FilesKnown) (u : Unloaded) → Loads Give names As before now (Err u) → LoadedBy (Made before.files) before.errors now.errors (Err u) → Loads Made names As before now (Err u)
+pub loads_failed : {A B : Type 0} (Give : Option FilesInMemory → Result A Stop → Type 0) (Made : Option FilesInMemory → Result B Stop → Type 0) (names : List (List ℕ)) (As : Type 0) (before now : FilesKnown) (u : Unloaded)
+    → Loads Give names As before now (Err u) → LoadedBy (Made before.files) before.errors now.errors (Err u)
+    → Loads Made names As before now (Err u)
 loads_failed Give Made names As before now u l g =
     record { loaded = g; opened = l.opened; all_opened = tt; unopened = l.unopened; known = l.known; counts = l.counts }
 
@@ -89,7 +98,8 @@ first_of_both [] other (suc count) = (0, refl)
 first_of_both (x ∷ one) other zero = (0, refl)
 first_of_both (x ∷ one) other (suc count) = let m = first_of_both one other count in (suc m.0, ap (λ xs. x ∷ xs) m.1)
 
-pub opens_fewer : (lost : Bool) (one other : List (List ℕ)) (before now : Option (List (List ℕ))) → OpensFirst lost one before now → OpensFirst lost (one ++ other) before now
+pub opens_fewer : (lost : Bool) (one other : List (List ℕ)) (before now : Option (List (List ℕ))) → OpensFirst lost one before now
+    → OpensFirst lost (one ++ other) before now
 opens_fewer lost one other before now o =
     let m = first_of_both one other o.0 in
     (m.0, subst (λ names. AddsNames lost before names now) (sym m.1) o.1)
@@ -99,11 +109,13 @@ no_name [] other e = (refl, e)
 no_name (x ∷ one) other e = cc
 
 -- the results of a load with two steps
-abbrev pub Steps : {A B : Type 0} → (Option FilesInMemory → Result A Stop → Type 0) → (Option FilesInMemory → A → Result B Stop → Type 0) → Option FilesInMemory → Result B Stop → Type 0
+abbrev pub Steps : {A B : Type 0} → (Option FilesInMemory → Result A Stop → Type 0) → (Option FilesInMemory → A → Result B Stop → Type 0)
+    → Option FilesInMemory → Result B Stop → Type 0
 Steps First Next files answer = Then (First files) (Next files) answer
 
 -- a first step that gives nothing
-pub loads_stop : {A B : Type 0} (First : Option FilesInMemory → Result A Stop → Type 0) (Next : Option FilesInMemory → A → Result B Stop → Type 0) (one other : List (List ℕ)) (As : Type 0) (before now : FilesKnown) (u : Unloaded) → Loads First one As before now (Err u) → Loads (Steps First Next) (one ++ other) As before now (Err u)
+pub loads_stop : {A B : Type 0} (First : Option FilesInMemory → Result A Stop → Type 0) (Next : Option FilesInMemory → A → Result B Stop → Type 0) (one other : List (List ℕ)) (As : Type 0) (before now : FilesKnown) (u : Unloaded)
+    → Loads First one As before now (Err u) → Loads (Steps First Next) (one ++ other) As before now (Err u)
 loads_stop First Next one other As before now u l = record {
   loaded = not_loaded (First before.files) (Next before.files) before.errors now.errors u l.loaded;
   opened = opens_fewer (is_short u) one other before.opened now.opened l.opened;
@@ -114,7 +126,9 @@ loads_stop First Next one other As before now u l = record {
 }
 
 -- a first step that gives something, and another after it
-pub loads_then : {A B : Type 0} (First : Option FilesInMemory → Result A Stop → Type 0) (Next : Option FilesInMemory → A → Result B Stop → Type 0) (one other : List (List ℕ)) (AsOne AsOther As : Type 0) (before between now : FilesKnown) (a : A) (result : Result B Unloaded) → (AsOne → AsOther → As) → Loads First one AsOne before between (Ok a) → Loads (λ files. Next files a) other AsOther between now result → Loads (Steps First Next) (one ++ other) As before now result
+pub loads_then : {A B : Type 0} (First : Option FilesInMemory → Result A Stop → Type 0) (Next : Option FilesInMemory → A → Result B Stop → Type 0) (one other : List (List ℕ)) (AsOne AsOther As : Type 0) (before between now : FilesKnown) (a : A) (result : Result B Unloaded)
+    → (AsOne → AsOther → As) → Loads First one AsOne before between (Ok a) → Loads (λ files. Next files a) other AsOther between now result
+    → Loads (Steps First Next) (one ++ other) As before now result
 loads_then First Next one other AsOne AsOther As before between now a result both l m =
     let next : LoadedBy (Next before.files a) between.errors now.errors result = subst (λ files. LoadedBy (Next files a) between.errors now.errors result) l.known m.loaded in
     record {
@@ -128,7 +142,10 @@ loads_then First Next one other AsOne AsOther As before between now a result bot
 
 -- ---- a file that is named
 
-pub loads_read : (kind : FileKind) (file bytes : List ℕ) (As : Type 0) (before now : FilesKnown) → ReadBy before.files kind file before.errors now.errors (Ok bytes) → AddsNames false before.opened (file ∷ []) now.opened → now.files ≡ before.files → before.errors ≤ now.errors → Loads (λ files. BytesGive files kind (Some file)) (file ∷ []) As before now (Ok (Some bytes))
+pub loads_read : (kind : FileKind) (file bytes : List ℕ) (As : Type 0) (before now : FilesKnown)
+    → ReadBy before.files kind file before.errors now.errors (Ok bytes) → AddsNames false before.opened (file ∷ []) now.opened
+    → now.files ≡ before.files → before.errors ≤ now.errors
+    → Loads (λ files. BytesGive files kind (Some file)) (file ∷ []) As before now (Ok (Some bytes))
 loads_read kind file bytes As before now read adds known counts = record {
   loaded = judged bytes (Ok (Some bytes)) read.0 read.1 refl refl;
   opened = opens_all false (file ∷ []) before.opened now.opened adds;
@@ -138,7 +155,10 @@ loads_read kind file bytes As before now read adds known counts = record {
   counts = counts;
 }
 
-pub loads_unread : (kind : FileKind) (file : List ℕ) (As : Type 0) (before now : FilesKnown) (u : Unloaded) → ReadBy before.files kind file before.errors now.errors (Err u) → AddsNames (is_short u) before.opened (file ∷ []) now.opened → now.files ≡ before.files → before.errors ≤ now.errors → Loads (λ files. BytesGive files kind (Some file)) (file ∷ []) As before now (Err u)
+pub loads_unread : (kind : FileKind) (file : List ℕ) (As : Type 0) (before now : FilesKnown) (u : Unloaded)
+    → ReadBy before.files kind file before.errors now.errors (Err u) → AddsNames (is_short u) before.opened (file ∷ []) now.opened
+    → now.files ≡ before.files → before.errors ≤ now.errors
+    → Loads (λ files. BytesGive files kind (Some file)) (file ∷ []) As before now (Err u)
 loads_unread kind file As before now u read adds known counts = record {
   loaded = file_unloaded before.files kind AreBytes file before.errors now.errors u read;
   opened = opens_all (is_short u) (file ∷ []) before.opened now.opened adds;
@@ -150,10 +170,12 @@ loads_unread kind file As before now u read adds known counts = record {
 
 -- ---- a load, and a last step that reads no file
 
-pub stops_first : {A B : Type 0} (First : Option FilesInMemory → Result A Stop → Type 0) (Last : Option FilesInMemory → A → Result B Stop → Type 0) (names : List (List ℕ)) (As : Type 0) (before now : FilesKnown) (u : Unloaded) → Loads First names As before now (Err u) → Loads (Steps First Last) names As before now (Err u)
+pub stops_first : {A B : Type 0} (First : Option FilesInMemory → Result A Stop → Type 0) (Last : Option FilesInMemory → A → Result B Stop → Type 0) (names : List (List ℕ)) (As : Type 0) (before now : FilesKnown) (u : Unloaded)
+    → Loads First names As before now (Err u) → Loads (Steps First Last) names As before now (Err u)
 stops_first First Last names As before now u l =
     loads_failed First (Steps First Last) names As before now u l (not_loaded (First before.files) (Last before.files) before.errors now.errors u l.loaded)
 
-pub gives_last : {A B : Type 0} (First : Option FilesInMemory → Result A Stop → Type 0) (Last : Option FilesInMemory → A → Result B Stop → Type 0) (names : List (List ℕ)) (As : Type 0) (before now : FilesKnown) (a : A) (b : B) → Loads First names As before now (Ok a) → Last before.files a (Ok b) → Loads (Steps First Last) names As before now (Ok b)
+pub gives_last : {A B : Type 0} (First : Option FilesInMemory → Result A Stop → Type 0) (Last : Option FilesInMemory → A → Result B Stop → Type 0) (names : List (List ℕ)) (As : Type 0) (before now : FilesKnown) (a : A) (b : B)
+    → Loads First names As before now (Ok a) → Last before.files a (Ok b) → Loads (Steps First Last) names As before now (Ok b)
 gives_last First Last names As before now a b l is =
     loads_given First (Steps First Last) names As before now a (Ok b) l (goes_on a l.loaded is)

@@ -18,11 +18,13 @@ names_twice None one other = refl
 names_twice (Some names) one other = ap Some (append_assoc names one other)
 
 -- names that were added, and then others
-pub added_both : (before between now : Option (List (List ℕ))) (one other : List (List ℕ)) → between ≡ with_names before one → now ≡ with_names between other → now ≡ with_names before (one ++ other)
+pub added_both : (before between now : Option (List (List ℕ))) (one other : List (List ℕ)) → between ≡ with_names before one
+    → now ≡ with_names between other → now ≡ with_names before (one ++ other)
 added_both before between now one other first more = more ∙ ap (λ names. with_names names other) first ∙ names_twice before one other
 
 -- names that were added, and then others, unless memory was lost
-pub adds_both : (lost : Bool) (before between now : Option (List (List ℕ))) (one other : List (List ℕ)) → between ≡ with_names before one → AddsNames lost between other now → AddsNames lost before (one ++ other) now
+pub adds_both : (lost : Bool) (before between now : Option (List (List ℕ))) (one other : List (List ℕ)) → between ≡ with_names before one
+    → AddsNames lost between other now → AddsNames lost before (one ++ other) now
 adds_both lost before between now one other first (inl more) = inl (added_both before between now one other first more)
 adds_both lost before between now one other first (inr none) = inr none
 
@@ -35,23 +37,29 @@ pub opens_all : (lost : Bool) (names : List (List ℕ)) (before now : Option (Li
 opens_all lost names before now adds = (length names, rw (take-length names) adds)
 
 -- names that were opened without a loss of memory were opened with any
-pub opens_anyway : (lost : Bool) (names : List (List ℕ)) (before now : Option (List (List ℕ))) → OpensFirst false names before now → OpensFirst lost names before now
+pub opens_anyway : (lost : Bool) (names : List (List ℕ)) (before now : Option (List (List ℕ))) → OpensFirst false names before now
+    → OpensFirst lost names before now
 opens_anyway lost names before now opens = (opens.0, added_anyway lost before now (take opens.0 names) opens.1)
 
 -- the same, if memory that was lost in one place was lost in the other
-added_as : (lost other : Bool) (before now : Option (List (List ℕ))) (more : List (List ℕ)) → (lost ≡ true → other ≡ true) → AddsNames lost before more now → AddsNames other before more now
+added_as : (lost other : Bool) (before now : Option (List (List ℕ))) (more : List (List ℕ)) → (lost ≡ true → other ≡ true)
+    → AddsNames lost before more now → AddsNames other before more now
 added_as lost other before now more also (inl added) = inl added
 added_as lost other before now more also (inr none) = inr (also none.0, none.1)
 
-pub opens_as : (lost other : Bool) (names : List (List ℕ)) (before now : Option (List (List ℕ))) → (lost ≡ true → other ≡ true) → OpensFirst lost names before now → OpensFirst other names before now
+pub opens_as : (lost other : Bool) (names : List (List ℕ)) (before now : Option (List (List ℕ))) → (lost ≡ true → other ≡ true)
+    → OpensFirst lost names before now → OpensFirst other names before now
 opens_as lost other names before now also opens = (opens.0, added_as lost other before now (take opens.0 names) also opens.1)
 
 -- names that were added, and then the first of others
-pub opens_both : (lost : Bool) (before between now : Option (List (List ℕ))) (one other : List (List ℕ)) → between ≡ with_names before one → OpensFirst lost other between now → OpensFirst lost (one ++ other) before now
+pub opens_both : (lost : Bool) (before between now : Option (List (List ℕ))) (one other : List (List ℕ)) → between ≡ with_names before one
+    → OpensFirst lost other between now → OpensFirst lost (one ++ other) before now
 opens_both lost before between now one other first more =
     (length one + more.0, rw (take-append-add one other more.0) (adds_both lost before between now one (take more.0 other) first more.1))
 
 -- names that were added, and then others if something is given
-pub adds_given : {A E : Type 0} (result : Result A E) (before between now : Option (List (List ℕ))) (one other : List (List ℕ)) → between ≡ with_names before one → IfOk result (λ _. now ≡ with_names between other) → IfOk result (λ _. now ≡ with_names before (one ++ other))
+pub adds_given : {A E : Type 0} (result : Result A E) (before between now : Option (List (List ℕ))) (one other : List (List ℕ))
+    → between ≡ with_names before one → IfOk result (λ _. now ≡ with_names between other)
+    → IfOk result (λ _. now ≡ with_names before (one ++ other))
 adds_given (Ok a) before between now one other first more = added_both before between now one other first more
 adds_given (Err e) before between now one other first more = tt

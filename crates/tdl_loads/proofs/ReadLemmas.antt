@@ -29,7 +29,9 @@ use Rattle.tdl_loads.proofs.FlatLoads.{flat_parts}
 -- ---- the tables of a file
 
 -- tables that were judged are loaded, or rejected, or memory ran out
-known_tables : (Give : Result TablesWithSource Stop → Type 0) (before now : ℕ) (source : List ℕ) (answer : Result TableRows LoadFault) (result : Result TablesWithSource Unloaded) → UnloadedAs source answer result → (HasMemory answer → Give (of_verdict kind.Tables (tables_verdict source answer))) → LoadedBy Give before now result
+known_tables : (Give : Result TablesWithSource Stop → Type 0) (before now : ℕ) (source : List ℕ) (answer : Result TableRows LoadFault) (result : Result TablesWithSource Unloaded)
+    → UnloadedAs source answer result → (HasMemory answer → Give (of_verdict kind.Tables (tables_verdict source answer)))
+    → LoadedBy Give before now result
 known_tables Give before now source answer (Ok given) u give =
     let enough : HasMemory answer = λ none. let f : Err (Tables OutOfMemory) ≡ Ok given = sym (ap (tables_verdict source) none) ∙ u in cc in
     let g = give enough in
@@ -38,26 +40,32 @@ known_tables Give before now source answer (Err unloaded.Memory) u give = tt
 known_tables Give before now source answer (Err unloaded.ReadFault) u give = absurd u
 known_tables Give before now source answer (Err (unloaded.Refused rejection)) u give = let g = give u.0 in rw u.1 at g
 
-pub file_loaded : (files : Option (List (List ℕ × List ℕ))) (name bytes : List ℕ) (before now : ℕ) (answer : Result TableRows LoadFault) (result : Result TablesWithSource Unloaded) → IsFile files name bytes → length bytes ≤ file_limit kind.Tables → LoadAnswer bytes answer → UnloadedAs bytes answer result → LoadedBy (TablesGive files (Some name)) before now result
+pub file_loaded : (files : Option (List (List ℕ × List ℕ))) (name bytes : List ℕ) (before now : ℕ) (answer : Result TableRows LoadFault) (result : Result TablesWithSource Unloaded)
+    → IsFile files name bytes → length bytes ≤ file_limit kind.Tables → LoadAnswer bytes answer → UnloadedAs bytes answer result
+    → LoadedBy (TablesGive files (Some name)) before now result
 file_loaded files name bytes before now answer result is few load u =
     known_tables (TablesGive files (Some name)) before now bytes answer result u
     (λ enough. judged bytes (tables_verdict bytes answer) is few (record { answer = answer; enough = enough; is_answer = load; is = refl }) refl)
 
-pub own_loaded : (files : Option (List (List ℕ × List ℕ))) (before now : ℕ) (answer : Result TableRows LoadFault) (result : Result TablesWithSource Unloaded) → BuiltInAnswer answer → UnloadedAs [] answer result → LoadedBy (TablesGive files None) before now result
+pub own_loaded : (files : Option (List (List ℕ × List ℕ))) (before now : ℕ) (answer : Result TableRows LoadFault) (result : Result TablesWithSource Unloaded)
+    → BuiltInAnswer answer → UnloadedAs [] answer result → LoadedBy (TablesGive files None) before now result
 own_loaded files before now answer result load u =
     known_tables (TablesGive files None) before now [] answer result u
     (λ enough. record { verdict = tables_verdict [] answer; judged = record { answer = answer; enough = enough; is_answer = load; is = refl }; is = refl })
 
 -- ---- tables that are loaded have an answer of their load, and so has their document, which is that of the named file
 
-given_by : (source : List ℕ) (Answer : Result TableRows LoadFault → Type 0) (verdict : Result TablesWithSource FileFault) (given : TablesWithSource) → JudgesTables source Answer verdict → Ok given ≡ of_verdict kind.Tables verdict → Answer (Ok given.tables) × (given.source ≡ source)
+given_by : (source : List ℕ) (Answer : Result TableRows LoadFault → Type 0) (verdict : Result TablesWithSource FileFault) (given : TablesWithSource)
+    → JudgesTables source Answer verdict → Ok given ≡ of_verdict kind.Tables verdict → Answer (Ok given.tables) × (given.source ≡ source)
 given_by source Answer verdict given j e = by j.answer j.is_answer (e ∙ ap (of_verdict kind.Tables) j.is)
   where
-    by : (answer : Result TableRows LoadFault) → Answer answer → Ok given ≡ of_verdict kind.Tables (tables_verdict source answer) → Answer (Ok given.tables) × (given.source ≡ source)
+    by : (answer : Result TableRows LoadFault) → Answer answer → Ok given ≡ of_verdict kind.Tables (tables_verdict source answer)
+        → Answer (Ok given.tables) × (given.source ≡ source)
     by (Ok set) a f = let same : given ≡ record { tables = set; source = source } = cc in rw same (a, refl)
     by (Err error) a f = absurd (let g : Ok given ≡ Err (rejected (record { kind = kind.Tables; error = Tables error })) = f in cc)
 
-given_file : (files : Option (List (List ℕ × List ℕ))) (name : List ℕ) (given : TablesWithSource) → TablesGive files (Some name) (Ok given) → LoadAnswer given.source (Ok given.tables)
+given_file : (files : Option (List (List ℕ × List ℕ))) (name : List ℕ) (given : TablesWithSource) → TablesGive files (Some name) (Ok given)
+    → LoadAnswer given.source (Ok given.tables)
 given_file files name given (absent none e) = absurd (let f : Ok given ≡ Err (missing kind.Tables) = e in cc)
 given_file files name given (too_large bytes is more e) = absurd (let f : Ok given ≡ Err (rejected (record { kind = kind.Tables; error = Over })) = e in cc)
 given_file files name given (judged bytes verdict is few j e) =
@@ -66,8 +74,10 @@ given_file files name given (judged bytes verdict is few j e) =
 
 -- ---- loaded tables satisfy the rules, and none of their levels is ambiguous
 
-loaded_named : (files : Option (List (List ℕ × List ℕ))) (name : Option (List ℕ)) (given : TablesWithSource) → TablesGive files name (Ok given) → IsLoaded given.tables
-loaded_named files None given gives = judged_loaded RuledRows ruling_of_builtin given.tables (given_by [] BuiltInAnswer gives.verdict given gives.judged gives.is).0
+loaded_named : (files : Option (List (List ℕ × List ℕ))) (name : Option (List ℕ)) (given : TablesWithSource)
+    → TablesGive files name (Ok given) → IsLoaded given.tables
+loaded_named files None given gives = judged_loaded RuledRows ruling_of_builtin given.tables
+    (given_by [] BuiltInAnswer gives.verdict given gives.judged gives.is).0
 loaded_named files (Some name) given gives = judged_loaded (Shape given.source) (ruling_of_bytes given.source) given.tables (given_file files name given gives)
 
 -- ---- the tables of a load
@@ -79,7 +89,9 @@ record HasTables (files : Option (List (List ℕ × List ℕ))) (asked : Asked) 
   same_tables : loaded.tables ≡ given.tables
   same_source : loaded.source ≡ given.source
 
-tables_of_tabled : (files : Option (List (List ℕ × List ℕ))) (asked : Asked) (tabled : Tabled) (loaded : Loaded) → loaded.tables ≡ tabled.tables → loaded.source ≡ tabled.source → TabledGive files asked.files (Ok tabled) → HasTables files asked loaded
+tables_of_tabled : (files : Option (List (List ℕ × List ℕ))) (asked : Asked) (tabled : Tabled) (loaded : Loaded)
+    → loaded.tables ≡ tabled.tables → loaded.source ≡ tabled.source → TabledGive files asked.files (Ok tabled)
+    → HasTables files asked loaded
 tables_of_tabled files asked tabled loaded tables source (rejects stop gives e) = absurd (let f : Ok tabled ≡ Err stop = e in cc)
 tables_of_tabled files asked tabled loaded tables source (goes_on given gives (rejects stop g e)) = absurd (let f : Ok tabled ≡ Err stop = e in cc)
 tables_of_tabled files asked tabled loaded tables source (goes_on given gives (goes_on list g e)) =
@@ -90,7 +102,8 @@ tables_of_parts : (files : Option (List (List ℕ × List ℕ))) (asked : Asked)
 tables_of_parts files asked loaded (rejects stop gives e) = absurd (let f : Ok loaded ≡ Err stop = e in cc)
 tables_of_parts files asked loaded (goes_on tabled gives (rejects stop g e)) = absurd (let f : Ok loaded ≡ Err stop = e in cc)
 tables_of_parts files asked loaded (goes_on tabled gives (goes_on linked g (rejects stop h e))) = absurd (let f : Ok loaded ≡ Err stop = e in cc)
-tables_of_parts files asked loaded (goes_on tabled gives (goes_on linked g (goes_on settings h (rejects stop k e)))) = absurd (let f : Ok loaded ≡ Err stop = e in cc)
+tables_of_parts files asked loaded (goes_on tabled gives (goes_on linked g (goes_on settings h (rejects stop k e)))) = absurd
+    (let f : Ok loaded ≡ Err stop = e in cc)
 tables_of_parts files asked loaded (goes_on tabled gives (goes_on linked g (goes_on settings h (goes_on classes k e)))) =
     let same : loaded ≡ record { tables = tabled.tables; source = tabled.source; prefixes = tabled.prefixes; links = linked.links; merged = linked.merged; settings = settings; classes = classes } = cc in
     tables_of_tabled files asked tabled loaded (ap (λ (l : Loaded). l.tables) same) (ap (λ (l : Loaded). l.source) same) gives
@@ -104,11 +117,13 @@ loaded_of files asked loaded gives =
     rw t.same_tables (loaded_named files asked.files.tables t.given t.gives)
 
 -- tables of a named file load from their document
-named_loads : (files : Option (List (List ℕ × List ℕ))) (name : Option (List ℕ)) (given : TablesWithSource) → is_some name ≡ true → TablesGive files name (Ok given) → LoadsTables given.source
+named_loads : (files : Option (List (List ℕ × List ℕ))) (name : Option (List ℕ)) (given : TablesWithSource) → is_some name ≡ true
+    → TablesGive files name (Ok given) → LoadsTables given.source
 named_loads files None given named gives = absurd (let f : false ≡ true = named in cc)
 named_loads files (Some name) given named gives = (given.tables, given_file files name given gives)
 
-pub source_of : (files : Option (List (List ℕ × List ℕ))) (asked : Asked) (loaded : Loaded) → NamesTables asked → FilesGive files asked (Ok loaded) → HasSource asked.command loaded
+pub source_of : (files : Option (List (List ℕ × List ℕ))) (asked : Asked) (loaded : Loaded) → NamesTables asked
+    → FilesGive files asked (Ok loaded) → HasSource asked.command loaded
 source_of files asked loaded names gives migrates =
     let t = tables_of files asked loaded gives in
     rw t.same_source (named_loads files asked.files.tables t.given (names migrates) t.gives)

@@ -63,26 +63,26 @@ abbrev pub of_verdict : {A : Type 0} → FileKind → Result A FileFault → Res
 of_verdict kind (Ok a) = Ok a
 of_verdict kind (Err error) = Err (rejected (record { kind = kind; error = error }))
 
--- trusted, own: holds if this is the result of the named file of a kind: it is missing, it has more bytes than its kind may
--- have, or its bytes have this verdict
+-- trusted, own: Holds if `answer` is the result of the file `name` of a kind. It is missing, it has more bytes than its kind
+-- may have, or `Judges` gives the verdict on its bytes.
 pub data FileGives {A : Type 0} (files : Option FilesInMemory) (kind : FileKind) (Judges : List ℕ → Result A FileFault → Type 0) (name : List ℕ) (answer : Result A Stop) : Type 0 where
   absent : IsAbsent files name → answer ≡ Err (missing kind) → FileGives files kind Judges name answer
   too_large : (bytes : List ℕ) → IsFile files name bytes → file_limit kind < length bytes → answer ≡ of_verdict kind (Err Over) → FileGives files kind Judges name answer
   judged : (bytes : List ℕ) (verdict : Result A FileFault) → IsFile files name bytes → length bytes ≤ file_limit kind → Judges bytes verdict → answer ≡ of_verdict kind verdict → FileGives files kind Judges name answer
 
--- trusted, own: holds if this is the verdict on the default of a file that is not named
+-- trusted, own: holds if `answer` is by the verdict on the default of a file that is not named
 pub record StandsFor {A : Type 0} (kind : FileKind) (Unnamed : Result A FileFault → Type 0) (answer : Result A Stop) : Type 0 where
   pub verdict : Result A FileFault
   pub judged : Unnamed verdict
   pub is : answer ≡ of_verdict kind verdict
 
--- trusted, own: holds if this is the result of the file of a kind, or of its default if none is named
+-- trusted, own: holds if `answer` is the result of the named file of `kind`, or of its default if none is named
 abbrev pub Gives : {A : Type 0} → Option FilesInMemory → FileKind → (List ℕ → Result A FileFault → Type 0) → (Result A FileFault → Type 0) → Option (List ℕ) → Result A Stop → Type 0
 Gives files kind Judges Unnamed None answer = StandsFor kind Unnamed answer
 Gives files kind Judges Unnamed (Some name) answer = FileGives files kind Judges name answer
 
--- trusted, own: holds if this is the result of the file of a kind: `judge` is the verdict on its bytes, `unnamed` that if none
--- is named
+-- trusted, own: Holds if `answer` is the result of a file of `kind`. The verdict on its bytes is `judge`, and `unnamed` if no
+-- file is named.
 abbrev pub GivesBy : {A : Type 0} → Option FilesInMemory → FileKind → (List ℕ → Result A FileFault) → Result A FileFault → Option (List ℕ) → Result A Stop → Type 0
 GivesBy files kind judge unnamed name answer = Gives files kind (λ bytes verdict. verdict ≡ judge bytes) (λ verdict. verdict ≡ unnamed) name answer
 
@@ -91,15 +91,15 @@ abbrev pub tables_verdict : List ℕ → Result TableRows LoadFault → Result T
 tables_verdict source (Ok set) = Ok (record { tables = set; source = source })
 tables_verdict source (Err error) = Err (Tables error)
 
--- trusted, own: holds if this is the verdict on a document of tables, by an answer of its load other than out of memory
+-- trusted, own: holds if `verdict` is that on a document of tables, by an answer of its load other than out of memory
 pub record JudgesTables (source : List ℕ) (Answer : Result TableRows LoadFault → Type 0) (verdict : Result TablesWithSource FileFault) : Type 0 where
   pub answer : Result TableRows LoadFault
   pub enough : HasMemory answer
   pub is_answer : Answer answer
   pub is : verdict ≡ tables_verdict source answer
 
--- trusted, own: holds if this is the tables of the named file, with its bytes, or the built-in ones, without a document, if none is
--- named
+-- trusted, own: holds if `answer` is the tables of the named file, with its bytes, or the built-in ones, without a document, if
+-- none is named
 abbrev pub TablesGive : Option FilesInMemory → Option (List ℕ) → Result TablesWithSource Stop → Type 0
 TablesGive files name answer =
     Gives files kind.Tables (λ bytes. JudgesTables bytes (LoadAnswer bytes)) (JudgesTables [] BuiltInAnswer) name answer
@@ -109,7 +109,7 @@ abbrev pub prefixes_verdict : Result (List PrefixEntry) PrefixFault → Result (
 prefixes_verdict (Ok list) = Ok list
 prefixes_verdict (Err error) = Err (Prefixes error)
 
--- trusted, own: holds if this is the company prefix lengths of the named file, or none if none is named
+-- trusted, own: holds if `answer` is the company prefix lengths of the named file, or none if none is named
 abbrev pub PrefixesGive : Option FilesInMemory → Option (List ℕ) → Result (List PrefixEntry) Stop → Type 0
 PrefixesGive files name answer = GivesBy files kind.Prefixes (λ bytes. prefixes_verdict (load_answer bytes)) (Ok []) name answer
 
@@ -135,22 +135,22 @@ abbrev pub links_verdict : Bool → List AiRow → List ℕ → Result (List Con
 links_verdict templates ais voc (Ok contexts) = store_verdict templates ais (store_answer ais voc contexts)
 links_verdict templates ais voc (Err error) = Err (Linkset error)
 
--- trusted, own: holds if this is the verdict on links by their bytes in JSON
+-- trusted, own: holds if `verdict` is that on links by their `bytes` in JSON
 abbrev pub JudgesLinks : Bool → List AiRow → List ℕ → List ℕ → Result (List Link) FileFault → Type 0
 JudgesLinks templates ais voc bytes verdict = verdict ≡ links_verdict templates ais voc (read_answer bytes)
 
--- trusted, own: holds if this is the verdict on links by their bytes as text, which are a linkset or have an error
+-- trusted, own: holds if `verdict` is that on links by their `bytes` as text, which are a linkset or have an error
 pub data JudgesText (templates : Bool) (ais : List AiRow) (voc bytes : List ℕ) (verdict : Result (List Link) FileFault) : Type 0 where
   read_as : (contexts : List Context) → IsReadAs bytes contexts → verdict ≡ store_verdict templates ais (store_answer ais voc contexts) → JudgesText templates ais voc bytes verdict
   unread : (error : LinkTextFault) → error ≢ text.Memory → IsReadError bytes error → verdict ≡ Err (LinkText error) → JudgesText templates ais voc bytes verdict
 
--- trusted, own: holds if this is the verdict on links by their bytes, in JSON or as text, as the words name their file
+-- trusted, own: holds if `verdict` is that on links by their `bytes`, in JSON or as text, as the words name their file
 abbrev pub JudgesFile : Bool → List AiRow → List ℕ → Option LinksName → List ℕ → Result (List Link) FileFault → Type 0
 JudgesFile templates ais voc None bytes verdict = JudgesLinks templates ais voc bytes verdict
 JudgesFile templates ais voc (Some (in_json name)) bytes verdict = JudgesLinks templates ais voc bytes verdict
 JudgesFile templates ais voc (Some (as_text name)) bytes verdict = JudgesText templates ais voc bytes verdict
 
--- trusted, own: holds if this is the links of the named file, or none if none is named
+-- trusted, own: holds if `answer` is the links of the named file, or none if none is named
 abbrev pub LinksGive : Option FilesInMemory → Bool → List AiRow → List ℕ → Option LinksName → Result (List Link) Stop → Type 0
 LinksGive files templates ais voc name answer =
     Gives files kind.Links (JudgesFile templates ais voc name) (λ verdict. verdict ≡ Ok []) (option_map name_of_links name) answer
@@ -160,7 +160,7 @@ abbrev pub other_verdict : Result (List Link) FileFault → Result (Option (List
 other_verdict (Ok links) = Ok (Some links)
 other_verdict (Err error) = Err error
 
--- trusted, own: holds if this is the links of the named file, which are merged with others, or none if none is named
+-- trusted, own: holds if `answer` is the links of the named file, which are merged with others, or none if none is named
 abbrev pub OtherGives : Option FilesInMemory → FileKind → List AiRow → List ℕ → Option (List ℕ) → Result (Option (List Link)) Stop → Type 0
 OtherGives files kind ais voc name answer = GivesBy files kind (λ bytes. other_verdict (links_verdict false ais voc (read_answer bytes))) (Ok None) name answer
 
@@ -186,7 +186,7 @@ abbrev pub merging : List AiRow → List ℕ → List Link → Option (List Link
 merging ais voc links None third = Ok []
 merging ais voc links (Some second) third = merged_with ais voc (merge_verdict (merge_answer links second)) third
 
--- trusted, own: holds if this is the bytes of the named file of a kind, or none if none is named
+-- trusted, own: holds if `answer` is the bytes of the named file of `kind`, or none if none is named
 abbrev pub BytesGive : Option FilesInMemory → FileKind → Option (List ℕ) → Result (Option (List ℕ)) Stop → Type 0
 BytesGive files kind name answer = GivesBy files kind (λ bytes. Ok (Some bytes)) (Ok None) name answer
 
@@ -201,24 +201,25 @@ abbrev pub classes_verdict : Result ClassRows ClassLoadFault → Result ClassRow
 classes_verdict (Ok set) = Ok set
 classes_verdict (Err error) = Err (Classes error)
 
--- trusted, own: holds if this is the verdict on classes, by an answer of their load
+-- trusted, own: holds if `verdict` is that on classes, by an answer of their load
 pub record JudgesClasses (Answer : Result ClassRows ClassLoadFault → Type 0) (verdict : Result ClassRows FileFault) : Type 0 where
   pub answer : Result ClassRows ClassLoadFault
   pub is_answer : Answer answer
   pub is : verdict ≡ classes_verdict answer
 
--- trusted, own: holds if this is the verdict on classes if no file of them is named: the built-in ones for a command on class URIs,
--- otherwise none
+-- trusted, own: Holds if `verdict` is that on classes if no file of them is named. It is the built-in ones for a command on
+-- class URIs, otherwise none.
 abbrev pub UnnamedClasses : List AiRow → Bool → Result ClassRows FileFault → Type 0
 UnnamedClasses ais true verdict = JudgesClasses (BuiltInClasses ais) verdict
 UnnamedClasses ais false verdict = verdict ≡ Ok (set_of [])
 
--- trusted, own: holds if this is the classes of the named file, or the default ones, with these AIs
+-- trusted, own: holds if `answer` is the classes of the named file, or the default ones, with the application identifiers `ais`
 abbrev pub ClassesGive : Option FilesInMemory → List AiRow → Command → Option (List ℕ) → Result ClassRows Stop → Type 0
 ClassesGive files ais command name answer =
     Gives files kind.Classes (λ bytes. JudgesClasses (ClassesAnswer ais bytes)) (UnnamedClasses ais (is_of_classes command)) name answer
 
--- trusted, own: holds if this is the result of the files, one at a time, or the reason of the first that is missing or rejected
+-- trusted, own: holds if `answer` is the result of the files, one at a time, or the reason of the first that is missing or
+-- rejected
 abbrev pub FilesGive : Option FilesInMemory → Asked → Result Loaded Stop → Type 0
 FilesGive files asked answer =
     let names = asked.files in
@@ -241,27 +242,27 @@ FilesGive files asked answer =
       classes = classes;
     }))))))))) answer
 
--- trusted, own: holds if the files give something that loads, and the fact holds of it
+-- trusted, own: holds if the files give contents that load, and `Fact` holds of them
 abbrev pub Loading : Option FilesInMemory → Asked → (Loaded → Type 0) → Type 0
 Loading files asked Fact = (loaded : Loaded) × FilesGive files asked (Ok loaded) × Fact loaded
 
--- trusted, own: holds if the run stops at its files, and the fact holds of the reason
+-- trusted, own: holds if the run stops at its files, and `Fact` holds of the reason
 abbrev pub Stopping : Option FilesInMemory → Asked → (Stop → Type 0) → Type 0
 Stopping files asked Fact = (stop : Stop) × FilesGive files asked (Err stop) × Fact stop
 
--- trusted, own: whether files are not loaded because memory ran out
+-- trusted, own: holds if files are not loaded because memory ran out
 abbrev pub is_short : Unloaded → Bool
 is_short (Refused rejection) = false
 is_short ReadFault = false
 is_short OutOfMemory = true
 
--- trusted, own: whether memory ran out in a load
+-- trusted, own: holds if memory ran out in a load
 abbrev pub is_load_short : {A : Type 0} → Result A Unloaded → Bool
 is_load_short (Ok a) = false
 is_load_short (Err unloaded) = is_short unloaded
 
--- trusted, own: holds if only the first of these names were opened, in their order; the opened ones may be unknown instead
--- only if memory was lost
+-- trusted, own: Holds if only the first of `names` were opened, in their order. The opened ones may be unknown instead only if
+-- `lost` is true.
 abbrev pub OpensFirst : Bool → List (List ℕ) → Option (List (List ℕ)) → Option (List (List ℕ)) → Type 0
 OpensFirst lost names before now = (count : ℕ) × AddsNames lost before (take count names) now
 
@@ -276,18 +277,18 @@ named_up_to kind.Describe files = tables_named files ++ (links_named files ++ de
 named_up_to kind.Classes files = names_in_order files
 named_up_to other files = tables_named files ++ links_named files
 
--- trusted, own: holds if only the first of the named files were opened, in their order; if the files are known, none was opened
--- after the one at which the run stops. The opened ones may be unknown instead only if memory was lost
+-- trusted, own: Holds if only the first of the named files were opened, in their order. If the files are known, none was opened
+-- after the one at which the run stops. The opened ones may be unknown instead only if `lost` is true.
 pub record OpensUpTo (lost : Bool) (files : Option FilesInMemory) (asked : Asked) (before now : Option (List (List ℕ))) : Type 0 where
   pub first : OpensFirst lost (names_in_order asked.files) before now
   pub decided : (known : FilesInMemory) (stop : Stop) → files ≡ Some known → FilesGive files asked (Err stop) → OpensFirst lost (named_up_to (kind_of stop) asked.files) before now
 
--- trusted, own: holds if all of these names, and no others, were opened, in their order, once the load succeeded
+-- trusted, own: holds if, once the load succeeded, all of `names` and no others were opened, in their order
 abbrev pub Opens : {A : Type 0} → List (List ℕ) → Option (List (List ℕ)) → Option (List (List ℕ)) → Result A Unloaded → Type 0
 Opens names before now answer = IfOk answer (λ _. now ≡ with_names before names)
 
--- trusted, own: the place of an ambiguity, at which a text has two derivations: a level of the tables and a pair of its
--- options, or a pair of classes
+-- trusted, own: The place of an ambiguity, at which a text has two derivations. It is a level of the tables and a pair of its
+-- options, or a pair of classes.
 pub data Ambiguity : Type 0 where
   of_tables : LevelName → ℕ → ℕ → Ambiguity
   of_classes : ℕ → ℕ → Ambiguity

@@ -27,43 +27,43 @@ use Rattle.tdl_loads.specs.Loads.{BytesGive, ClassesGive, FilesInMemory, LinksGi
 
 -- ---- the results of the files, part by part: tables and prefixes, links, settings, classes
 
--- the verdict is that on a list of company prefix lengths
+-- holds if the verdict is that on a list of company prefix lengths
 abbrev pub JudgesPrefixes : List ℕ → Result (List PrefixEntry) FileFault → Type 0
 JudgesPrefixes bytes verdict = verdict ≡ prefixes_verdict (load_answer bytes)
 
--- the list of no entry
+-- holds if the list has no entry
 abbrev pub IsNoPrefix : Result (List PrefixEntry) FileFault → Type 0
 IsNoPrefix verdict = verdict ≡ Ok []
 
--- the store of no link
+-- holds if the store has no link
 abbrev pub IsNoLink : Result (List Link) FileFault → Type 0
 IsNoLink verdict = verdict ≡ Ok []
 
--- the verdict on links that are merged with others, by their bytes in JSON
+-- holds if this is the verdict on links that are merged with others, by their bytes in JSON
 abbrev pub JudgesOther : List AiRow → List ℕ → List ℕ → Result (Option (List Link)) FileFault → Type 0
 JudgesOther ais voc bytes verdict = verdict ≡ other_verdict (links_verdict false ais voc (read_answer bytes))
 
--- no links that are merged with others
+-- holds if no links are merged with others
 abbrev pub IsNoOther : Result (Option (List Link)) FileFault → Type 0
 IsNoOther verdict = verdict ≡ Ok None
 
--- the verdict on bytes that are taken unchanged
+-- holds if this is the verdict on bytes that are taken unchanged
 abbrev pub AreBytes : List ℕ → Result (Option (List ℕ)) FileFault → Type 0
 AreBytes bytes verdict = verdict ≡ Ok (Some bytes)
 
--- no bytes
+-- holds if there are no bytes
 abbrev pub AreNone : Result (Option (List ℕ)) FileFault → Type 0
 AreNone verdict = verdict ≡ Ok None
 
--- the tables and the company prefix lengths that are loaded are these
+-- holds if the tables and the company prefix lengths that are loaded are these
 abbrev pub AreTabled : TablesWithSource → List PrefixEntry → Result Tabled Stop → Type 0
 AreTabled given list answer = answer ≡ Ok (record { tables = given.tables; source = given.source; prefixes = list })
 
--- the result of the file of company prefix lengths after these tables
+-- holds if this is the result of the file of company prefix lengths after these tables
 abbrev pub GivesPrefixes : Option FilesInMemory → FileNames → TablesWithSource → Result Tabled Stop → Type 0
 GivesPrefixes files names given answer = Then (PrefixesGive files names.prefixes) (AreTabled given) answer
 
--- the result of the files of tables and of company prefix lengths
+-- holds if this is the result of the files of tables and of company prefix lengths
 abbrev pub TabledGive : Option FilesInMemory → FileNames → Result Tabled Stop → Type 0
 TabledGive files names answer = Then (TablesGive files names.tables) (GivesPrefixes files names) answer
 
@@ -72,62 +72,62 @@ abbrev pub linked_with : List Link → Result (List Context) Stop → Result Lin
 linked_with links (Ok contexts) = Ok (record { links = links; merged = contexts })
 linked_with links (Err stop) = Err stop
 
--- these links, with the document that they and second and third ones are merged to
+-- holds if the result is these links, with the document that they and second and third ones are merged to
 abbrev pub AreLinked : List AiRow → List ℕ → List Link → Option (List Link) → Option (List Link) → Result Linked Stop → Type 0
 AreLinked ais voc links second third answer = answer ≡ linked_with links (of_verdict kind.Merge (merging ais voc links second third))
 
--- the result of the file of third links after these links and second ones
+-- holds if this is the result of the file of third links after these links and second ones
 abbrev pub GivesThird : Option FilesInMemory → FileNames → List AiRow → List ℕ → List Link → Option (List Link) → Result Linked Stop → Type 0
 GivesThird files names ais voc links second answer = Then (OtherGives files kind.Third ais voc names.third) (AreLinked ais voc links second) answer
 
--- the result of the files of second and of third links after these links
+-- holds if this is the result of the files of second and of third links after these links
 abbrev pub GivesOthers : Option FilesInMemory → FileNames → List AiRow → List ℕ → List Link → Result Linked Stop → Type 0
 GivesOthers files names ais voc links answer = Then (OtherGives files kind.Second ais voc names.second) (GivesThird files names ais voc links) answer
 
--- the result of the files of links, by the application identifiers and the values of a request
+-- holds if this is the result of the files of links, by the application identifiers and the values of a request
 abbrev pub LinkedGive : Option FilesInMemory → FileNames → Values → List AiRow → Result Linked Stop → Type 0
 LinkedGive files names values ais answer =
     Then (LinksGive files values.templates ais values.voc names.links) (GivesOthers files names ais values.voc) answer
 
--- the description in the named file, or none if none is named
+-- holds if this is the description in the named file, or none if none is named
 abbrev pub DescriptionGives : Option FilesInMemory → Option (List ℕ) → Result (Option (List ℕ)) Stop → Type 0
 DescriptionGives files name answer = BytesGive files kind.Describe name answer
 
--- how requests are answered, by the values of a request and with a description
+-- holds if this is how requests are answered, by the values of a request and with a description
 abbrev pub AreSettings : Values → Option (List ℕ) → Result Settings Stop → Type 0
 AreSettings values describe answer = answer ≡ Ok (record { voc = values.voc; describe = describe; templates = values.templates })
 
--- the settings of replies, by the values of a request and by the result of the file of the description
+-- holds if these are the settings of replies, by the values of a request and by the result of the file of the description
 abbrev pub SettingsGive : Option FilesInMemory → FileNames → Values → Result Settings Stop → Type 0
 SettingsGive files names values answer = Then (DescriptionGives files names.describe) (AreSettings values) answer
 
--- the load of these tables and prefixes, these links, these settings and these classes
+-- holds if this is the load of these tables and prefixes, these links, these settings and these classes
 abbrev pub IsLoadedOf : Tabled → Linked → Settings → ClassRows → Result Loaded Stop → Type 0
 IsLoadedOf tabled linked settings classes answer =
     answer ≡ Ok (record { tables = tabled.tables; source = tabled.source; prefixes = tabled.prefixes; links = linked.links; merged = linked.merged; settings = settings; classes = classes })
 
--- the result of the file of classes after these tables and prefixes, these links and these settings
+-- holds if this is the result of the file of classes after these tables and prefixes, these links and these settings
 abbrev pub GivesClasses : Option FilesInMemory → Asked → Tabled → Linked → Settings → Result Loaded Stop → Type 0
 GivesClasses files asked tabled linked settings answer =
     Then (ClassesGive files tabled.tables.ais asked.command asked.files.classes) (IsLoadedOf tabled linked settings) answer
 
--- the result of the files of the description and of classes after these tables and prefixes, and these links
+-- holds if this is the result of the files of the description and of classes after these tables and prefixes, and these links
 abbrev pub GivesSettings : Option FilesInMemory → Asked → Tabled → Linked → Result Loaded Stop → Type 0
 GivesSettings files asked tabled linked answer = Then (SettingsGive files asked.files asked.values) (GivesClasses files asked tabled linked) answer
 
--- the result of the files of links, of the description and of classes after these tables and prefixes
+-- holds if this is the result of the files of links, of the description and of classes after these tables and prefixes
 abbrev pub GivesLinks : Option FilesInMemory → Asked → Tabled → Result Loaded Stop → Type 0
 GivesLinks files asked tabled answer =
     Then (LinkedGive files asked.files asked.values tabled.tables.ais) (GivesSettings files asked tabled) answer
 
--- the result of the files, part by part
+-- holds if this is the result of the files, part by part
 abbrev pub PartsGive : Option FilesInMemory → Asked → Result Loaded Stop → Type 0
 PartsGive files asked answer = Then (TabledGive files asked.files) (GivesLinks files asked) answer
 
 -- ---- loads
 
--- trusted, own: holds if the answer of a load is the result of the files, a read fault, or out of memory. A read fault occurs
--- only if the files counted an error or a file is missing
+-- trusted, own: Holds if the answer of a load is the result of the files, a read fault, or out of memory. A read fault occurs
+-- only if the files counted an error or a file is missing.
 abbrev pub LoadedBy : {A : Type 0} → (Result A Stop → Type 0) → ℕ → ℕ → Result A Unloaded → Type 0
 LoadedBy Give before now (Ok a) = Give (Ok a)
 LoadedBy Give before now (Err (Refused rejection)) = Give (Err (rejected rejection))
@@ -148,9 +148,9 @@ pub record FilesKnown : Type 0 where
 abbrev pub files_known : Option FilesInMemory → Option (List (List ℕ)) → ℕ → FilesKnown
 files_known files opened errors = record { files = files; opened = opened; errors = errors }
 
--- trusted, own: Holds if a load of the files of these names had this answer between two moments: the result of the files. The
--- first of the names were opened, in their order, and all if the load succeeded; the opened ones may be unknown only if memory
--- ran out. If there are no names, the files are unchanged.
+-- trusted, own: Holds if `answer`, of a load of the files `names` between two moments, is the result of the files. The first of
+-- the names were opened, in their order, and all if the load succeeded. The opened ones may be unknown only if memory ran out.
+-- If there are no names, the files are unchanged.
 pub record Loads {A : Type 0} (Give : Option FilesInMemory → Result A Stop → Type 0) (names : List (List ℕ)) (AsTheyWere : Type 0) (before now : FilesKnown) (answer : Result A Unloaded) : Type 0 where
   pub loaded : LoadedBy (Give before.files) before.errors now.errors answer
   pub opened : OpensFirst (is_load_short answer) names before.opened now.opened
@@ -159,8 +159,8 @@ pub record Loads {A : Type 0} (Give : Option FilesInMemory → Result A Stop →
   pub known : now.files ≡ before.files
   pub counts : before.errors ≤ now.errors
 
--- trusted, own: holds if no file was opened after the one at which the load stops, if the files are known; `up_to` gives the names up
--- to the file of a kind. The opened names may be unknown only if memory was lost
+-- trusted, own: Holds if no file was opened after the one at which the load stops, if the files are known. The function `up_to`
+-- gives the names up to the file of a kind. The opened names may be unknown only if memory was lost
 pub record StopsOpening {A : Type 0} (Give : Option FilesInMemory → Result A Stop → Type 0) (up_to : FileKind → List (List ℕ)) (lost : Bool) (before now : FilesKnown) : Type 0 where
   pub decided : (known : FilesInMemory) (stop : Stop) → before.files ≡ Some known → Give before.files (Err stop) → OpensFirst lost (up_to (kind_of stop)) before.opened now.opened
 

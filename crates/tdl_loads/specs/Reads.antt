@@ -23,14 +23,14 @@ use Rattle.tdl_loads.specs.declared.loads.Unloaded.{Unloaded}
 use Rattle.tdl_loads.specs.declared.loads.Unloaded.TheVariants.{Refused, ReadFault, Memory}
 use Rattle.tdl_loads.specs.Loads.{FilesInMemory, classes_verdict, of_verdict, prefixes_verdict, rejected, tables_verdict}
 
--- the bytes of a named file, that it has too many, or an error
+-- holds if the answer is the bytes of a named file, that it has too many, or an error
 abbrev pub ReadBy : Option FilesInMemory → FileKind → List ℕ → ℕ → ℕ → Result (List ℕ) Unloaded → Type 0
 ReadBy files kind name before now (Ok bytes) = IsFile files name bytes × (length bytes ≤ file_limit kind)
 ReadBy files kind name before now (Err (Refused rejection)) = (bytes : List ℕ) × IsFile files name bytes × (file_limit kind < length bytes) × (rejection ≡ record { kind = kind; error = Over })
 ReadBy files kind name before now (Err ReadFault) = Rises before now ⊎ IsAbsent files name
 ReadBy files kind name before now (Err Memory) = Unit {0}
 
--- the answer of a load of tables of a document, with out of memory as no rejection
+-- holds if this is the answer of a load of tables of a document, with out of memory as no rejection
 abbrev pub UnloadedAs : List ℕ → Result TableRows LoadFault → Result TablesWithSource Unloaded → Type 0
 UnloadedAs source answer (Ok given) = tables_verdict source answer ≡ Ok given
 UnloadedAs source answer (Err Memory) = Unit {0}
@@ -38,14 +38,14 @@ UnloadedAs source answer (Err ReadFault) = ⊥
 UnloadedAs source answer (Err (Refused rejection)) =
     HasMemory answer × (of_verdict kind.Tables (tables_verdict source answer) ≡ Err (rejected rejection))
 
--- a verdict on a file of a kind, or instead out of memory
+-- holds if this is a verdict on a file of a kind, or instead out of memory
 abbrev pub JudgedAs : {A : Type 0} → FileKind → Result A FileFault → Result A Unloaded → Type 0
 JudgedAs kind verdict (Ok a) = verdict ≡ Ok a
 JudgedAs kind verdict (Err Memory) = Unit {0}
 JudgedAs kind verdict (Err ReadFault) = ⊥
 JudgedAs kind verdict (Err (Refused rejection)) = of_verdict kind verdict ≡ Err (rejected rejection)
 
--- a verdict on a file of a kind by a relation of verdicts, or instead out of memory
+-- holds if this is a verdict on a file of a kind by a relation of verdicts, or instead out of memory
 abbrev pub JudgedBy : {A : Type 0} → FileKind → (Result A FileFault → Type 0) → Result A Unloaded → Type 0
 JudgedBy kind Judges (Ok a) = Judges (Ok a)
 JudgedBy kind Judges (Err Memory) = Unit {0}
@@ -57,7 +57,7 @@ abbrev pub unread_text : FileKind → LinkTextFault → Unloaded
 unread_text kind text.Memory = Memory
 unread_text kind error = Refused (record { kind = kind; error = LinkText error })
 
--- the answer of a load of company prefix lengths, with out of memory as no rejection
+-- holds if this is the answer of a load of company prefix lengths, with out of memory as no rejection
 abbrev pub PrefixesUnloadedAs : Result (List PrefixEntry) PrefixFault → Result (List PrefixEntry) Unloaded → Type 0
 PrefixesUnloadedAs answer (Ok list) = answer ≡ Ok list
 PrefixesUnloadedAs answer (Err Memory) = Unit {0}
@@ -65,7 +65,7 @@ PrefixesUnloadedAs answer (Err ReadFault) = ⊥
 PrefixesUnloadedAs answer (Err (Refused rejection)) =
     (answer ≢ Err prefix.Memory) × (of_verdict kind.Prefixes (prefixes_verdict answer) ≡ Err (rejected rejection))
 
--- the answer of a load of classes, with out of memory as no rejection
+-- holds if this is the answer of a load of classes, with out of memory as no rejection
 abbrev pub ClassesUnloadedAs : Result ClassRows ClassLoadFault → Result ClassRows Unloaded → Type 0
 ClassesUnloadedAs answer (Ok set) = answer ≡ Ok set
 ClassesUnloadedAs answer (Err Memory) = Unit {0}

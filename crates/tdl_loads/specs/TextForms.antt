@@ -8,7 +8,7 @@ use Rattle.gs_linktext.specs.ReadAnswers.{IsReadAs, IsReadError}
 use Rattle.gs_linktext_grammar.specs.declared.error.LinkTextFault.{LinkTextFault}
 use Rattle.gs_linktext_grammar.specs.declared.error.LinkTextFault.TheVariants.{Memory}
 
--- trusted, own: holds if a text is read as a linkset, fails to be read only for memory, and loads to these links in every reading
+-- trusted, own: holds if `text` is read as a linkset, fails to be read only for memory, and loads to `links` in every reading
 pub record TextLoads (ais : List AiRow) (voc text : List ℕ) (links : List Link) : Type 0 where
   pub contexts : List Context
   pub read : IsReadAs text contexts

@@ -2,8 +2,9 @@
 //!
 //! - `load_files` loads the files of a request, or their defaults. It stops at the first that is missing, cannot be read or is
 //!   rejected (`Unloaded`), and opens no later one.
-//! - `Loaded` holds the loaded contents of a run: the tables with their document (`TablesWithSource`), the company prefix
-//!   lengths (`Tabled`), the links and their merged document (`Linked`), the settings of replies, and the classes.
+//! - `Loaded` holds the loaded contents of a run: the tables with their document (`TablesWithSource`) and the company prefix
+//!   lengths (`Tabled`). It also holds the links and their merged document (`Linked`), the settings of replies, and the
+//!   classes.
 //! - `text_form_loads_alike` is the law that a linkset and its text form load to the same links.
 //!
 //! # Example

@@ -7,13 +7,13 @@ abbrev pub line_of : {R : Type 0} → (R → List ℕ) → Result (List ℕ) R �
 line_of reason_text (Ok text) = accepted text
 line_of reason_text (Err reason) = rejected (reason_text reason)
 
--- trusted, own: holds if the line is that of an answer to its text, with the texts of the reasons
+-- trusted, own: holds if `line` is that of an answer to its text, with the texts of the reasons
 pub record IsLineOf {R : Type 0} (reason_text : R → List ℕ) (Answer : Result (List ℕ) R → Type 0) (line : LineAnswer) : Type 0 where
   pub answer : Result (List ℕ) R
   pub is_answer : Answer answer
   pub is : line ≡ line_of reason_text answer
 
--- trusted, own: the line of the answer was added, and whether the answer is a rejection
+-- trusted, own: holds if the line of `answer` was appended, and `any_rejected` is whether it is a rejection
 pub record AddsLine {R : Type 0} (reason_text : R → List ℕ) (answer : Result (List ℕ) R) (before now : List ℕ) (any_rejected : Bool) : Type 0 where
   pub written : now ≡ before ++ printed (line_of reason_text answer)
   pub known : any_rejected ≡ is_rejected (line_of reason_text answer)

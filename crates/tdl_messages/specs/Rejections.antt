@@ -62,7 +62,7 @@ shown_byte c = if is_visible c then c else 63
 abbrev pub shown : List ℕ → List ℕ
 shown place = map shown_byte place
 
--- trusted, own: why a document has not its form
+-- trusted, own: the text of why a document does not have its form
 abbrev pub json_text : JsonFault → List ℕ
 json_text json.Syntax = codes "syntax"
 json_text (json.Lacks place) = codes "lacks " ++ shown place
@@ -84,23 +84,23 @@ level_text Binary = codes "binary"
 level_text Tag = codes "tag"
 level_text Pure = codes "pure"
 
--- trusted, own: a word and two numbers
+-- trusted, own: the text of a word and two numbers
 abbrev pub numbered_twice : List ℕ → ℕ → ℕ → List ℕ
 numbered_twice word i j = numbered (numbered word i) j
 
--- trusted, own: a word and a level
+-- trusted, own: the text of a word and a level
 abbrev pub of_level : List ℕ → LevelName → List ℕ
 of_level word level = word ++ 32 ∷ level_text level
 
--- trusted, own: a word, a level and two numbers
+-- trusted, own: the text of a word, a level and two numbers
 abbrev pub of_level_twice : List ℕ → LevelName → ℕ → ℕ → List ℕ
 of_level_twice word level i j = numbered_twice (of_level word level) i j
 
--- trusted, own: an option that does not fit its kind, by its level and its number
+-- trusted, own: the text of an option that does not fit its kind, by its level and its number
 abbrev pub mismatch_text : LevelName → ℕ → List ℕ
 mismatch_text level i = numbered (of_level (codes "mismatch") level) i
 
--- trusted, own: why an application identifier breaks a rule
+-- trusted, own: the text of why an application identifier breaks a rule
 abbrev pub ai_text : AiFault → List ℕ
 ai_text (ai.BadAi i) = numbered (codes "ai") i
 ai_text (ai.CodePrefix j i) = numbered_twice (codes "code-prefix") j i
@@ -113,7 +113,7 @@ ai_text ai.Memory = codes "memory"
 abbrev pub ambiguous_text : LevelName → ℕ → ℕ → List ℕ → List ℕ
 ambiguous_text level i j text = of_level_twice (codes "ambiguous") level i j ++ 32 ∷ text
 
--- trusted, own: an error of tables
+-- trusted, own: the text of an error of tables
 abbrev pub tables_text : LoadFault → List ℕ
 tables_text (Json error) = codes "json " ++ json_text error
 tables_text Version = codes "version"
@@ -126,7 +126,7 @@ tables_text (Duplicate level j i) = of_level_twice (codes "duplicate") level j i
 tables_text (Ambiguous level i j text) = ambiguous_text level i j text
 tables_text Memory = codes "memory"
 
--- trusted, own: an error of a list of company prefix lengths
+-- trusted, own: the text of an error of a list of company prefix lengths
 abbrev pub prefixes_text : PrefixFault → List ℕ
 prefixes_text (prefix.Json error) = codes "json " ++ json_text error
 prefixes_text (prefix.BadPrefix i) = numbered (codes "bad-prefix") i
@@ -135,7 +135,8 @@ prefixes_text (prefix.Twice i) = numbered (codes "twice") i
 prefixes_text prefix.Limit = codes "limit"
 prefixes_text prefix.Memory = codes "memory"
 
--- trusted, own: why an anchor is invalid: the text that is printed after `no ` for the same error of a link or of an identity
+-- trusted, own: the text of why an anchor is invalid: the one that is printed after `no ` for the same error of a link or an
+-- identity
 abbrev pub anchor_text : AnchorWhy → List ℕ
 anchor_text (anchor.Link error) = reason_text (link_reason error)
 anchor_text (anchor.Ident error) = reason_text (Ident error)
@@ -149,21 +150,22 @@ bad_anchor_text i why = numbered (codes "bad-anchor") i ++ 32 ∷ anchor_text wh
 abbrev pub bad_href_text : ℕ → ℕ → ℕ → List ℕ
 bad_href_text i r t = numbered (numbered_twice (codes "bad-href") i r) t
 
--- trusted, own: an error of a linkset as a store of links
+-- trusted, own: the text of an error of a linkset as a store of links
 abbrev pub store_text : StoreFault → List ℕ
 store_text store.TooMany = codes "too-many"
 store_text (store.BadAnchor i why) = bad_anchor_text i why
 store_text (store.BadHref i r t) = bad_href_text i r t
 store_text store.Memory = codes "memory"
 
--- trusted, own: an error of a linkset as text, by the number of its link
+-- trusted, own: the text of an error of a linkset as text, by the number of its link
 abbrev pub link_text_text : LinkTextFault → List ℕ
 link_text_text text.Syntax = codes "text syntax"
 link_text_text (text.Anchor i) = numbered (codes "text anchor") i
 link_text_text (text.Rel i) = numbered (codes "text rel") i
 link_text_text text.Memory = codes "text memory"
 
--- trusted, own: an error of the template that the reference of a link is, by the number of the link and the place of the byte
+-- trusted, own: the text of an error of the template that a link's reference is, by the number of the link and the place of the
+-- byte
 abbrev pub place_text : ℕ → PlaceFault → List ℕ
 place_text i (Brace at) = numbered_twice (codes "brace") i at
 place_text i (Code at) = numbered_twice (codes "place") i at
@@ -172,7 +174,7 @@ place_text i (Code at) = numbered_twice (codes "place") i at
 abbrev pub ambiguous_classes_text : ℕ → ℕ → List ℕ → List ℕ
 ambiguous_classes_text i j text = numbered_twice (codes "ambiguous") i j ++ 32 ∷ text
 
--- trusted, own: an error of classes
+-- trusted, own: the text of an error of classes
 abbrev pub classes_text : ClassLoadFault → List ℕ
 classes_text (class.Json error) = codes "json " ++ json_text error
 classes_text class.Version = codes "version"
@@ -184,7 +186,7 @@ classes_text (class.Duplicate j i) = numbered_twice (codes "duplicate") j i
 classes_text (class.Ambiguous i j text) = ambiguous_classes_text i j text
 classes_text class.Memory = codes "memory"
 
--- trusted, own: why a file is rejected
+-- trusted, own: the text of why a file is rejected
 abbrev pub error_text : FileFault → List ℕ
 error_text Over = codes "over"
 error_text (Tables error) = tables_text error

@@ -2,7 +2,7 @@
 //!
 //! - `append_line` appends the line of an answer, `ok TEXT` or `no REASON`, whatever the reasons are (`Reasoned`); `append_accepted`
 //!   and `append_rejected` append either.
-//! - `rejected_line` is the printed line of a rejected file. docs/FORMATS.md has the text of each error in 'Why tables are
+//! - `rejected_line` is the printed line of a rejected file. docs/TABLES.md has the text of each error in 'Why tables are
 //!   rejected' and similar sections. The texts of the reasons of translations are in gs_translate.
 //! - `FileKind` has the word of each kind of file, and the most bytes that such a file may have.
 //!

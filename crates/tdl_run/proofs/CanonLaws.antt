@@ -28,7 +28,8 @@ use Rattle.tdl_answers.specs.TranslatedAnswers.{IsCanonLine, IsTranslatedLine}
 use Rattle.tdl_messages.specs.AnswerLines.{line_of}
 use Rattle.tdl_run.specs.Works.{KeepOne, canonizing, translating}
 
-pub canon_lines : (loaded : Loaded) (form : Form) (text : List ℕ) (line : LineAnswer) → IsTranslatedLine (canonizing loaded form) text line ↔ IsCanonLine loaded.tables form text line
+pub canon_lines : (loaded : Loaded) (form : Form) (text : List ℕ) (line : LineAnswer)
+    → IsTranslatedLine (canonizing loaded form) text line ↔ IsCanonLine loaded.tables form text line
 canon_lines loaded form text line = (
   (λ l. record { answer = l.answer; is_answer = (canonical_translation loaded.tables [] no_options form text l.answer refl).0 l.is_answer; is = l.is }),
   (λ l. record { answer = l.answer; is_answer = (canonical_translation loaded.tables [] no_options form text l.answer refl).1 l.is_answer; is = l.is }),
@@ -42,7 +43,9 @@ accepted_answer set form text link l = by l.answer l.is_answer l.is
     by (Ok found) a e = let same : link ≡ found = cc in rw same a
     by (Err reason) a e = absurd (let f : accepted link ≡ rejected (reason_text reason) = e in cc)
 
-canon_same : (loaded : Loaded) (form other : Form) (text given link wanted : List ℕ) → IsLoaded loaded.tables → IsTranslatedLine (canonizing loaded form) text (accepted link) → IsTranslatedLine (canonizing loaded other) given (accepted wanted) → (link ≡ wanted) ↔ NameOne loaded.tables form text other given
+canon_same : (loaded : Loaded) (form other : Form) (text given link wanted : List ℕ) → IsLoaded loaded.tables
+    → IsTranslatedLine (canonizing loaded form) text (accepted link) → IsTranslatedLine (canonizing loaded other) given (accepted wanted)
+    → (link ≡ wanted) ↔ NameOne loaded.tables form text other given
 canon_same loaded form other text given link wanted keeps a b =
     equal_links loaded.tables form other text given link wanted keeps.shaped
     (accepted_answer loaded.tables form text link ((canon_lines loaded form text (accepted link)).0 a))
@@ -56,20 +59,26 @@ record Linked (set : TableRows) (keys_only : Bool) (form : Form) (text link : Li
   read : IsRead set form text (Ok meaning)
   is : link ≡ canonical_link (kept set keys_only meaning).identity
 
-linked : (loaded : Loaded) (values : Values) (form : Form) (text link : List ℕ) → IsTranslatedLine (translating loaded values form Canon) text (accepted link) → Linked loaded.tables values.keys_only form text link
+linked : (loaded : Loaded) (values : Values) (form : Form) (text link : List ℕ)
+    → IsTranslatedLine (translating loaded values form Canon) text (accepted link) → Linked loaded.tables values.keys_only form text link
 linked loaded values form text link l = by l.answer l.is_answer l.is
   where
-    of_link : (found : List ℕ) → link ≡ found → IsTranslation loaded.tables loaded.prefixes (options_of values) form Canon text (Ok found) → Linked loaded.tables values.keys_only form text link
+    of_link : (found : List ℕ) → link ≡ found → IsTranslation loaded.tables loaded.prefixes (options_of values) form Canon text (Ok found)
+        → Linked loaded.tables values.keys_only form text link
     of_link found same (rejects error read e) = absurd (let f : Ok found ≡ Err error = e in cc)
     of_link found same (goes_on meaning read e) =
         let f : Ok found ≡ Ok (canonical_link (kept loaded.tables values.keys_only meaning).identity) = e in
         record { meaning = meaning; read = read; is = cc }
 
-    by : (answer : Result (List ℕ) Reason) → IsTranslation loaded.tables loaded.prefixes (options_of values) form Canon text answer → accepted link ≡ line_of reason_text answer → Linked loaded.tables values.keys_only form text link
+    by : (answer : Result (List ℕ) Reason) → IsTranslation loaded.tables loaded.prefixes (options_of values) form Canon text answer
+        → accepted link ≡ line_of reason_text answer → Linked loaded.tables values.keys_only form text link
     by (Ok found) a e = of_link found (cc) a
     by (Err reason) a e = absurd (let f : accepted link ≡ rejected (reason_text reason) = e in cc)
 
-kept_same : (loaded : Loaded) (values : Values) (form other : Form) (text given link wanted : List ℕ) → IsLoaded loaded.tables → IsTranslatedLine (translating loaded values form Canon) text (accepted link) → IsTranslatedLine (translating loaded values other Canon) given (accepted wanted) → (link ≡ wanted) ↔ KeepOne loaded.tables values.keys_only form text other given
+kept_same : (loaded : Loaded) (values : Values) (form other : Form) (text given link wanted : List ℕ) → IsLoaded loaded.tables
+    → IsTranslatedLine (translating loaded values form Canon) text (accepted link)
+    → IsTranslatedLine (translating loaded values other Canon) given (accepted wanted)
+    → (link ≡ wanted) ↔ KeepOne loaded.tables values.keys_only form text other given
 kept_same loaded values form other text given link wanted keeps a b =
     let set = loaded.tables in
     let keys = values.keys_only in
@@ -80,14 +89,22 @@ kept_same loaded values form other text given link wanted keeps a b =
     let each = one_link_each set.ais (ais_kept set keeps.shaped) (kept set keys one.meaning).identity (kept set keys two.meaning).identity made made' in (
       (λ e m n r s.
           let same = each.1 (sym one.is ∙ e ∙ two.is) in
-          ap (λ (x : Meaning). (kept set keys x).identity) (same_meaning set form text m one.meaning keeps.shaped r one.read) ∙ same ∙ ap (λ (x : Meaning). (kept set keys x).identity) (same_meaning set other given two.meaning n keeps.shaped two.read s)),
+          ap (λ (x : Meaning). (kept set keys x).identity) (same_meaning set form text m one.meaning keeps.shaped r one.read) ∙ same ∙ ap
+          (λ (x : Meaning). (kept set keys x).identity) (same_meaning set other given two.meaning n keeps.shaped two.read s)),
       (λ same. one.is ∙ each.0 (same one.meaning two.meaning one.read two.read) ∙ sym two.is),
     )
 
 -- ---- by tables that files give
 
-pub canon_given : (files : Option FilesInMemory) (asked : Asked) (loaded : Loaded) (form other : Form) (text given link wanted : List ℕ) → FilesGive files asked (Ok loaded) → IsTranslatedLine (canonizing loaded form) text (accepted link) → IsTranslatedLine (canonizing loaded other) given (accepted wanted) → (link ≡ wanted) ↔ NameOne loaded.tables form text other given
-canon_given files asked loaded form other text given link wanted gives a b = canon_same loaded form other text given link wanted (loaded_of files asked loaded gives) a b
+pub canon_given : (files : Option FilesInMemory) (asked : Asked) (loaded : Loaded) (form other : Form) (text given link wanted : List ℕ)
+    → FilesGive files asked (Ok loaded) → IsTranslatedLine (canonizing loaded form) text (accepted link)
+    → IsTranslatedLine (canonizing loaded other) given (accepted wanted) → (link ≡ wanted) ↔ NameOne loaded.tables form text other given
+canon_given files asked loaded form other text given link wanted gives a b = canon_same loaded form other text given link wanted
+    (loaded_of files asked loaded gives) a b
 
-pub kept_given : (files : Option FilesInMemory) (asked : Asked) (loaded : Loaded) (values : Values) (form other : Form) (text given link wanted : List ℕ) → FilesGive files asked (Ok loaded) → IsTranslatedLine (translating loaded values form Canon) text (accepted link) → IsTranslatedLine (translating loaded values other Canon) given (accepted wanted) → (link ≡ wanted) ↔ KeepOne loaded.tables values.keys_only form text other given
-kept_given files asked loaded values form other text given link wanted gives a b = kept_same loaded values form other text given link wanted (loaded_of files asked loaded gives) a b
+pub kept_given : (files : Option FilesInMemory) (asked : Asked) (loaded : Loaded) (values : Values) (form other : Form) (text given link wanted : List ℕ)
+    → FilesGive files asked (Ok loaded) → IsTranslatedLine (translating loaded values form Canon) text (accepted link)
+    → IsTranslatedLine (translating loaded values other Canon) given (accepted wanted)
+    → (link ≡ wanted) ↔ KeepOne loaded.tables values.keys_only form text other given
+kept_given files asked loaded values form other text given link wanted gives a b = kept_same loaded values form other text given link wanted
+    (loaded_of files asked loaded gives) a b

@@ -34,24 +34,30 @@ answered_within bytes any_rejected fits = rw (le-ltb input_limit (length bytes) 
 known_bytes : (input : Option (List ℕ)) (known bytes : List ℕ) → input ≡ Some known → IsKnown input bytes → bytes ≡ known
 known_bytes input known bytes e t = let f : IsKnown (Some known) bytes = rw e at t in f
 
-answered_lines : (Is : List ℕ → LineAnswer → Type 0) (input : Option (List ℕ)) (output : List ℕ) (s : Status) → IsWithin input_limit input → AnswersInput Is input_limit input output s → is_answered s ≡ true
+answered_lines : (Is : List ℕ → LineAnswer → Type 0) (input : Option (List ℕ)) (output : List ℕ) (s : Status) → IsWithin input_limit input
+    → AnswersInput Is input_limit input output s → is_answered s ≡ true
 answered_lines Is input output s within a =
     let same : a.bytes ≡ within.bytes = known_bytes input within.bytes a.bytes within.is_known a.of_input in
     let fits : length a.bytes ≤ input_limit = rw same within.fits in
     rw a.has_status (answered_within a.bytes a.any_rejected fits)
 
 -- the outcomes of a work, whose input fits if its lines are answered
-answered_doing : {work : Work} (doing : Doing work) (site : SiteData) (input : Option (List ℕ)) (door : Doorway) (outcome : Outcome) → (is_on_lines work ≡ true → IsWithin input_limit input) → DoingRun doing site input door outcome → is_answered outcome.status ≡ true
+answered_doing : {work : Work} (doing : Doing work) (site : SiteData) (input : Option (List ℕ)) (door : Doorway) (outcome : Outcome)
+    → (is_on_lines work ≡ true → IsWithin input_limit input) → DoingRun doing site input door outcome → is_answered outcome.status ≡ true
 answered_doing (answers Is) site input door outcome fits r = answered_lines Is input outcome.output outcome.status (fits refl) r.0
 answered_doing resolves site input door outcome fits r = ap is_answered r.done
 answered_doing (serves count) site input door outcome fits r = ap (λ (o : Outcome). is_answered o.status) r.is
 answered_doing (prints IsOutput) site input door outcome fits r = ap is_answered r.done
 
-answered_asked : (asked : Asked) (world : World) (outcome : Outcome) → ((stop : Stop) → FilesGive world.files asked (Err stop) → ⊥) → (answers_lines asked.command ≡ true → IsWithin input_limit world.input) → AskedRun asked world outcome → is_answered outcome.status ≡ true
-answered_asked asked world outcome goes_on fits (inl (loaded, gives, r)) = answered_doing (doing_of asked.command asked.values loaded) (site_of loaded) world.input world.door outcome fits r
+answered_asked : (asked : Asked) (world : World) (outcome : Outcome) → ((stop : Stop) → FilesGive world.files asked (Err stop) → ⊥)
+    → (answers_lines asked.command ≡ true → IsWithin input_limit world.input) → AskedRun asked world outcome
+    → is_answered outcome.status ≡ true
+answered_asked asked world outcome goes_on fits (inl (loaded, gives, r)) = answered_doing (doing_of asked.command asked.values loaded)
+    (site_of loaded) world.input world.door outcome fits r
 answered_asked asked world outcome goes_on fits (inr (stop, gives, e)) = absurd (goes_on stop gives)
 
-pub answered_run : (words : List (List ℕ)) (world : World) (outcome : Outcome) → LoadsAll words world.files → InputFits words world.input → DefinedRun words world outcome → is_answered outcome.status ≡ true
+pub answered_run : (words : List (List ℕ)) (world : World) (outcome : Outcome) → LoadsAll words world.files → InputFits words world.input
+    → DefinedRun words world outcome → is_answered outcome.status ≡ true
 answered_run words world outcome loads fits (inl a) =
     let same : a.asked ≡ loads.asked = one_request words a.asked loads.asked a.order loads.order in
     let goes_on : (stop : Stop) → FilesGive world.files a.asked (Err stop) → ⊥ = rw same loads.fact in
@@ -61,7 +67,9 @@ answered_run words world outcome loads fits (inr (not, e)) = absurd (not loads.a
 -- ---- no other status comes
 
 -- no read error has a cause
-no_cause : (words : List (List ℕ)) (world : World) (before now : Counts) → LoadsAll words world.files → NoneRises before now → (Rises before.input_errors now.input_errors ⊎ Rises before.door_errors now.door_errors) ⊎ (Rises before.file_errors now.file_errors ⊎ IsMissing words world.files) → ⊥
+no_cause : (words : List (List ℕ)) (world : World) (before now : Counts) → LoadsAll words world.files → NoneRises before now
+    → (Rises before.input_errors now.input_errors ⊎ Rises before.door_errors now.door_errors) ⊎ (Rises before.file_errors now.file_errors ⊎ IsMissing words world.files)
+    → ⊥
 no_cause words world before now loads none (inl (inl rises)) = none.input rises
 no_cause words world before now loads none (inl (inr rises)) = none.door rises
 no_cause words world before now loads none (inr (inl rises)) = none.files rises
@@ -70,14 +78,18 @@ no_cause words world before now loads none (inr (inr m)) =
     let gives : FilesGive world.files loads.asked (Err (missing m.fact.0)) = rw same at m.fact.1 in
     loads.fact (missing m.fact.0) gives
 
-module _ (words : List (List ℕ)) (world : World) (before now : Counts) (held holds : Option (List ℕ)) (ended ended' : Option (List Finished)) (loads : LoadsAll words world.files) (fits : InputFits words world.input) (none : NoneRises before now) where
+module _ (words : List (List ℕ)) (world : World) (before now : Counts) (held holds : Option (List ℕ))
+    (ended ended' : Option (List Finished)) (loads : LoadsAll words world.files) (fits : InputFits words world.input)
+    (none : NoneRises before now) where
   -- all that is defined was written
   done_by : (s : Status) → Leaves held holds ended ended' s (DefinedRun words world) → IsDoneOrMemory s
   done_by s a =
       let w = a.2 in
       inl (answered_run words world (record { output = w.0; finished = a.0; status = s }) loads fits w.2)
 
-  pub complete_of : (s : Status) → OnTrue (is_written s) (Leaves held holds ended ended' s (DefinedRun words world)) → OnTrue (is_status s status.ReadFault) ((Rises before.input_errors now.input_errors ⊎ Rises before.door_errors now.door_errors) ⊎ (Rises before.file_errors now.file_errors ⊎ IsMissing words world.files)) → OnTrue (is_status s status.WriteFault) (Rises before.output_errors now.output_errors) → IsDoneOrMemory s
+  pub complete_of : (s : Status) → OnTrue (is_written s) (Leaves held holds ended ended' s (DefinedRun words world))
+      → OnTrue (is_status s status.ReadFault) ((Rises before.input_errors now.input_errors ⊎ Rises before.door_errors now.door_errors) ⊎ (Rises before.file_errors now.file_errors ⊎ IsMissing words world.files))
+      → OnTrue (is_status s status.WriteFault) (Rises before.output_errors now.output_errors) → IsDoneOrMemory s
   complete_of status.Done defined read write = done_by status.Done defined
   complete_of status.SomeRefused defined read write = done_by status.SomeRefused defined
   complete_of status.Usage defined read write = done_by status.Usage defined
@@ -88,7 +100,9 @@ module _ (words : List (List ℕ)) (world : World) (before now : Counts) (held h
   complete_of status.Memory defined read write = inr refl
 
 -- the outcome of the request of the arguments
-pub complete_asked : (words : List (List ℕ)) (asked : Asked) (world : World) (before now : Counts) (left held holds : Option (List ℕ)) (ended ended' : Option (List Finished)) (s : Status) → WordsInOrder words asked → Leaves held holds ended ended' s (AskedRan asked world before now left) → LoadsAll words world.files → InputFits words world.input → NoneRises before now → IsDoneOrMemory s
+pub complete_asked : (words : List (List ℕ)) (asked : Asked) (world : World) (before now : Counts) (left held holds : Option (List ℕ)) (ended ended' : Option (List Finished)) (s : Status)
+    → WordsInOrder words asked → Leaves held holds ended ended' s (AskedRan asked world before now left) → LoadsAll words world.files
+    → InputFits words world.input → NoneRises before now → IsDoneOrMemory s
 complete_asked words asked world before now left held holds ended ended' s order a loads fits none =
     let w = a.2 in
     complete_of words world before now held holds ended ended' loads fits none s

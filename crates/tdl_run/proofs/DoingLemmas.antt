@@ -39,7 +39,8 @@ IsDefined resolves = Unit {0}
 IsDefined (serves count) = Unit {0}
 IsDefined (prints IsOutput) = HasSome IsOutput × HasOne IsOutput
 
-pub command_defined : (command : Command) (values : Values) (loaded : Loaded) → IsLoaded loaded.tables → AreKept loaded.tables.ais loaded.classes → IsDefined (doing_of command values loaded)
+pub command_defined : (command : Command) (values : Values) (loaded : Loaded) → IsLoaded loaded.tables
+    → AreKept loaded.tables.ais loaded.classes → IsDefined (doing_of command values loaded)
 command_defined (Canon form) values loaded keeps classes = (some_translated (canonizing loaded form) keeps, one_translated (canonizing loaded form) keeps)
 command_defined (Translate from to) values loaded keeps classes = (some_translated (translating loaded values from to) keeps, one_translated (translating loaded values from to) keeps)
 command_defined Check values loaded keeps classes = ((counts_line loaded, refl), (λ one other a b. a ∙ sym b))
@@ -58,7 +59,8 @@ command_defined Merge values loaded keeps classes = ((merged_line loaded, refl),
 leaves_some : (IsOutput : List ℕ → Type 0) → HasSome IsOutput → HasSome (LeavesOutput IsOutput)
 leaves_some IsOutput some = (outcome_of some.0 status.Done, record { is_output = some.1; none_finished = refl; done = refl })
 
-pub doing_some : {work : Work} (doing : Doing work) (site : SiteData) (input : Option (List ℕ)) (door : Doorway) → IsDefined doing → HasSome (DoingRun doing site input door)
+pub doing_some : {work : Work} (doing : Doing work) (site : SiteData) (input : Option (List ℕ)) (door : Doorway) → IsDefined doing
+    → HasSome (DoingRun doing site input door)
 doing_some (answers Is) site input door defined = lines_some Is input defined.0
 doing_some resolves site input door defined = leaves_some _ (some_resolved site input)
 doing_some (serves count) site input door defined = serves_some site count door
@@ -89,14 +91,20 @@ AlikeBy resolves site door one other = one ≡ other
 AlikeBy (serves count) site door one other = AlikeServed site count door one other
 AlikeBy (prints IsOutput) site door one other = one ≡ other
 
-pub doing_one : {work : Work} (doing : Doing work) (site : SiteData) (input : List ℕ) (waiting : List (List ℕ)) (reads writes : ℕ) (one other : Outcome) → IsDefined doing → DoingRun doing site (Some input) (record { waiting = Some waiting; reads = reads; writes = writes }) one → DoingRun doing site (Some input) (record { waiting = Some waiting; reads = reads; writes = writes }) other → AlikeBy doing site (record { waiting = Some waiting; reads = reads; writes = writes }) one other
+pub doing_one : {work : Work} (doing : Doing work) (site : SiteData) (input : List ℕ) (waiting : List (List ℕ)) (reads writes : ℕ)
+    (one other : Outcome) → IsDefined doing → DoingRun doing site (Some input)
+    (record { waiting = Some waiting; reads = reads; writes = writes }) one → DoingRun doing site (Some input)
+    (record { waiting = Some waiting; reads = reads; writes = writes }) other → AlikeBy doing site
+    (record { waiting = Some waiting; reads = reads; writes = writes }) one other
 doing_one (answers Is) site input waiting reads writes one other defined a b = lines_one Is input defined.1 one other a b
 doing_one resolves site input waiting reads writes one other defined a b = leaves_one _ (one_resolved site input) one other a b
 doing_one (serves count) site input waiting reads writes one other defined a b = serves_alike site count waiting reads writes one other a b
 doing_one (prints IsOutput) site input waiting reads writes one other defined a b = leaves_one _ defined.1 one other a b
 
 -- the outcomes of a command
-pub command_one : (command : Command) (values : Values) (loaded : Loaded) (door : Doorway) (one other : Outcome) → AlikeBy (doing_of command values loaded) (site_of loaded) door one other → (one ≡ other) ⊎ AlikeServed (site_of loaded) values.count door one other
+pub command_one : (command : Command) (values : Values) (loaded : Loaded) (door : Doorway) (one other : Outcome)
+    → AlikeBy (doing_of command values loaded) (site_of loaded) door one other
+    → (one ≡ other) ⊎ AlikeServed (site_of loaded) values.count door one other
 command_one (Canon form) values loaded door one other a = inl a
 command_one (Translate from to) values loaded door one other a = inl a
 command_one Check values loaded door one other a = inl a
@@ -118,7 +126,8 @@ either_cause on_heads A B cause = inl cause
 either_cause on_door A B cause = inr cause
 either_cause on_none A B cause = inl cause
 
-when_both : (A B : Type 0) (s : Status) → OnTrue (is_status s status.ReadFault) A → OnTrue (is_status s status.ReadFault) B → OnTrue (is_status s status.ReadFault) (A × B)
+when_both : (A B : Type 0) (s : Status) → OnTrue (is_status s status.ReadFault) A → OnTrue (is_status s status.ReadFault) B
+    → OnTrue (is_status s status.ReadFault) (A × B)
 when_both A B status.Done a b = tt
 when_both A B status.SomeRefused a b = tt
 when_both A B status.Usage a b = tt
@@ -129,8 +138,12 @@ when_both A B status.InputLong a b = tt
 when_both A B status.Memory a b = tt
 
 -- after a read error of this work the input is unchanged and nothing was written, or the input counted an error
-pub ended_by : {work : Work} (Same A B : Type 0) (doing : Doing work) (site : SiteData) (before now : Option (List ℕ)) (output : List ℕ) (s : Status) → ((is_on_lines work || is_on_heads work) ≡ false → Same) → OnTrue (is_status s status.ReadFault) (WorkCause work A B) → OnTrue (is_status s status.ReadFault) (DoingEnded doing site before now output) → OnTrue (is_status s status.ReadFault) ((Same × (output ≡ [])) ⊎ (A × DoingEnded doing site before now output))
-ended_by Same A B (answers Is) site before now output s stays cause ended = when_map (is_status s status.ReadFault) (λ both. inr both) (when_both _ _ s cause ended)
+pub ended_by : {work : Work} (Same A B : Type 0) (doing : Doing work) (site : SiteData) (before now : Option (List ℕ)) (output : List ℕ) (s : Status)
+    → ((is_on_lines work || is_on_heads work) ≡ false → Same) → OnTrue (is_status s status.ReadFault) (WorkCause work A B)
+    → OnTrue (is_status s status.ReadFault) (DoingEnded doing site before now output)
+    → OnTrue (is_status s status.ReadFault) ((Same × (output ≡ [])) ⊎ (A × DoingEnded doing site before now output))
+ended_by Same A B (answers Is) site before now output s stays cause ended = when_map (is_status s status.ReadFault) (λ both. inr both)
+    (when_both _ _ s cause ended)
 ended_by Same A B resolves site before now output s stays cause ended = when_map (is_status s status.ReadFault) (λ both. inr both) (when_both _ _ s cause ended)
 ended_by Same A B (serves count) site before now output s stays cause ended = when_map (is_status s status.ReadFault) (λ none. inl (stays refl, none)) ended
 ended_by Same A B (prints IsOutput) site before now output s stays cause ended = when_map (is_status s status.ReadFault) (λ e. absurd e) ended

@@ -15,6 +15,9 @@ use Rattle.tdl_run.specs.Works.{Doorway, outcome_of}
 use Rattle.tdl_run.proofs.RanLemmas.{ran_of_line}
 
 -- the input is unchanged
-pub gen_ran : (loaded : Loaded) (values : Values) (lines : ℕ) (door : Doorway) (errors errors' : ℕ) (before now : Moment) (output : List ℕ) (s : Status) → PrintsGenerated loaded.tables lines output s → OnTrue (is_status s WriteFault) (Rises before.output_errors now.output_errors) → before.output_errors ≤ now.output_errors → before.input ≡ now.input → before.input_errors ≡ now.input_errors → CommandRan (Gen lines) values loaded door errors errors' before now (outcome_of output s)
+pub gen_ran : (loaded : Loaded) (values : Values) (lines : ℕ) (door : Doorway) (errors errors' : ℕ) (before now : Moment) (output : List ℕ) (s : Status)
+    → PrintsGenerated loaded.tables lines output s → OnTrue (is_status s WriteFault) (Rises before.output_errors now.output_errors)
+    → before.output_errors ≤ now.output_errors → before.input ≡ now.input → before.input_errors ≡ now.input_errors
+    → CommandRan (Gen lines) values loaded door errors errors' before now (outcome_of output s)
 gen_ran loaded values lines door errors errors' before now output s printed write outputs same inputs =
     ran_of_line _ _ _ _ printed.0 before now output s (record { is_output = printed.1; none_finished = refl; done = refl }) printed.2 write refl same inputs outputs

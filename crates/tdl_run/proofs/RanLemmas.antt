@@ -41,18 +41,26 @@ when_cut status.WriteFault f a = f a
 when_cut status.InputLong f a = tt
 when_cut status.Memory f a = tt
 
-begins_by : (Is : List ℕ → LineAnswer → Type 0) (input : Option (List ℕ)) (output : List ℕ) → HasAnswers Is → BeginsInput Is input_limit input output → BeginsOne (LinesAnswered Is input) output
+begins_by : (Is : List ℕ → LineAnswer → Type 0) (input : Option (List ℕ)) (output : List ℕ) → HasAnswers Is
+    → BeginsInput Is input_limit input output → BeginsOne (LinesAnswered Is input) output
 begins_by Is input output some b =
     let h = whole_of_part Is input_limit input output some b in
     record { outcome = outcome_of h.output h.status; is = (h.answers, refl); begins = h.begins }
 
-cut_by : (Is : List ℕ → LineAnswer → Type 0) (input : Option (List ℕ)) (output : List ℕ) (s : Status) → HasAnswers Is → BeginsInput Is input_limit input output → CutShort (LinesAnswered Is input) (outcome_of output s)
+cut_by : (Is : List ℕ → LineAnswer → Type 0) (input : Option (List ℕ)) (output : List ℕ) (s : Status) → HasAnswers Is
+    → BeginsInput Is input_limit input output → CutShort (LinesAnswered Is input) (outcome_of output s)
 cut_by Is input output s some b =
     let h = whole_of_part Is input_limit input output some b in
     record { outcome = outcome_of h.output h.status; is = (h.answers, refl); begins = h.begins; same_finished = refl }
 
 -- A command on the lines of its input, by the relation of texts and their answers.
-pub ran_of_lines : (Is : List ℕ → LineAnswer → Type 0) (before now : Moment) (output : List ℕ) (s : Status) → HasAnswers Is → WritesAnswers Is input_limit before.input now.input output s → OnTrue (is_answered s) (IsAtEnd now.input) → OnTrue (is_status s status.InputLong) (TakesMoreThan input_limit before.input now.input) → TakesAtMost (input_limit + 1) before.input now.input → OnTrue (is_status s status.ReadFault) (Rises before.input_errors now.input_errors) → OnTrue (is_status s status.WriteFault) (Rises before.output_errors now.output_errors) → before.input_errors ≤ now.input_errors → before.output_errors ≤ now.output_errors → s ≢ status.Usage → s ≢ status.Refused → LinesRan Is before now (outcome_of output s)
+pub ran_of_lines : (Is : List ℕ → LineAnswer → Type 0) (before now : Moment) (output : List ℕ) (s : Status) → HasAnswers Is
+    → WritesAnswers Is input_limit before.input now.input output s → OnTrue (is_answered s) (IsAtEnd now.input)
+    → OnTrue (is_status s status.InputLong) (TakesMoreThan input_limit before.input now.input)
+    → TakesAtMost (input_limit + 1) before.input now.input
+    → OnTrue (is_status s status.ReadFault) (Rises before.input_errors now.input_errors)
+    → OnTrue (is_status s status.WriteFault) (Rises before.output_errors now.output_errors) → before.input_errors ≤ now.input_errors
+    → before.output_errors ≤ now.output_errors → s ≢ status.Usage → s ≢ status.Refused → LinesRan Is before now (outcome_of output s)
 ran_of_lines Is before now output s some writes end long few read write inputs outputs usage rejection = record {
   written = when_map (is_written s) (λ a. (a, refl)) writes.all;
   begun = when_map (is_cut_short s) (begins_by Is before.input output some) writes.first;
@@ -93,7 +101,13 @@ takes_nothing most input = ([], omega arith, sym (prepend_nothing input))
 
 -- the facts of a command that leaves the input unchanged and finished no connection, by its status, which is not a read error
 module _ (Is : Outcome → Type 0) (Ended : List ℕ → Type 0) (Cause : Type 0) (lines : Bool) where
-  ran_by : (before now : Moment) (output : List ℕ) (s : Status) → OnTrue (is_written s) (Is (outcome_of output s)) → OnTrue (is_cut_short s) (BeginsOne Is output) → OnTrue (is_status s status.WriteFault) (CutShort Is (outcome_of output s)) → is_status s status.ReadFault ≡ false → OnTrue (is_status s status.WriteFault) (Rises before.output_errors now.output_errors) → OnTrue (is_answered s) (lines ≡ true → IsAtEnd now.input) → OnTrue (is_status s status.InputLong) (TakesMoreThan input_limit before.input now.input) → before.input ≡ now.input → before.input_errors ≡ now.input_errors → before.output_errors ≤ now.output_errors → s ≢ status.Usage → s ≢ status.Refused → Ran Is Ended (λ status finished. finished ≡ []) Cause lines before now (outcome_of output s)
+  ran_by : (before now : Moment) (output : List ℕ) (s : Status) → OnTrue (is_written s) (Is (outcome_of output s))
+      → OnTrue (is_cut_short s) (BeginsOne Is output) → OnTrue (is_status s status.WriteFault) (CutShort Is (outcome_of output s))
+      → is_status s status.ReadFault ≡ false → OnTrue (is_status s status.WriteFault) (Rises before.output_errors now.output_errors)
+      → OnTrue (is_answered s) (lines ≡ true → IsAtEnd now.input)
+      → OnTrue (is_status s status.InputLong) (TakesMoreThan input_limit before.input now.input) → before.input ≡ now.input
+      → before.input_errors ≡ now.input_errors → before.output_errors ≤ now.output_errors → s ≢ status.Usage → s ≢ status.Refused
+      → Ran Is Ended (λ status finished. finished ≡ []) Cause lines before now (outcome_of output s)
   ran_by before now output s written begun cut errorless write end long same inputs outputs usage rejection = record {
     written = written;
     begun = begun;
@@ -118,7 +132,10 @@ module _ (Is : Outcome → Type 0) (Ended : List ℕ → Type 0) (Cause : Type 0
   cut_some line output s is part = record { outcome = outcome_of line s; is = is; begins = part; same_finished = refl }
 
   -- A command that reads nothing, and prints one line.
-  pub ran_of_line : (line : List ℕ) (before now : Moment) (output : List ℕ) (s : Status) → Is (outcome_of line status.Done) → PrintedAs status.Done line output s → OnTrue (is_status s status.WriteFault) (Rises before.output_errors now.output_errors) → lines ≡ false → before.input ≡ now.input → before.input_errors ≡ now.input_errors → before.output_errors ≤ now.output_errors → Ran Is Ended (λ status finished. finished ≡ []) Cause lines before now (outcome_of output s)
+  pub ran_of_line : (line : List ℕ) (before now : Moment) (output : List ℕ) (s : Status) → Is (outcome_of line status.Done)
+      → PrintedAs status.Done line output s → OnTrue (is_status s status.WriteFault) (Rises before.output_errors now.output_errors)
+      → lines ≡ false → before.input ≡ now.input → before.input_errors ≡ now.input_errors → before.output_errors ≤ now.output_errors
+      → Ran Is Ended (λ status finished. finished ≡ []) Cause lines before now (outcome_of output s)
   ran_of_line line before now output s is printed write none same inputs outputs = by (printed_case status.Done line output s printed)
     where
       no_lines : lines ≡ true → IsAtEnd now.input
@@ -126,7 +143,8 @@ module _ (Is : Outcome → Type 0) (Ended : List ℕ → Type 0) (Cause : Type 0
 
       by : PrintedCase status.Done line output s → Ran Is Ended (λ status finished. finished ≡ []) Cause lines before now (outcome_of output s)
       by (whole e f) = rw (e, f) (ran_by before now line status.Done is tt tt refl tt no_lines tt same inputs outputs (λ e. cc) (λ e. cc))
-      by (error e p) = let w : Rises before.output_errors now.output_errors = rw e at write in rw e (ran_by before now output status.WriteFault tt (begins_some line output status.Done is p) (cut_some line output status.Done is p) refl w tt tt same inputs outputs (λ e. cc) (λ e. cc))
+      by (error e p) = let w : Rises before.output_errors now.output_errors = rw e at write in rw e
+          (ran_by before now output status.WriteFault tt (begins_some line output status.Done is p) (cut_some line output status.Done is p) refl w tt tt same inputs outputs (λ e. cc) (λ e. cc))
       by (no_memory e p) = rw e (ran_by before now output status.Memory tt (begins_some line output status.Done is p) tt refl tt tt tt same inputs outputs (λ e. cc) (λ e. cc))
 
   begins_any : HasSome Is → BeginsOne Is []
@@ -143,5 +161,6 @@ none_more None = refl
 none_more (Some before) = ap Some (sym (append-nil before))
 
 -- the output, if the listener is unchanged
-pub leaves_door : (held holds : Option (List ℕ)) (ended : Option (List Finished)) (s : Status) (fact : Outcome → Type 0) → Appends held holds (λ output. fact (outcome_of output s)) → Leaves held holds ended ended s fact
+pub leaves_door : (held holds : Option (List ℕ)) (ended : Option (List Finished)) (s : Status) (fact : Outcome → Type 0)
+    → Appends held holds (λ output. fact (outcome_of output s)) → Leaves held holds ended ended s fact
 leaves_door held holds ended s fact a = ([], none_more ended, a)

@@ -18,7 +18,8 @@ use Rattle.tdl_loads.proofs.ClassLoads.{classes_kept}
 use Rattle.tdl_loads.proofs.ReadLemmas.{loaded_of}
 
 -- stops that are alike leave outcomes that are alike
-stops_alike : (words : List (List ℕ)) (world : World) (stop stop' : Stop) (one other : Outcome) → one ≡ stopped stop → other ≡ stopped stop' → AlikeStops {A = Loaded} (Err stop) (Err stop') → AreAlike words world one other
+stops_alike : (words : List (List ℕ)) (world : World) (stop stop' : Stop) (one other : Outcome) → one ≡ stopped stop → other ≡ stopped stop'
+    → AlikeStops {A = Loaded} (Err stop) (Err stop') → AreAlike words world one other
 stops_alike words world stop stop' one other a b (one_stop e) = let is : stop ≡ stop' = cc in same (a ∙ ap stopped is ∙ sym b)
 stops_alike words world stop stop' one other a b (two_texts place text text' e f) =
     let is : stop ≡ ambiguous place text = cc in
@@ -35,11 +36,16 @@ same_loaded loaded loaded' (one_stop e) = let f : Ok loaded ≡ Ok loaded' = e i
 same_loaded loaded loaded' (two_texts place text text' e f) = absurd (let g : Ok loaded ≡ Err (ambiguous place text) = e in cc)
 
 -- outcomes of a command over the loaded contents
-loaded_alike : (words : List (List ℕ)) (asked : Asked) (world : World) (loaded : Loaded) (one other : Outcome) → WordsInOrder words asked → FilesGive world.files asked (Ok loaded) → (one ≡ other) ⊎ AlikeServed (site_of loaded) asked.values.count world.door one other → AreAlike words world one other
+loaded_alike : (words : List (List ℕ)) (asked : Asked) (world : World) (loaded : Loaded) (one other : Outcome) → WordsInOrder words asked
+    → FilesGive world.files asked (Ok loaded) → (one ≡ other) ⊎ AlikeServed (site_of loaded) asked.values.count world.door one other
+    → AreAlike words world one other
 loaded_alike words asked world loaded one other order gives (inl e) = same e
 loaded_alike words asked world loaded one other order gives (inr a) = but_errors (record { asked = asked; order = order; fact = (loaded, gives, a) })
 
-asked_one : (words : List (List ℕ)) (asked : Asked) (files : List (List ℕ × List ℕ)) (input : List ℕ) (waiting : List (List ℕ)) (reads writes : ℕ) (one other : Outcome) → WordsInOrder words asked → AskedRun asked (known_world files input waiting reads writes) one → AskedRun asked (known_world files input waiting reads writes) other → AreAlike words (known_world files input waiting reads writes) one other
+asked_one : (words : List (List ℕ)) (asked : Asked) (files : List (List ℕ × List ℕ)) (input : List ℕ) (waiting : List (List ℕ)) (reads writes : ℕ) (one other : Outcome)
+    → WordsInOrder words asked → AskedRun asked (known_world files input waiting reads writes) one
+    → AskedRun asked (known_world files input waiting reads writes) other
+    → AreAlike words (known_world files input waiting reads writes) one other
 asked_one words asked files input waiting reads writes one other order (inl (loaded, gives, a)) (inl (loaded', gives', b)) =
     let is = same_loaded loaded loaded' (files_one files asked (Ok loaded) (Ok loaded') gives gives') in
     let door : Doorway = record { waiting = Some waiting; reads = reads; writes = writes } in
@@ -48,11 +54,17 @@ asked_one words asked files input waiting reads writes one other order (inl (loa
     loaded_alike words asked (known_world files input waiting reads writes) loaded one other order gives
     (command_one asked.command asked.values loaded door one other
     (doing_one (doing_of asked.command asked.values loaded) (site_of loaded) input waiting reads writes one other defined a moved))
-asked_one words asked files input waiting reads writes one other order (inl (loaded, gives, a)) (inr (stop, gives', b)) = absurd (not_alike loaded stop (files_one files asked (Ok loaded) (Err stop) gives gives'))
-asked_one words asked files input waiting reads writes one other order (inr (stop, gives, a)) (inl (loaded, gives', b)) = absurd (not_alike loaded stop (files_one files asked (Ok loaded) (Err stop) gives' gives))
-asked_one words asked files input waiting reads writes one other order (inr (stop, gives, a)) (inr (stop', gives', b)) = stops_alike words (known_world files input waiting reads writes) stop stop' one other a b (files_one files asked (Err stop) (Err stop') gives gives')
+asked_one words asked files input waiting reads writes one other order (inl (loaded, gives, a)) (inr (stop, gives', b)) = absurd
+    (not_alike loaded stop (files_one files asked (Ok loaded) (Err stop) gives gives'))
+asked_one words asked files input waiting reads writes one other order (inr (stop, gives, a)) (inl (loaded, gives', b)) = absurd
+    (not_alike loaded stop (files_one files asked (Ok loaded) (Err stop) gives' gives))
+asked_one words asked files input waiting reads writes one other order (inr (stop, gives, a)) (inr (stop', gives', b)) = stops_alike words
+    (known_world files input waiting reads writes) stop stop' one other a b (files_one files asked (Err stop) (Err stop') gives gives')
 
-pub run_one : (words : List (List ℕ)) (files : List (List ℕ × List ℕ)) (input : List ℕ) (waiting : List (List ℕ)) (reads writes : ℕ) (one other : Outcome) → DefinedRun words (known_world files input waiting reads writes) one → DefinedRun words (known_world files input waiting reads writes) other → AreAlike words (known_world files input waiting reads writes) one other
+pub run_one : (words : List (List ℕ)) (files : List (List ℕ × List ℕ)) (input : List ℕ) (waiting : List (List ℕ)) (reads writes : ℕ) (one other : Outcome)
+    → DefinedRun words (known_world files input waiting reads writes) one
+    → DefinedRun words (known_world files input waiting reads writes) other
+    → AreAlike words (known_world files input waiting reads writes) one other
 run_one words files input waiting reads writes one other (inl a) (inl b) =
     let is : a.asked ≡ b.asked = one_request words a.asked b.asked a.order b.order in
     let moved : AskedRun a.asked (known_world files input waiting reads writes) other = rw is b.fact in

@@ -41,7 +41,8 @@ unfolding done_visits done_visit
 are_done_visits site reads writes zero inputs = no_visit reads writes
 are_done_visits site reads writes (suc n) [] = no_visit reads writes
 are_done_visits site reads writes (suc n) (input ∷ inputs) =
-    one_visit reads writes (done_visit site input) (done_visits site n inputs) reads writes (is_done_visit site reads writes input) (are_done_visits site reads writes n inputs)
+    one_visit reads writes (done_visit site input) (done_visits site n inputs) reads writes (is_done_visit site reads writes input)
+    (are_done_visits site reads writes n inputs)
 
 done_inputs : (site : SiteData) (n : ℕ) (inputs : List (List ℕ)) → inputs_of (done_visits site n inputs) ≡ take n inputs
 unfolding done_visits done_visit
@@ -95,7 +96,9 @@ serves_some site count door = by door.waiting refl
 -- ---- the connections that were served
 
 -- the first of those that waited, up to the last or to that many
-first_of : (waiting waiting' : Option (List (List ℕ))) (inputs : List (List ℕ)) (count : ℕ) → waiting ≡ option_map (λ rest. inputs ++ rest) waiting' → length inputs ≤ count → (length inputs ≡ count) ⊎ IfSome waiting' (λ rest. rest ≡ []) → IfSome waiting (λ all. inputs ≡ take count all)
+first_of : (waiting waiting' : Option (List (List ℕ))) (inputs : List (List ℕ)) (count : ℕ)
+    → waiting ≡ option_map (λ rest. inputs ++ rest) waiting' → length inputs ≤ count
+    → (length inputs ≡ count) ⊎ IfSome waiting' (λ rest. rest ≡ []) → IfSome waiting (λ all. inputs ≡ take count all)
 first_of None waiting' inputs count e few over = tt
 first_of (Some all) None inputs count e few over = absurd (let f : Some all ≡ None = e in cc)
 first_of (Some all) (Some rest) inputs count e few (inl is) =
@@ -108,7 +111,8 @@ first_of (Some all) (Some rest) inputs count e few (inr none) =
     let h : all ≡ inputs = g ∙ ap (λ (more : List (List ℕ)). inputs ++ more) none ∙ append-nil inputs in
     rw h (sym (take_all count inputs few))
 
-front_of : (waiting waiting' : Option (List (List ℕ))) (inputs : List (List ℕ)) → waiting ≡ option_map (λ rest. inputs ++ rest) waiting' → IfSome waiting (λ all. inputs ≡ take (length inputs) all)
+front_of : (waiting waiting' : Option (List (List ℕ))) (inputs : List (List ℕ)) → waiting ≡ option_map (λ rest. inputs ++ rest) waiting'
+    → IfSome waiting (λ all. inputs ≡ take (length inputs) all)
 front_of None waiting' inputs e = tt
 front_of (Some all) None inputs e = absurd (let f : Some all ≡ None = e in cc)
 front_of (Some all) (Some rest) inputs e =
@@ -123,7 +127,9 @@ over_of : (visits : List Visit) (count : ℕ) (none : Type 0) → (length visits
 over_of visits count none (inl is) = inl (count_inputs visits ∙ is)
 over_of visits count none (inr x) = inr x
 
-serves_of : (site : SiteData) (count : ℕ) (door door' : DoorState) (visits : List Visit) → Visited site door door' visits → length visits ≤ count → IsOver count door' visits → Serves site count (doorway_of door.aside door.reads door.writes) (served_outcome visits)
+serves_of : (site : SiteData) (count : ℕ) (door door' : DoorState) (visits : List Visit) → Visited site door door' visits
+    → length visits ≤ count → IsOver count door' visits
+    → Serves site count (doorway_of door.aside door.reads door.writes) (served_outcome visits)
 serves_of site count door door' visits visited few over =
     let number = count_inputs visits in
     record {
@@ -142,7 +148,8 @@ module _ (loaded : Loaded) (values : Values) (errors errors' : ℕ) (before now 
   abbrev Way : Doorway
   Way = doorway_of door.aside door.reads door.writes
 
-  first_served : (output : List ℕ) (s : Status) (r : ServeRan (site_of loaded) values.count door door' output s) → (s ≢ status.Memory → wants_memory r.visits ≡ false) → ServesFirst (site_of loaded) values.count Way s (entries_of r.visits)
+  first_served : (output : List ℕ) (s : Status) (r : ServeRan (site_of loaded) values.count door door' output s)
+      → (s ≢ status.Memory → wants_memory r.visits ≡ false) → ServesFirst (site_of loaded) values.count Way s (entries_of r.visits)
   first_served output s r whole =
       let visited = r.visited in
       let front = front_of door.aside.waiting door'.aside.waiting (inputs_of r.visits) visited.waited in
@@ -158,20 +165,30 @@ module _ (loaded : Loaded) (values : Values) (errors errors' : ℕ) (before now 
         entries = refl;
       }
 
-  begins_line : (visits : List Visit) (output : List ℕ) → Visited (site_of loaded) door door' visits → length visits ≤ values.count → IsOver values.count door' visits → IsInitialPart output (line_of visits) → BeginsOne (Serves (site_of loaded) values.count Way) output
+  begins_line : (visits : List Visit) (output : List ℕ) → Visited (site_of loaded) door door' visits → length visits ≤ values.count
+      → IsOver values.count door' visits → IsInitialPart output (line_of visits)
+      → BeginsOne (Serves (site_of loaded) values.count Way) output
   begins_line visits output visited few over part = record { outcome = served_outcome visits; is = serves_of (site_of loaded) values.count door door' visits visited few over; begins = part }
 
-  cut_line : (visits : List Visit) (output : List ℕ) → Visited (site_of loaded) door door' visits → length visits ≤ values.count → IsOver values.count door' visits → IsInitialPart output (line_of visits) → CutShort (Serves (site_of loaded) values.count Way) (record { output = output; finished = entries_of visits; status = status.WriteFault })
+  cut_line : (visits : List Visit) (output : List ℕ) → Visited (site_of loaded) door door' visits → length visits ≤ values.count
+      → IsOver values.count door' visits → IsInitialPart output (line_of visits) → CutShort (Serves (site_of loaded) values.count Way)
+      (record { output = output; finished = entries_of visits; status = status.WriteFault })
   cut_line visits output visited few over part = record { outcome = served_outcome visits; is = serves_of (site_of loaded) values.count door door' visits visited few over; begins = part; same_finished = refl }
 
   begins_nothing : (output : List ℕ) → output ≡ [] → BeginsOne (Serves (site_of loaded) values.count Way) output
   begins_nothing output none = let o = serves_some (site_of loaded) values.count Way in record { outcome = o.0; is = o.1; begins = (0, none) }
 
-  begins_either : (output : List ℕ) (r : ServeRan (site_of loaded) values.count door door' output status.Memory) → (IsOver values.count door' r.visits × IsInitialPart output (line_of r.visits)) ⊎ (output ≡ []) → BeginsOne (Serves (site_of loaded) values.count Way) output
+  begins_either : (output : List ℕ) (r : ServeRan (site_of loaded) values.count door door' output status.Memory)
+      → (IsOver values.count door' r.visits × IsInitialPart output (line_of r.visits)) ⊎ (output ≡ [])
+      → BeginsOne (Serves (site_of loaded) values.count Way) output
   begins_either output r (inl both) = begins_line r.visits output r.visited r.few both.0 both.1
   begins_either output r (inr none) = begins_nothing output none
 
-  served_as : (output : List ℕ) (s : Status) (r : ServeRan (site_of loaded) values.count door door' output s) → before.input ≡ now.input → before.input_errors ≡ now.input_errors → OnTrue (is_status s status.ReadFault) (Rises errors errors') → OnTrue (is_status s status.WriteFault) (Rises before.output_errors now.output_errors) → before.output_errors ≤ now.output_errors → CommandRan Serve values loaded Way errors errors' before now (record { output = output; finished = entries_of r.visits; status = s })
+  served_as : (output : List ℕ) (s : Status) (r : ServeRan (site_of loaded) values.count door door' output s) → before.input ≡ now.input
+      → before.input_errors ≡ now.input_errors → OnTrue (is_status s status.ReadFault) (Rises errors errors') → OnTrue
+      (is_status s status.WriteFault) (Rises before.output_errors now.output_errors) → before.output_errors ≤ now.output_errors
+      → CommandRan Serve values loaded Way errors errors' before now
+      (record { output = output; finished = entries_of r.visits; status = s })
   served_as output status.Done r same inputs read write outputs =
       let p = r.prints in
       record { written = rw p.1 (serves_of (site_of loaded) values.count door door' r.visits r.visited r.few p.0); begun = tt; finished = tt; cut = tt; read_error = tt; ended = tt; write_error = tt; to_end = λ e. no_lines e; long = tt; few = λ e. no_lines e; input_counts = same_count _ _ inputs; output_counts = outputs; no_usage = λ e. cc; no_rejection = λ e. cc }
@@ -189,7 +206,11 @@ module _ (loaded : Loaded) (values : Values) (errors errors' : ℕ) (before now 
   served_as output status.Refused r same inputs read write outputs = absurd r.prints
   served_as output status.InputLong r same inputs read write outputs = absurd r.prints
 
-  pub serve_ran : (held holds : Option (List ℕ)) (s : Status) → Appends held holds (λ output. ServeRan (site_of loaded) values.count door door' output s) → before.input ≡ now.input → before.input_errors ≡ now.input_errors → OnTrue (is_status s status.ReadFault) (Rises errors errors') → OnTrue (is_status s status.WriteFault) (Rises before.output_errors now.output_errors) → before.output_errors ≤ now.output_errors → Leaves held holds door.aside.finished door'.aside.finished s (CommandRan Serve values loaded Way errors errors' before now)
+  pub serve_ran : (held holds : Option (List ℕ)) (s : Status)
+      → Appends held holds (λ output. ServeRan (site_of loaded) values.count door door' output s) → before.input ≡ now.input
+      → before.input_errors ≡ now.input_errors → OnTrue (is_status s status.ReadFault) (Rises errors errors')
+      → OnTrue (is_status s status.WriteFault) (Rises before.output_errors now.output_errors) → before.output_errors ≤ now.output_errors
+      → Leaves held holds door.aside.finished door'.aside.finished s (CommandRan Serve values loaded Way errors errors' before now)
   serve_ran held holds s a same inputs read write outputs =
       let r = a.2 in
       let visited = r.visited in
@@ -206,11 +227,14 @@ pub none_finish : (aside : Aside) → FinishesFirst aside aside
 none_finish aside = record { inputs = []; entries = []; waited = still_wait aside.waiting; finished = none_more aside.finished; as_many = refl }
 
 -- a listener after a command, which is unchanged if the command does not use it
-pub door_left : {Door : Type 0} {lost : Bool} (is_open : Door → Bool) (aside : Door → Aside) (before now : Door) (uses : Bool) (listen : List ℕ) → is_open before ≡ false → (uses ≡ false → now ≡ before) → (uses ≡ true → UsesDoor lost listen (is_open now) (aside before) (aside now)) → (is_open now ≡ false) × FinishesFirst (aside before) (aside now)
+pub door_left : {Door : Type 0} {lost : Bool} (is_open : Door → Bool) (aside : Door → Aside) (before now : Door) (uses : Bool) (listen : List ℕ)
+    → is_open before ≡ false → (uses ≡ false → now ≡ before) → (uses ≡ true → UsesDoor lost listen (is_open now) (aside before) (aside now))
+    → (is_open now ≡ false) × FinishesFirst (aside before) (aside now)
 door_left is_open aside before now true listen none same used = let u = used refl in (u.closed, u.waiting)
 door_left is_open aside before now false listen none same used = rw (same refl) (none, none_finish (aside before))
 
-pub visits_finish : (site : SiteData) (count : ℕ) (door door' : DoorState) (held holds : Option (List ℕ)) (s : Status) → Appends held holds (λ output. ServeRan site count door door' output s) → FinishesFirst door.aside door'.aside
+pub visits_finish : (site : SiteData) (count : ℕ) (door door' : DoorState) (held holds : Option (List ℕ)) (s : Status)
+    → Appends held holds (λ output. ServeRan site count door door' output s) → FinishesFirst door.aside door'.aside
 visits_finish site count door door' held holds s a =
     let r = a.2 in
     let visited = r.visited in
@@ -225,30 +249,40 @@ visits_finish site count door door' held holds s a =
 -- ---- two outcomes of one service
 
 -- all replies of a site to one input
-same_replies : (site : SiteData) (input input' output output' : List ℕ) → input ≡ input' → Replied site input true output → Replied site input' true output' → output ≡ output'
+same_replies : (site : SiteData) (input input' output output' : List ℕ) → input ≡ input' → Replied site input true output
+    → Replied site input' true output' → output ≡ output'
 same_replies site input input' output output' e a b =
     let moved : AreSiteReplies site input b.replies = rw e b.are_replies in
     let same = one_replies_of_site site input a.replies b.replies a.are_replies moved in
     a.all ∙ same ∙ sym b.all
 
-same_written : (site : SiteData) (reads writes reads' writes' : ℕ) (one other : Visit) → one.input ≡ other.input → IsVisit site true reads writes one → IsVisit site true reads' writes' other → is_done one.served ≡ true → is_done other.served ≡ true → one.entry.written ≡ other.entry.written
+same_written : (site : SiteData) (reads writes reads' writes' : ℕ) (one other : Visit) → one.input ≡ other.input
+    → IsVisit site true reads writes one → IsVisit site true reads' writes' other → is_done one.served ≡ true → is_done other.served ≡ true
+    → one.entry.written ≡ other.entry.written
 same_written site reads writes reads' writes' one other e a b done done' =
     let replied : Replied site one.input true a.written = rw done at a.replied in
     let replied' : Replied site other.input true b.written = rw done' at b.replied in
     let same = same_replies site one.input other.input a.written b.written e replied replied' in
     a.is_written ∙ ap Some same ∙ sym b.is_written
 
-alike_visits : (site : SiteData) (reads writes reads' writes' : ℕ) (ones others : List Visit) (r w r' w' : ℕ) → inputs_of ones ≡ inputs_of others → AreVisits site true reads writes ones r w → AreVisits site true reads' writes' others r' w' → AlikeVisits ones others
+alike_visits : (site : SiteData) (reads writes reads' writes' : ℕ) (ones others : List Visit) (r w r' w' : ℕ)
+    → inputs_of ones ≡ inputs_of others → AreVisits site true reads writes ones r w → AreVisits site true reads' writes' others r' w'
+    → AlikeVisits ones others
 alike_visits site reads writes reads' writes' [] [] r w r' w' e a b = no_visits
 alike_visits site reads writes reads' writes' [] (other ∷ others) r w r' w' e a b = absurd (let f : [] ≡ other.input ∷ inputs_of others = e in cc)
 alike_visits site reads writes reads' writes' (one ∷ ones) [] r w r' w' e a b = absurd (let f : one.input ∷ inputs_of ones ≡ [] = e in cc)
-alike_visits site reads writes reads' writes' (one ∷ ones) (other ∷ others) r w r' w' e (one_visit _ _ _ _ _ _ visit more) (one_visit _ _ _ _ _ _ visit' more') =
+alike_visits site reads writes reads' writes' (one ∷ ones) (other ∷ others) r w r' w' e (one_visit _ _ _ _ _ _ visit more)
+    (one_visit _ _ _ _ _ _ visit' more') =
     let f : one.input ∷ inputs_of ones ≡ other.input ∷ inputs_of others = e in
     let first : one.input ≡ other.input = cc in
     let rest : inputs_of ones ≡ inputs_of others = cc in
-    more_visits one other ones others first (same_written site reads writes reads' writes' one other first visit visit') (alike_visits site (reads_when one.served reads) (writes_when one.served writes) (reads_when other.served reads') (writes_when other.served writes') ones others r w r' w' rest more more')
+    more_visits one other ones others first (same_written site reads writes reads' writes' one other first visit visit')
+    (alike_visits site (reads_when one.served reads) (writes_when one.served writes) (reads_when other.served reads') (writes_when other.served writes') ones others r w r' w' rest more more')
 
-pub serves_alike : (site : SiteData) (count : ℕ) (waiting : List (List ℕ)) (reads writes : ℕ) (one other : Outcome) → Serves site count (record { waiting = Some waiting; reads = reads; writes = writes }) one → Serves site count (record { waiting = Some waiting; reads = reads; writes = writes }) other → AlikeServed site count (record { waiting = Some waiting; reads = reads; writes = writes }) one other
+pub serves_alike : (site : SiteData) (count : ℕ) (waiting : List (List ℕ)) (reads writes : ℕ) (one other : Outcome) → Serves site count
+    (record { waiting = Some waiting; reads = reads; writes = writes }) one → Serves site count
+    (record { waiting = Some waiting; reads = reads; writes = writes }) other → AlikeServed site count
+    (record { waiting = Some waiting; reads = reads; writes = writes }) one other
 serves_alike site count waiting reads writes one other a b =
     let inputs : inputs_of a.visits ≡ inputs_of b.visits = a.first ∙ sym b.first in
     record { served = a; served_too = b; alike = alike_visits site reads writes reads writes a.visits b.visits _ _ _ _ inputs a.are_visits b.are_visits }

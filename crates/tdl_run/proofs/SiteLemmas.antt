@@ -51,7 +51,8 @@ one_resolved site input one other a b =
 -- ---- the command
 
 -- the whole replies; the output is a prefix of them
-replies_begin : (site : SiteData) (input : Option (List ℕ)) (output : List ℕ) (s : Status) → Resolved site input output s → BeginsOne (LeavesOutput (Resolves site input)) output
+replies_begin : (site : SiteData) (input : Option (List ℕ)) (output : List ℕ) (s : Status) → Resolved site input output s
+    → BeginsOne (LeavesOutput (Resolves site input)) output
 replies_begin site input output s r =
     let replied = r.replied in
     record {
@@ -60,13 +61,15 @@ replies_begin site input output s r =
       begins = replied.begun;
     }
 
-replies_cut : (site : SiteData) (input : Option (List ℕ)) (output : List ℕ) → Resolved site input output status.WriteFault → CutShort (LeavesOutput (Resolves site input)) (outcome_of output status.WriteFault)
+replies_cut : (site : SiteData) (input : Option (List ℕ)) (output : List ℕ) → Resolved site input output status.WriteFault
+    → CutShort (LeavesOutput (Resolves site input)) (outcome_of output status.WriteFault)
 unfolding replies_begin
 replies_cut site input output r =
     let b = replies_begin site input output status.WriteFault r in
     record { outcome = b.outcome; is = b.is; begins = b.begins; same_finished = refl }
 
-replies_whole : (site : SiteData) (input : Option (List ℕ)) (output : List ℕ) → Resolved site input output status.Done → LeavesOutput (Resolves site input) (outcome_of output status.Done)
+replies_whole : (site : SiteData) (input : Option (List ℕ)) (output : List ℕ) → Resolved site input output status.Done
+    → LeavesOutput (Resolves site input) (outcome_of output status.Done)
 replies_whole site input output r =
     let replied = r.replied in
     let all : output ≡ replied.replies = replied.all in
@@ -78,7 +81,10 @@ pub no_lines : {fact : Type 0} → false ≡ true → fact
 no_lines e = absurd (let f : false ≡ true = e in cc)
 
 module _ (loaded : Loaded) (values : Values) (door : Doorway) (errors errors' : ℕ) (before now : Moment) (output : List ℕ) where
-  pub resolve_ran : (s : Status) → Resolved (site_of loaded) before.input output s → OnTrue (is_status s status.ReadFault) (Rises before.input_errors now.input_errors) → OnTrue (is_status s status.WriteFault) (Rises before.output_errors now.output_errors) → before.input_errors ≤ now.input_errors → before.output_errors ≤ now.output_errors → CommandRan Resolve values loaded door errors errors' before now (outcome_of output s)
+  pub resolve_ran : (s : Status) → Resolved (site_of loaded) before.input output s
+      → OnTrue (is_status s status.ReadFault) (Rises before.input_errors now.input_errors)
+      → OnTrue (is_status s status.WriteFault) (Rises before.output_errors now.output_errors) → before.input_errors ≤ now.input_errors
+      → before.output_errors ≤ now.output_errors → CommandRan Resolve values loaded door errors errors' before now (outcome_of output s)
   resolve_ran status.Done r read write inputs outputs = record { written = replies_whole (site_of loaded) before.input output r; begun = tt; finished = tt; cut = tt; read_error = tt; ended = tt; write_error = tt; to_end = λ e. no_lines e; long = tt; few = λ e. no_lines e; input_counts = inputs; output_counts = outputs; no_usage = λ e. cc; no_rejection = λ e. cc }
   resolve_ran status.ReadFault r read write inputs outputs = record { written = tt; begun = replies_begin (site_of loaded) before.input output status.ReadFault r; finished = refl; cut = tt; read_error = read; ended = r; write_error = tt; to_end = tt; long = tt; few = λ e. no_lines e; input_counts = inputs; output_counts = outputs; no_usage = λ e. cc; no_rejection = λ e. cc }
   resolve_ran status.WriteFault r read write inputs outputs = record { written = tt; begun = replies_begin (site_of loaded) before.input output status.WriteFault r; finished = refl; cut = replies_cut (site_of loaded) before.input output r; read_error = tt; ended = tt; write_error = write; to_end = tt; long = tt; few = λ e. no_lines e; input_counts = inputs; output_counts = outputs; no_usage = λ e. cc; no_rejection = λ e. cc }

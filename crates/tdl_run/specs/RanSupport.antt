@@ -31,31 +31,31 @@ CommandEnded command values loaded before now output = DoingEnded (doing_of comm
 abbrev pub CommandFinished : Command → Values → Loaded → Doorway → Status → List Finished → Type 0
 CommandFinished command values loaded door status finished = DoingFinished (doing_of command values loaded) (site_of loaded) door status finished
 
--- the fact of DefinedRun, by the request
+-- holds if the fact of DefinedRun holds, by the request
 abbrev pub AskedRun : Asked → World → Outcome → Type 0
 AskedRun asked world outcome =
     Loading world.files asked (λ loaded. CommandRun asked.command asked.values loaded world.input world.door outcome)
     ⊎ Stopping world.files asked (λ stop. outcome ≡ stopped stop)
 
--- the fact of EndedRun, by the request
+-- holds if the fact of EndedRun holds, by the request
 abbrev pub AskedEnded : Asked → Option FilesInMemory → Option (List ℕ) → Option (List ℕ) → List ℕ → Type 0
 AskedEnded asked files before now output = Loading files asked (λ loaded. CommandEnded asked.command asked.values loaded before now output)
 
--- the fact of FinishedRun, by the request
+-- holds if the fact of FinishedRun holds, by the request
 abbrev pub AskedFinished : Asked → World → Outcome → Type 0
 AskedFinished asked world outcome =
     (outcome.finished ≡ [])
     ⊎ Loading world.files asked (λ loaded. CommandFinished asked.command asked.values loaded world.door outcome.status outcome.finished)
 
--- the fact of LoadsSome, by the request
+-- holds if the fact of LoadsSome holds, by the request
 abbrev pub AskedLoads : Asked → Option FilesInMemory → Type 0
 AskedLoads asked files = (loaded : Loaded) × FilesGive files asked (Ok loaded)
 
--- the fact of ListensAt, by the request
+-- holds if the fact of ListensAt holds, by the request
 abbrev pub AskedListens : Asked → Status → Option (List (List ℕ)) → Option (List (List ℕ)) → Type 0
 AskedListens asked ending before now = AddsNames (is_status ending Memory) before (asked.values.listen ∷ []) now ⊎ ((now ≡ before) × (is_answered ending ≡ false))
 
--- the fact of ServesInput, by the request
+-- holds if the fact of ServesInput holds, by the request
 abbrev pub AskedServes : Type 0 → Asked → Option FilesInMemory → Status → Option (List ℕ) → Option (List ℕ) → Option (List ℕ) → Option (List ℕ) → Type 0
 AskedServes AsItWas asked files ending left left' held held' =
     Loading files asked (λ loaded. StreamServed (site_of loaded) ending left left' None None held held')
@@ -65,13 +65,13 @@ AskedServes AsItWas asked files ending left left' held held' =
 abbrev pub OpensAsked : Status → Request → Option (List (List ℕ)) → Option (List (List ℕ)) → Type 0
 OpensAsked ending request before now = OnTrue (is_answered ending) (now ≡ with_names before (all_named request))
 
--- the cause of a read error, by the work of a command: an error that the listener itself counted, or one of the input
+-- holds if a read error has its cause, by the work of a command: the listener itself or the input counted an error
 abbrev pub WorkCause : Work → Type 0 → Type 0 → Type 0
 WorkCause on_door OfInput OfDoor = OfDoor
 WorkCause work OfInput OfDoor = OfInput
 
--- holds if a command opened the listener once, at this address, finished the first of the waiting connections, and left none
--- open; the addresses may be unknown only if memory was lost
+-- Holds if a command opened the listener once, at this address, finished the first of the waiting connections, and left none
+-- open. The addresses may be unknown only if memory was lost.
 pub record UsesDoor (lost : Bool) (listen : List ℕ) (open_now : Bool) (before now : Aside) : Type 0 where
   pub closed : open_now ≡ false
   pub waiting : FinishesFirst before now

@@ -49,7 +49,8 @@ pub record AskedRan (asked : Asked) (world : World) (before now : Counts) (left 
 abbrev pub PrintsRejection : Rejection → Status → Option (List ℕ) → Option (List ℕ) → Type 0
 PrintsRejection rejection ending held held' = Appends held held' (λ output. PrintedAs status.Refused (rejected_line rejection) output ending)
 
--- holds if the sink gained the report on files that did not load, and the run ended so: the line of a rejected file, or nothing
+-- Holds if the sink gained the report on files that did not load, and the run ended so. The report is the line of a rejected
+-- file, or nothing.
 abbrev pub Reports : Unloaded → Status → Option (List ℕ) → Option (List ℕ) → Type 0
 Reports (Refused rejection) ending held held' = PrintsRejection rejection ending held held'
 Reports unloaded.ReadFault ending held held' = (ending ≡ ReadFault) × (held' ≡ held)

@@ -54,8 +54,8 @@ abbrev pub stopped : Stop → Outcome
 stopped (missing kind) = outcome_of [] status.ReadFault
 stopped (rejected rejection) = outcome_of (rejected_line rejection) status.Refused
 
--- trusted, own: Holds if a run with these words may leave this outcome in this world. It is that of the command over the loaded
--- files, or that of a run that stops at its files. If the words are invalid, it is the usage line.
+-- trusted, own: Holds if a run with `words` may leave `outcome` in `world`. It is that of the command over the loaded files, or
+-- that of a run that stops at its files. If the words are invalid, it is the usage line.
 abbrev pub DefinedRun : List (List ℕ) → World → Outcome → Type 0
 DefinedRun words world outcome = AskingOr words (λ asked.
     Loading world.files asked (λ loaded. DoingRun (doing_of asked.command asked.values loaded) (site_of loaded) world.input world.door outcome)
@@ -67,29 +67,29 @@ pub data AlikeVisits : List Visit → List Visit → Type 0 where
   no_visits : AlikeVisits [] []
   more_visits : (one other : Visit) (ones others : List Visit) → one.input ≡ other.input → (is_done one.served ≡ true → is_done other.served ≡ true → one.entry.written ≡ other.entry.written) → AlikeVisits ones others → AlikeVisits (one ∷ ones) (other ∷ others)
 
--- trusted, own: Holds if both outcomes are of the same connections, served by this site at this listener. The bytes read, the
--- errors, and the bytes written to a connection with an error may differ.
+-- trusted, own: Holds if both outcomes are of the same connections, served by `site` at `door`. The bytes read, the errors, and
+-- the bytes written to a connection with an error may differ.
 pub record AlikeServed (site : SiteData) (count : ℕ) (door : Doorway) (one other : Outcome) : Type 0 where
   pub served : Serves site count door one
   pub served_too : Serves site count door other
   pub alike : AlikeVisits served.visits served_too.visits
 
--- trusted, own: Holds if two outcomes of these words in this world are the same, or differ only in one of two ways. They differ
--- in errors of connections and their consequences, or in the text that shows that one place is ambiguous.
+-- trusted, own: Holds if two outcomes of `words` in `world` are the same, or differ only in one of two ways. They differ in
+-- errors of connections and their consequences, or in the text that shows that one place is ambiguous.
 pub data AreAlike (words : List (List ℕ)) (world : World) (one other : Outcome) : Type 0 where
   same : one ≡ other → AreAlike words world one other
   but_errors : Asking words (λ asked. Loading world.files asked (λ loaded. AlikeServed (site_of loaded) asked.values.count world.door one other)) → AreAlike words world one other
   but_text : (place : Ambiguity) (text text' : List ℕ) → one ≡ stopped (ambiguous place text) → other ≡ stopped (ambiguous place text') → AreAlike words world one other
 
--- trusted, own: holds if all outcomes of the words are alike, in each world whose files, input and waiting connections are known
+-- trusted, own: holds if all outcomes of `words` are alike, in each world whose files, input and waiting connections are known
 abbrev pub HasOneOutcome : List (List ℕ) → Type 0
 HasOneOutcome words =
     (files : FilesInMemory) (input : List ℕ) (waiting : List (List ℕ)) (reads writes : ℕ) (one other : Outcome)
     → DefinedRun words (known_world files input waiting reads writes) one → DefinedRun words (known_world files input waiting reads writes) other
     → AreAlike words (known_world files input waiting reads writes) one other
 
--- trusted, own: holds if a run that may be cut short has finished these connections: none, or those that the command finished
--- over the loaded files
+-- trusted, own: holds if the finished connections of `outcome`, which may be cut short, are none, or those that the command
+-- finished over the loaded files
 abbrev pub FinishedRun : List (List ℕ) → World → Outcome → Type 0
 FinishedRun words world outcome = AskingOr words (λ asked.
     (outcome.finished ≡ [])
@@ -100,59 +100,60 @@ FinishedRun words world outcome = AskingOr words (λ asked.
 abbrev pub BeginsRun : List (List ℕ) → World → List ℕ → Type 0
 BeginsRun words world output = BeginsOne (DefinedRun words world) output
 
--- trusted, own: holds if the outcome is some defined outcome, but with a prefix of its output
+-- trusted, own: holds if `outcome` is some defined outcome, but with a prefix of its output
 abbrev pub CutRun : List (List ℕ) → World → Outcome → Type 0
 CutRun words world outcome = CutShort (DefinedRun words world) outcome
 
--- trusted, own: holds if the command has written this after an error of the input, by the bytes that were taken from it
+-- trusted, own: holds if the command has written `output` after an error of the input, by the bytes that were taken from it
 abbrev pub EndedRun : List (List ℕ) → Option FilesInMemory → Option (List ℕ) → Option (List ℕ) → List ℕ → Type 0
 EndedRun words files before now output = Asking words (λ asked. Loading files asked (λ loaded. DoingEnded (doing_of asked.command asked.values loaded) (site_of loaded) before now output))
 
--- trusted, own: holds if a file is missing that the words name, and no earlier file stops the run
+-- trusted, own: holds if a file that `words` name is missing, and no earlier file stops the run
 abbrev pub IsMissing : List (List ℕ) → Option FilesInMemory → Type 0
 IsMissing words files = Asking words (λ asked. (kind : FileKind) × FilesGive files asked (Err (missing kind)))
 
--- trusted, own: holds if a file that the words name, or its default row, is rejected, and no earlier file stops the run
+-- trusted, own: holds if a file that `words` name, or its default row, is rejected, and no earlier file stops the run
 abbrev pub IsRejected : List (List ℕ) → Option FilesInMemory → Type 0
 IsRejected words files = Asking words (λ asked. (rejection : Rejection) × FilesGive files asked (Err (rejected rejection)))
 
--- trusted, own: holds if a read error has a cause between two moments: the input, the listener itself or the files counted an
--- error, or a file is missing
+-- trusted, own: Holds if a read error has a cause between two moments. The input, the listener itself or the files counted an
+-- error, or a file is missing.
 abbrev pub RunCause : List (List ℕ) → Option FilesInMemory → Counts → Counts → Type 0
 RunCause words files before now =
     (Rises before.input_errors now.input_errors ⊎ Rises before.door_errors now.door_errors)
     ⊎ (Rises before.file_errors now.file_errors ⊎ IsMissing words files)
 
--- trusted, own: holds if nothing is left of an input whose lines are answered, once all of them are
+-- trusted, own: holds if, once the whole input was answered, nothing is left of it, or `words` do not ask for answers to its
+-- lines
 abbrev pub ReadsToEnd : List (List ℕ) → Status → Option (List ℕ) → Type 0
 ReadsToEnd words ending left = AsksFor answers_lines words → OnTrue (is_answered ending) (IsAtEnd left)
 
--- trusted, own: holds if at most 4,294,967,297 bytes were taken from an input whose lines are answered
+-- trusted, own: holds if at most 4,294,967,297 bytes were taken from the input, or `words` do not ask for answers to its lines
 abbrev pub TakesFew : List (List ℕ) → Option (List ℕ) → Option (List ℕ) → Type 0
 TakesFew words before now = AsksFor answers_lines words → TakesAtMost (input_limit + 1) before now
 
--- trusted, own: holds if nothing was written after a read error and the input is unchanged; or if the input counted an error,
--- and the sink gained an output with this property
+-- trusted, own: Holds if nothing was written after a read error and the input is unchanged. It also holds if the input counted
+-- an error, and the sink gained an output of which `Ended` holds.
 abbrev pub WritesAfterError : Type 0 → Type 0 → Option (List ℕ) → Option (List ℕ) → (List ℕ → Type 0) → Type 0
 WritesAfterError AsItWas Counted held held' Ended =
     (AsItWas × Appends held held' (λ output. output ≡ [])) ⊎ (Counted × Appends held held' Ended)
 
--- trusted, own: holds if all files that the words name, and no others, were opened, in their order, once the whole input was
--- answered
+-- trusted, own: holds if, once the whole input was answered, all files that `words` name, and no others, were opened, in their
+-- order
 abbrev pub OpensAll : Status → List (List ℕ) → Option (List (List ℕ)) → Option (List (List ℕ)) → Type 0
 OpensAll ending words before now = OnTrue (is_answered ending) (Asking words (λ asked. now ≡ with_names before (names_in_order asked.files)))
 
--- trusted, own: holds if only the first of the files that the words name were opened, and none after the one at which the run
--- stops; and no file if the words are invalid. Only if memory ran out the opened names may be unknown instead
+-- trusted, own: Holds if only the first of the files that `words` name were opened, and none after the one at which the run
+-- stops. If they are invalid, no file was opened. Only if memory ran out the opened names may be unknown instead.
 abbrev pub OpensNamed : List (List ℕ) → Status → Option FilesInMemory → Option (List (List ℕ)) → Option (List (List ℕ)) → Type 0
 OpensNamed words ending files before now = AskingOr words (λ asked. OpensUpTo (is_status ending status.Memory) files asked before now) (now ≡ before)
 
--- trusted, own: holds if the listener was to be opened once, at the address that the words ask for; or not at all, if the run
--- stops at its files. Only if memory ran out the addresses may be unknown instead
+-- trusted, own: Holds if `words` are valid, and the listener was to be opened once, at the address that they ask for. Or it was
+-- not to be opened, and the input was not answered whole. Only if memory ran out the addresses may be unknown instead.
 abbrev pub ListensAt : List (List ℕ) → Status → Option (List (List ℕ)) → Option (List (List ℕ)) → Type 0
 ListensAt words ending before now = Asking words (λ asked. AddsNames (is_status ending status.Memory) before (asked.values.listen ∷ []) now ⊎ ((now ≡ before) × (is_answered ending ≡ false)))
 
--- trusted, own: holds if the words are valid, and all files that they ask for load
+-- trusted, own: holds if `words` are valid, and all files that they ask for load
 abbrev pub LoadsSome : List (List ℕ) → Option FilesInMemory → Type 0
 LoadsSome words files = Asking words (λ asked. (loaded : Loaded) × FilesGive files asked (Ok loaded))
 
@@ -164,7 +165,7 @@ ServesInput AsItWas words files ending left left' held held' = Asking words (λ 
     Loading files asked (λ loaded. StreamServed (site_of loaded) ending left left' None None held held')
     ⊎ (AsItWas × (is_answered ending ≡ false)))
 
--- trusted, own: holds if the words are valid, and the run does not stop at a file or at a default row
+-- trusted, own: holds if `words` are valid, and the run does not stop at a file or at a default row
 abbrev pub LoadsAll : List (List ℕ) → Option FilesInMemory → Type 0
 LoadsAll words files = Asking words (λ asked. (stop : Stop) → FilesGive files asked (Err stop) → ⊥)
 
@@ -174,7 +175,7 @@ pub record IsWithin (limit : ℕ) (input : Option (List ℕ)) : Type 0 where
   pub is_known : input ≡ Some bytes
   pub fits : length bytes ≤ limit
 
--- trusted, own: holds if an input whose lines are to be answered is known, and has at most 4,294,967,296 bytes
+-- trusted, own: holds if the input is known and has at most 4,294,967,296 bytes, or `words` do not ask for answers to its lines
 abbrev pub InputFits : List (List ℕ) → Option (List ℕ) → Type 0
 InputFits words input = AsksFor answers_lines words → IsWithin input_limit input
 

@@ -40,15 +40,15 @@ pub record Outcome : Type 0 where
 abbrev pub outcome_of : List ℕ → Status → Outcome
 outcome_of output status = record { output = output; finished = []; status = status }
 
--- trusted, own: holds if the sink gained the output of an outcome with this property, and the listener its finished
--- connections; contents that were unknown stay unknown
+-- trusted, own: Holds if the sink gained the output of an outcome of which `fact` holds, and the listener its finished
+-- connections. Contents that were unknown stay unknown.
 abbrev pub Leaves : Option (List ℕ) → Option (List ℕ) → Option (List Finished) → Option (List Finished) → Status → (Outcome → Type 0) → Type 0
 Leaves held held' ended ended' status fact =
     (finished : List Finished) × (ended' ≡ option_map (λ before. before ++ finished) ended)
     × Appends held held' (λ output. fact (record { output = output; finished = finished; status = status }))
 
--- trusted, own: holds if the first of the waiting connections were finished between two moments, and the others still wait; as
--- many follow those that were finished before
+-- trusted, own: Holds if the first of the waiting connections were finished between two moments, and the others still wait. As
+-- many follow those that were finished before.
 pub record FinishesFirst (before now : Aside) : Type 0 where
   pub inputs : List (List ℕ)
   pub entries : List Finished
@@ -84,11 +84,11 @@ PrintsLine line ending held held' = Appends held held' (λ output. PrintedAs Don
 abbrev pub PrintsMade : {E : Type 0} → Result (List ℕ) E → Status → Option (List ℕ) → Option (List ℕ) → Type 0
 PrintsMade made ending held held' = (line : List ℕ) → IfOk made (λ text. text ≡ line) → PrintsLine line ending held held'
 
--- trusted, own: holds if more than 4,294,967,296 bytes were taken from the input
+-- trusted, own: holds if more than 4,294,967,296 bytes were taken from the input between `before` and `now`
 abbrev pub PassesLimit : Option (List ℕ) → Option (List ℕ) → Type 0
 PassesLimit before now = TakesMoreThan input_limit before now
 
--- trusted, own: holds if the outcome is the answers to the lines of the input, with their status, and no finished connection
+-- trusted, own: holds if `outcome` has the answers to the lines of the input, with their status, and no finished connection
 abbrev pub LinesAnswered : (List ℕ → LineAnswer → Type 0) → Option (List ℕ) → Outcome → Type 0
 LinesAnswered Is input outcome =
     AnswersInput Is input_limit input outcome.output outcome.status × (outcome.finished ≡ [])
@@ -134,8 +134,8 @@ doorway_of aside reads writes = record { waiting = aside.waiting; reads = reads;
 abbrev pub served_outcome : List Visit → Outcome
 served_outcome visits = record { output = line_of visits; finished = entries_of visits; status = Done }
 
--- trusted, own: holds if the outcome is that of the first `count` waiting connections, or of all if fewer wait; each is served
--- to its end or to an error
+-- trusted, own: Holds if the outcome is that of the first `count` waiting connections, or of all if fewer wait. Each is served
+-- to its end or to an error.
 pub record Serves (site : SiteData) (count : ℕ) (door : Doorway) (outcome : Outcome) : Type 0 where
   pub visits : List Visit
   pub reads : ℕ
@@ -146,8 +146,8 @@ pub record Serves (site : SiteData) (count : ℕ) (door : Doorway) (outcome : Ou
   pub whole : wants_memory visits ≡ false
   pub is : outcome ≡ served_outcome visits
 
--- trusted, own: holds if the first of the waiting connections were served and finished, at most `count`; memory ran out only at
--- the last of them, and only with the status `Memory`
+-- trusted, own: Holds if the first of the waiting connections were served and finished, at most `count`. Memory ran out only at
+-- the last of them, and only with the status `Memory`.
 pub record ServesFirst (site : SiteData) (count : ℕ) (door : Doorway) (status : Status) (finished : List Finished) : Type 0 where
   pub visits : List Visit
   pub reads : ℕ
@@ -159,8 +159,8 @@ pub record ServesFirst (site : SiteData) (count : ℕ) (door : Doorway) (status 
   pub last : wants_memory (take (length visits - 1) visits) ≡ false
   pub entries : finished ≡ entries_of visits
 
--- trusted, own: the work of a command: to answer each line of the input, the heads of the input, or a number of connections; or
--- to write an output with this property
+-- trusted, own: The work of a command: to answer each line of the input, the heads of the input, or a number of connections. Or
+-- it is to write an output with this property.
 pub data Doing : Work → Type 1 where
   answers : (List ℕ → LineAnswer → Type 0) → Doing on_lines
   resolves : Doing on_heads
@@ -182,21 +182,22 @@ doing_of DumpRead values loaded = answers (IsDumpReadLine loaded.tables)
 doing_of DumpWrite values loaded = answers (IsDumpWriteLine loaded.tables)
 doing_of Merge values loaded = prints (λ output. output ≡ merged_line loaded)
 
--- trusted, own: holds if the work may leave this outcome, with this site, input and listener
+-- trusted, own: holds if the work may leave `outcome`, with `site`, `input` and `door`
 abbrev pub DoingRun : {work : Work} → Doing work → SiteData → Option (List ℕ) → Doorway → Outcome → Type 0
 DoingRun (answers Is) site input door outcome = LinesAnswered Is input outcome
 DoingRun resolves site input door outcome = LeavesOutput (Resolves site input) outcome
 DoingRun (serves count) site input door outcome = Serves site count door outcome
 DoingRun (prints IsOutput) site input door outcome = LeavesOutput IsOutput outcome
 
--- trusted, own: holds if the work may have written this after an error of the input, by the bytes that were taken from it
+-- trusted, own: holds if the work may have written `output` after an error of the input, by the bytes that were taken from it
 abbrev pub DoingEnded : {work : Work} → Doing work → SiteData → Option (List ℕ) → Option (List ℕ) → List ℕ → Type 0
 DoingEnded (answers Is) site before now output = AnswersEnded Is input_limit before now output
 DoingEnded resolves site before now output = Resolved site before output ReadFault
 DoingEnded (serves count) site before now output = output ≡ []
 DoingEnded (prints IsOutput) site before now output = ⊥
 
--- trusted, own: holds if the work may have finished these connections, with a status after which the output may be cut short
+-- trusted, own: holds if the work may have finished the connections `finished`, with a status after which the output may be cut
+-- short
 abbrev pub DoingFinished : {work : Work} → Doing work → SiteData → Doorway → Status → List Finished → Type 0
 DoingFinished (answers Is) site door status finished = finished ≡ []
 DoingFinished resolves site door status finished = finished ≡ []

@@ -6,8 +6,8 @@
 //!
 //! # Example
 //!
-//! A whole run over objects in memory: the arguments, no files, an input that is read two bytes at a time, and an output that
-//! takes three at a time. The gate runs this case: crates/vectors_program/src/runs.rt makes the call. The result is the status, the
+//! A whole run over objects in memory: the arguments, no files, and an input that is read two bytes at a time. The output takes
+//! three at a time. The gate runs this case: crates/vectors_program/src/runs.rt makes the call. The result is the status, the
 //! output, and the rest of the input.
 //!
 //! ```text

@@ -38,12 +38,14 @@ some_more (suc n) e = omega arith
 
 module _ (table : List AiRow) (links : List Link) (settings : Settings) where
   -- all of such a stream is heads
-  read_to_end : (n : ℕ) (stream : List ℕ) (replies : List Reply) → 0 < n → AreReplies table links settings n (heads_of n stream) replies → has_closing replies ≡ false → bytes_of (heads_of n stream) ≡ stream
+  read_to_end : (n : ℕ) (stream : List ℕ) (replies : List Reply) → 0 < n → AreReplies table links settings n (heads_of n stream) replies
+      → has_closing replies ≡ false → bytes_of (heads_of n stream) ≡ stream
   read_to_end zero stream replies low are stay = absurd (omega arith)
   read_to_end (suc n) stream replies low are stay = by (read_to_end n) (front_of stream) (is_front stream) replies are stay
     where
       by : ((rest : List ℕ) (replies : List Reply) → 0 < n → AreReplies table links settings n (heads_of n rest) replies → has_closing replies ≡ false → bytes_of (heads_of n rest) ≡ rest)
-          → (front : Front) → IsFrontOf stream front → (replies : List Reply) → AreReplies table links settings (suc n) (with_front front (heads_of n)) replies → has_closing replies ≡ false
+          → (front : Front) → IsFrontOf stream front → (replies : List Reply) → AreReplies table links settings (suc n)
+          (with_front front (heads_of n)) replies → has_closing replies ≡ false
           → bytes_of (with_front front (heads_of n)) ≡ stream
       by later ended is replies are stay = sym is
       by later headless is [] are stay = absurd are
@@ -68,7 +70,8 @@ unfolding done_read
 of_done_read true input = (12288, refl)
 of_done_read false input = (length input, sym (take-length input))
 
-done_as_answered : (site : SiteData) (input : List ℕ) (replies : List Reply) → AreReplies site.table site.links site.settings 1000 (heads_of 1000 input) replies → (closing : Bool) → has_closing replies ≡ closing
+done_as_answered : (site : SiteData) (input : List ℕ) (replies : List Reply)
+    → AreReplies site.table site.links site.settings 1000 (heads_of 1000 input) replies → (closing : Bool) → has_closing replies ≡ closing
     → ReadsAsAnswered site input Done (done_read closing input) (replies_of replies)
 unfolding done_read
 done_as_answered site input replies are true e = record {

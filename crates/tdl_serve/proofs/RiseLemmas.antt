@@ -39,13 +39,15 @@ one_more last count low = let e = below_end last count low in (omega arith, omeg
 none_more : (count : ℕ) → (count ≤ count) × (count - count ≡ 0)
 none_more count = (omega arith, omega arith)
 
-reads_grow : (served : Served) (count : ℕ) → reads_when served count < last_count → (count ≤ reads_when served count) × (reads_when served count - count ≡ read_errors served)
+reads_grow : (served : Served) (count : ℕ) → reads_when served count < last_count
+    → (count ≤ reads_when served count) × (reads_when served count - count ≡ read_errors served)
 reads_grow Done count low = none_more count
 reads_grow ReadFault count low = one_more last_count count low
 reads_grow WriteFault count low = none_more count
 reads_grow Memory count low = none_more count
 
-writes_grow : (served : Served) (count : ℕ) → writes_when served count < last_count → (count ≤ writes_when served count) × (writes_when served count - count ≡ write_errors served)
+writes_grow : (served : Served) (count : ℕ) → writes_when served count < last_count
+    → (count ≤ writes_when served count) × (writes_when served count - count ≡ write_errors served)
 writes_grow Done count low = none_more count
 writes_grow ReadFault count low = none_more count
 writes_grow WriteFault count low = one_more last_count count low
@@ -62,7 +64,8 @@ rise_known served reads writes r w =
     ap (λ n. not (n + writes == 0)) r ∙ ap (λ n. not (read_errors served + n == 0)) w ∙ error_known served
 
 -- counts that are below their last value at the end did not saturate
-pub rises : (site : SiteData) (known : Bool) (reads writes reads' writes' : ℕ) (visits : List Visit) → AreVisits site known reads writes visits reads' writes' → reads' < last_count → writes' < last_count
+pub rises : (site : SiteData) (known : Bool) (reads writes reads' writes' : ℕ) (visits : List Visit)
+    → AreVisits site known reads writes visits reads' writes' → reads' < last_count → writes' < last_count
     → (reads ≤ reads') × (writes ≤ writes') × RisesTellErrors visits
 rises site known reads writes reads' writes' visits (no_visit _ _) low low' = (omega arith, omega arith, refl)
 rises site known reads writes reads' writes' visits (one_visit _ _ visit others _ _ is rest) low low' =

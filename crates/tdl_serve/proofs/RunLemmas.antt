@@ -17,11 +17,13 @@ use Rattle.tdl_serve.specs.Visits.{DoorState, Visit, Visited, is_want, wants_mem
 use Rattle.tdl_serve.proofs.VisitLemmas.{visited_twice}
 
 -- addresses that an open added without a loss of memory, and that stayed
-pub stays_added : (lost : Bool) (before opened now : Option (List (List ℕ))) (more : List (List ℕ)) → AddsNames false before more opened → now ≡ opened → AddsNames lost before more now
+pub stays_added : (lost : Bool) (before opened now : Option (List (List ℕ))) (more : List (List ℕ)) → AddsNames false before more opened
+    → now ≡ opened → AddsNames lost before more now
 stays_added lost before opened now more adds same = inl (same ∙ surely_added before opened more adds)
 
 -- nothing was served
-pub nothing_served : (site : SiteData) (count : ℕ) (a b : DoorState) (status : Status) → Visited site a b [] → ServePrints status count b [] [] → ServeRan site count a b [] status
+pub nothing_served : (site : SiteData) (count : ℕ) (a b : DoorState) (status : Status) → Visited site a b []
+    → ServePrints status count b [] [] → ServeRan site count a b [] status
 nothing_served site count a b status visited prints = record { visits = []; visited = visited; few = omega arith; last = refl; prints = prints }
 
 still_served : (n : ℕ) (visits : List Visit) → wants_memory visits ≡ false → wants_memory (take n visits) ≡ false
@@ -30,7 +32,8 @@ still_served n visits all =
     (sym (list_any-append (λ (visit : Visit). is_want visit.served) (take n visits) (drop n visits)) ∙ ap wants_memory (take-append-drop n visits) ∙ all)
 
 -- no connection could be accepted at last
-pub run_failed : (site : SiteData) (count : ℕ) (a m b : DoorState) → Visited site a m [] → SessionDid session.Failed site count m b → ServeRan site count a b [] ReadFault
+pub run_failed : (site : SiteData) (count : ℕ) (a m b : DoorState) → Visited site a m [] → SessionDid session.Failed site count m b
+    → ServeRan site count a b [] ReadFault
 run_failed site count a m b first s = record {
   visits = s.visits;
   visited = visited_twice site a m b [] s.visits first s.visited;
@@ -40,7 +43,8 @@ run_failed site count a m b first s = record {
 }
 
 -- memory ran out at the last connection
-pub run_short : (site : SiteData) (count : ℕ) (a m b : DoorState) → Visited site a m [] → SessionDid session.Memory site count m b → ServeRan site count a b [] Memory
+pub run_short : (site : SiteData) (count : ℕ) (a m b : DoorState) → Visited site a m [] → SessionDid session.Memory site count m b
+    → ServeRan site count a b [] Memory
 run_short site count a m b first s = record {
   visits = s.visits;
   visited = visited_twice site a m b [] s.visits first s.visited;
@@ -49,7 +53,8 @@ run_short site count a m b first s = record {
   prints = inr refl;
 }
 
-prints_line : (status : Status) (count : ℕ) (b : DoorState) (visits : List Visit) (output : List ℕ) → IsOver count b visits → PrintedAs Done (line_of visits) output status
+prints_line : (status : Status) (count : ℕ) (b : DoorState) (visits : List Visit) (output : List ℕ) → IsOver count b visits
+    → PrintedAs Done (line_of visits) output status
     → ServePrints status count b visits output
 prints_line Done count b visits output over printed = (over, printed.1)
 prints_line SomeRefused count b visits output over printed = absurd (let e = printed.0 in cc)
@@ -61,7 +66,8 @@ prints_line InputLong count b visits output over printed = absurd (let e = print
 prints_line Memory count b visits output over printed = inl (over, printed)
 
 -- the run is over, and the line of its numbers was printed
-pub run_over : (site : SiteData) (count : ℕ) (a m b : DoorState) (tally : Tally) (output : List ℕ) (status : Status) → Visited site a m [] → SessionDid (session.Over tally) site count m b
+pub run_over : (site : SiteData) (count : ℕ) (a m b : DoorState) (tally : Tally) (output : List ℕ) (status : Status) → Visited site a m []
+    → SessionDid (session.Over tally) site count m b
     → PrintedAs Done (served_line tally.finished tally.errors) output status → ServeRan site count a b output status
 run_over site count a m b tally output status first s printed =
     let line : served_line tally.finished tally.errors ≡ line_of s.visits = rw (s.are.1, s.are.2) refl in

@@ -35,7 +35,8 @@ goes_on site a b c finished errors errored x y = record {
 }
 
 -- no more connections arrived
-pub none_came : (site : SiteData) (a b c : DoorState) (finished errors count : ℕ) → SoFar site a b finished errors → Visited site b c [] × NoneWaits c → finished ≤ count → c.aside.opened ≡ true
+pub none_came : (site : SiteData) (a b c : DoorState) (finished errors count : ℕ) → SoFar site a b finished errors
+    → Visited site b c [] × NoneWaits c → finished ≤ count → c.aside.opened ≡ true
     → SessionDid (session.Over (record { finished = finished; errors = errors })) site count a c
 none_came site a b c finished errors count x y low opened = record {
   visits = x.visits ++ [];
@@ -54,7 +55,8 @@ none_came site a b c finished errors count x y low opened = record {
     same_errors = ap errors_of (append-nil x.visits) ∙ x.failed
 
 -- no connection could be accepted
-pub none_accepted : (site : SiteData) (a b c : DoorState) (finished errors count : ℕ) → SoFar site a b finished errors → Visited site b c [] → finished ≤ count → SessionDid session.Failed site count a c
+pub none_accepted : (site : SiteData) (a b c : DoorState) (finished errors count : ℕ) → SoFar site a b finished errors → Visited site b c []
+    → finished ≤ count → SessionDid session.Failed site count a c
 none_accepted site a b c finished errors count x y low = record {
   visits = x.visits ++ [];
   visited = visited_twice site a b c x.visits [] x.visited y;
@@ -63,7 +65,8 @@ none_accepted site a b c finished errors count x y low = record {
 }
 
 -- memory ran out at the last connection
-pub memory_ran_out : (site : SiteData) (a b c : DoorState) (finished errors count : ℕ) → SoFar site a b finished errors → OneVisit site b c false true → finished < count
+pub memory_ran_out : (site : SiteData) (a b c : DoorState) (finished errors count : ℕ) → SoFar site a b finished errors
+    → OneVisit site b c false true → finished < count
     → SessionDid session.Memory site count a c
 memory_ran_out site a b c finished errors count x y low = record {
   visits = x.visits ++ y.visit ∷ [];

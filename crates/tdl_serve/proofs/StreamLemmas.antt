@@ -24,7 +24,8 @@ pub front_is_part : (front rest : List ℕ) → IsInitialPart front (front ++ re
 front_is_part front rest = (length front, sym (take-append_seam front rest))
 
 -- the read bytes and the rest are the rest before
-pub known_whole : (left left' : Option (List ℕ)) (read rest : List ℕ) → left ≡ prepend_known read left' → IfSome left' (λ bytes. bytes ≡ rest) → IsKnown left (read ++ rest)
+pub known_whole : (left left' : Option (List ℕ)) (read rest : List ℕ) → left ≡ prepend_known read left'
+    → IfSome left' (λ bytes. bytes ≡ rest) → IsKnown left (read ++ rest)
 known_whole left None read rest moved is = subst (λ known. IsKnown known (read ++ rest)) (sym moved) tt
 known_whole left (Some bytes) read rest moved is = subst (λ known. IsKnown known (read ++ rest)) (sym moved) (ap (λ more. read ++ more) (sym is))
 
@@ -45,7 +46,8 @@ replied site served left left' taken taken' held held' is = record {
   all = when_done served _ _ is.whole;
 }
 
-unread : (served : Served) (read rest : List ℕ) (written closing : Type 0) → OnDone served (written × ((rest ≡ []) ⊎ closing)) → OnDone served ((read ≡ read ++ rest) ⊎ closing)
+unread : (served : Served) (read rest : List ℕ) (written closing : Type 0) → OnDone served (written × ((rest ≡ []) ⊎ closing))
+    → OnDone served ((read ≡ read ++ rest) ⊎ closing)
 unread served.Done read rest written closing both = elim both.1 [
   | inl none ↦ inl (sym (append-nil read) ∙ ap (λ more. read ++ more) (sym none))
   | inr closes ↦ inr closes
@@ -80,7 +82,8 @@ done_when served.WriteFault = tt
 done_when served.Memory = tt
 
 -- the output for a stream that was served
-pub resolved : (site : SiteData) (status : Status) (left left' taken taken' held held' : Option (List ℕ)) → StreamServed site status left left' taken taken' held held'
+pub resolved : (site : SiteData) (status : Status) (left left' taken taken' held held' : Option (List ℕ))
+    → StreamServed site status left left' taken taken' held held'
     → Appends held held' (λ output. Resolved site left output status)
 resolved site status left left' taken taken' held held' s =
     let is = s.is_served in

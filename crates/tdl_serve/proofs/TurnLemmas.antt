@@ -15,13 +15,15 @@ use Rattle.tdl_serve.specs.Turns.{OpenServed, TurnDid, is_failure, turn_of}
 use Rattle.tdl_serve.specs.Visits.{AreVisits, DoorState, IsVisit, Visit, Visited, is_error, is_want, no_visit, one_visit, known_if}
 use Rattle.tdl_serve.proofs.StreamLemmas.{as_answered, front_is_part, replied, known_whole}
 
-begun_known : (waiting : Option (List (List ℕ))) (before now : Option (List ℕ)) (bytes : List ℕ) → waiting ≢ Some [] → before ≡ first_begun waiting → now ≡ append_known before bytes
+begun_known : (waiting : Option (List (List ℕ))) (before now : Option (List ℕ)) (bytes : List ℕ) → waiting ≢ Some []
+    → before ≡ first_begun waiting → now ≡ append_known before bytes
     → now ≡ known_if (is_some waiting) bytes
 begun_known None before now bytes some e n = n ∙ ap (λ known. append_known known bytes) e
 begun_known (Some []) before now bytes some e n = absurd (some refl)
 begun_known (Some (input ∷ rest)) before now bytes some e n = n ∙ ap (λ known. append_known known bytes) e
 
-first_waited : (waiting : Option (List (List ℕ))) (left : Option (List ℕ)) (bytes : List ℕ) → waiting ≢ Some [] → left ≡ first_input waiting → IsKnown left bytes
+first_waited : (waiting : Option (List (List ℕ))) (left : Option (List ℕ)) (bytes : List ℕ) → waiting ≢ Some [] → left ≡ first_input waiting
+    → IsKnown left bytes
     → waiting ≡ option_map (λ rest. bytes ∷ rest) (behind_first waiting)
 first_waited None left bytes some e is_known = refl
 first_waited (Some []) left bytes some e is_known = absurd (some refl)
@@ -29,7 +31,8 @@ first_waited (Some (input ∷ rest)) left bytes some e is_known =
     let same : bytes ≡ input = subst (λ known. IsKnown known bytes) e is_known in
     ap (λ first. Some (first ∷ rest)) (sym same)
 
-by_served : (site : SiteData) (before now : DoorState) (served : Served) (visit : Visit) → visit.served ≡ served → Visited site before now (visit ∷ []) → TurnDid (turn_of served) site before now
+by_served : (site : SiteData) (before now : DoorState) (served : Served) (visit : Visit) → visit.served ≡ served
+    → Visited site before now (visit ∷ []) → TurnDid (turn_of served) site before now
 by_served site before now served.Done visit e visited = record { visit = visit; visited = visited; is_errored = ap is_error e; is_cut = ap is_want e }
 by_served site before now served.ReadFault visit e visited = record { visit = visit; visited = visited; is_errored = ap is_error e; is_cut = ap is_want e }
 by_served site before now served.WriteFault visit e visited = record { visit = visit; visited = visited; is_errored = ap is_error e; is_cut = ap is_want e }

@@ -13,19 +13,22 @@ use Rattle.tdl_serve.specs.Visits.{AreVisits, DoorState, Visit, Visited, entries
 
 -- ---- lists of connections
 
-visits_append : (site : SiteData) (known : Bool) (r w r1 w1 r2 w2 : ℕ) (xs ys : List Visit) → AreVisits site known r w xs r1 w1 → AreVisits site known r1 w1 ys r2 w2 → AreVisits site known r w (xs ++ ys) r2 w2
+visits_append : (site : SiteData) (known : Bool) (r w r1 w1 r2 w2 : ℕ) (xs ys : List Visit) → AreVisits site known r w xs r1 w1
+    → AreVisits site known r1 w1 ys r2 w2 → AreVisits site known r w (xs ++ ys) r2 w2
 visits_append site known r w r1 w1 r2 w2 xs ys (no_visit _ _) more = more
 visits_append site known r w r1 w1 r2 w2 xs ys (one_visit _ _ visit visits _ _ is rest) more =
     one_visit r w visit (visits ++ ys) r2 w2 is (visits_append site known _ _ r1 w1 r2 w2 visits ys rest more)
 
-waited_twice : (xs ys : List Visit) (a b c : Option (List (List ℕ))) → a ≡ option_map (λ rest. inputs_of xs ++ rest) b → b ≡ option_map (λ rest. inputs_of ys ++ rest) c
+waited_twice : (xs ys : List Visit) (a b c : Option (List (List ℕ))) → a ≡ option_map (λ rest. inputs_of xs ++ rest) b
+    → b ≡ option_map (λ rest. inputs_of ys ++ rest) c
     → a ≡ option_map (λ rest. inputs_of (xs ++ ys) ++ rest) c
 waited_twice xs ys a b None p q = p ∙ ap (option_map (λ rest. inputs_of xs ++ rest)) q
 waited_twice xs ys a b (Some rest) p q =
     p ∙ ap (option_map (λ more. inputs_of xs ++ more)) q ∙ ap Some (sym (append_assoc (inputs_of xs) (inputs_of ys) rest)
     ∙ ap (λ inputs. inputs ++ rest) (sym (map-append (λ (visit : Visit). visit.input) xs ys)))
 
-finished_twice : (xs ys : List Visit) (a b c : Option (List Finished)) → b ≡ option_map (λ earlier. earlier ++ entries_of xs) a → c ≡ option_map (λ earlier. earlier ++ entries_of ys) b
+finished_twice : (xs ys : List Visit) (a b c : Option (List Finished)) → b ≡ option_map (λ earlier. earlier ++ entries_of xs) a
+    → c ≡ option_map (λ earlier. earlier ++ entries_of ys) b
     → c ≡ option_map (λ earlier. earlier ++ entries_of (xs ++ ys)) a
 finished_twice xs ys None b c p q = q ∙ ap (option_map (λ earlier. earlier ++ entries_of ys)) p
 finished_twice xs ys (Some earlier) b c p q =
@@ -54,7 +57,8 @@ same_finished None b e = e
 same_finished (Some earlier) b e = e ∙ ap Some (sym (append-nil earlier))
 
 -- no connection
-pub visited_none : (site : SiteData) (a b : DoorState) → b.aside.waiting ≡ a.aside.waiting → b.aside.finished ≡ a.aside.finished → b.reads ≡ a.reads → b.writes ≡ a.writes → Visited site a b []
+pub visited_none : (site : SiteData) (a b : DoorState) → b.aside.waiting ≡ a.aside.waiting → b.aside.finished ≡ a.aside.finished
+    → b.reads ≡ a.reads → b.writes ≡ a.writes → Visited site a b []
 visited_none site a b waiting finished reads writes = record {
   waited = same_waiting _ _ waiting;
   finished = same_finished _ _ finished;
@@ -71,7 +75,8 @@ error_alone : (visit : Visit) (errored : Bool) → is_error visit.served ≡ err
 error_alone visit true e = rw e refl
 error_alone visit false e = rw e refl
 
-pub one_more_error : (xs : List Visit) (visit : Visit) (errored : Bool) → is_error visit.served ≡ errored → errors_of (xs ++ visit ∷ []) ≡ errors_of xs + error_number errored
+pub one_more_error : (xs : List Visit) (visit : Visit) (errored : Bool) → is_error visit.served ≡ errored
+    → errors_of (xs ++ visit ∷ []) ≡ errors_of xs + error_number errored
 one_more_error xs visit errored e =
     ap length (filter-append (λ (v : Visit). is_error v.served) xs (visit ∷ []))
     ∙ length-append (filter (λ (v : Visit). is_error v.served) xs) (filter (λ (v : Visit). is_error v.served) (visit ∷ []))

@@ -29,8 +29,9 @@ pub record IsOver (count : ℕ) (now : DoorState) (visits : List Visit) : Type 0
   pub served : wants_memory visits ≡ false
   pub opened : now.aside.opened ≡ true
 
--- trusted, own: Holds if `output` is the output for the connections that belongs to the status: the line with `Done`, a prefix
--- of it with `WriteFault`, nothing with `ReadFault`. With `Memory` it is a prefix of the line if all were served, or nothing.
+-- trusted, own: Holds if `output` is the output for the connections that belongs to the status. It is the line with `Done`, a
+-- prefix of it with `WriteFault`, and nothing with `ReadFault`. With `Memory` it is a prefix of the line if all were served, or
+-- nothing.
 abbrev pub ServePrints : Status → ℕ → DoorState → List Visit → List ℕ → Type 0
 ServePrints Done count now visits output = IsOver count now visits × (output ≡ line_of visits)
 ServePrints ReadFault count now visits output = (wants_memory visits ≡ false) × (output ≡ [])
@@ -42,13 +43,13 @@ ServePrints _ count now visits output = ⊥
 abbrev pub CountsErrors : Status → Aside → Aside → Type 0
 CountsErrors status before now = now.errors ≡ count_if (is_status status ReadFault) before.errors
 
--- trusted, own: holds if the listener was to be opened once, at this address; its addresses may be unknown instead only if
--- memory was lost
+-- trusted, own: Holds if the listener was to be opened once, at `address`. Its addresses may be unknown instead only if `lost`
+-- is true.
 abbrev pub OpensAt : Bool → List ℕ → Aside → Aside → Type 0
 OpensAt lost address before now = AddsNames lost before.addresses (address ∷ []) now.addresses
 
--- trusted, own: holds if at most `count` of the waiting connections were served between two moments, and `output` is the one
--- that belongs to the status; memory ran out at most at the last of them
+-- trusted, own: Holds if at most `count` of the waiting connections were served between two moments, and `output` is the one
+-- that belongs to the status. Memory ran out at most at the last of them.
 pub record ServeRan (site : SiteData) (count : ℕ) (before now : DoorState) (output : List ℕ) (status : Status) : Type 0 where
   pub visits : List Visit
   pub visited : Visited site before now visits

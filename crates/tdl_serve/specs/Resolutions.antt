@@ -32,7 +32,7 @@ status_of served.ReadFault = ReadFault
 status_of served.WriteFault = WriteFault
 status_of served.Memory = Memory
 
--- trusted, own: holds if the stream was served as a connection is, with this status
+-- trusted, own: holds if the stream was served as a connection is, with `status`
 pub record StreamServed (site : SiteData) (status : Status) (left left' taken taken' held held' : Option (List ℕ)) : Type 0 where
   pub served : Served
   pub has_status : status ≡ status_of served

@@ -20,14 +20,14 @@ turn_of served.ReadFault = Finished true
 turn_of served.WriteFault = Finished true
 turn_of served.Memory = Memory
 
--- no connection could be accepted
+-- holds if no connection could be accepted
 abbrev pub is_failure : Turn → Bool
 is_failure (Finished errored) = false
 is_failure Closed = false
 is_failure Failed = true
 is_failure Memory = false
 
--- the open connection was served and finished; this was left, read and written of it
+-- holds if the open connection was served and finished; this was left, read and written of it
 pub record OpenServed (site : SiteData) (turn : Turn) (left taken held : Option (List ℕ)) (before now : DoorState) : Type 0 where
   pub served : Served
   pub left' : Option (List ℕ)
@@ -39,14 +39,14 @@ pub record OpenServed (site : SiteData) (turn : Turn) (left taken held : Option 
   pub read_count : now.reads ≡ reads_when served before.reads
   pub write_count : now.writes ≡ writes_when served before.writes
 
--- one connection was served, and whether that ended by an error, or out of memory
+-- holds if one connection was served, and whether that ended by an error, or out of memory
 pub record OneVisit (site : SiteData) (before now : DoorState) (errored want : Bool) : Type 0 where
   pub visit : Visit
   pub visited : Visited site before now (visit ∷ [])
   pub is_errored : is_error visit.served ≡ errored
   pub is_cut : is_want visit.served ≡ want
 
--- the effect of a turn
+-- holds if this is the effect of a turn
 abbrev pub TurnDid : Turn → SiteData → DoorState → DoorState → Type 0
 TurnDid (Finished errored) site before now = OneVisit site before now errored false
 TurnDid Closed site before now = Visited site before now [] × NoneWaits now
@@ -58,14 +58,14 @@ abbrev pub error_number : Bool → ℕ
 error_number true = 1
 error_number false = 0
 
--- at most that many of the waiting connections were served, and a fact of them
+-- holds if at most that many of the waiting connections were served, and a fact holds of them
 pub record SomeVisits (site : SiteData) (count : ℕ) (before now : DoorState) (fact : List Visit → Type 0) : Type 0 where
   pub visits : List Visit
   pub visited : Visited site before now visits
   pub few : length visits ≤ count
   pub are : fact visits
 
--- the effect of the turns, by how they ended
+-- holds if this is the effect of the turns, by how they ended
 abbrev pub SessionDid : Session → SiteData → ℕ → DoorState → DoorState → Type 0
 SessionDid (session.Over tally) site count before now =
     SomeVisits site count before now (λ visits. IsOver count now visits × (tally.finished ≡ length visits) × (tally.errors ≡ errors_of visits))
@@ -73,13 +73,13 @@ SessionDid session.Failed site count before now = SomeVisits site count before n
 SessionDid session.Memory site count before now =
     SomeVisits site count before now (λ visits. wants_memory (take (length visits - 1) visits) ≡ false)
 
--- no connection could be accepted at last
+-- holds if no connection could be accepted at last
 abbrev pub is_failed : Session → Bool
 is_failed (session.Over tally) = false
 is_failed session.Failed = true
 is_failed session.Memory = false
 
--- the effect of turns on the listener itself: one more error if the last of them failed, and the same addresses
+-- holds if this is the effect of turns on the listener itself: one more error if the last of them failed, and the same addresses
 pub record LeavesDoor (failed : Bool) (before now : Aside) : Type 0 where
   pub own_count : now.errors ≡ count_if failed before.errors
   pub own_counts : before.errors ≤ now.errors

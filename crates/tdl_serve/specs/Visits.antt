@@ -12,21 +12,21 @@ use Rattle.gs_port.specs.Connections.{Aside, Finished}
 use Rattle.gs_http.specs.Sites.{SiteData}
 use Rattle.tdl_serve.specs.Sites.{Replied}
 
--- trusted, own: all was answered
+-- trusted, own: holds if all was answered
 abbrev pub is_done : Served → Bool
 is_done Done = true
 is_done ReadFault = false
 is_done WriteFault = false
 is_done Memory = false
 
--- trusted, own: a read or a write failed
+-- trusted, own: holds if a read or a write failed
 abbrev pub is_error : Served → Bool
 is_error Done = false
 is_error ReadFault = true
 is_error WriteFault = true
 is_error Memory = false
 
--- trusted, own: memory ran out
+-- trusted, own: holds if memory ran out
 abbrev pub is_want : Served → Bool
 is_want Done = false
 is_want ReadFault = false
@@ -52,17 +52,16 @@ entries_of visits = map (λ (visit : Visit). visit.entry) visits
 abbrev pub errors_of : List Visit → ℕ
 errors_of visits = length (filter (λ (visit : Visit). is_error visit.served) visits)
 
--- trusted, own: memory ran out at one of the connections
+-- trusted, own: holds if memory ran out at one of the connections
 abbrev pub wants_memory : List Visit → Bool
 wants_memory visits = list_any (λ (visit : Visit). is_want visit.served) visits
 
--- trusted, own: bytes, if the listener's connections are known
+-- trusted, own: the bytes, if the listener's connections are known
 abbrev pub known_if : Bool → List ℕ → Option (List ℕ)
 known_if known bytes = if known then Some bytes else None
 
--- trusted, the number of bytes is own: The bytes read of a connection, by the bytes written to it. The replies of a number of
--- heads were written, and at most 12,288 bytes were read beyond these heads. If serving was done nothing is unread, except
--- after a reply that ends the connection.
+-- trusted, the number of bytes is own: Holds if the replies to a number of heads were written, and at most 12,288 bytes were
+-- read beyond these heads. If serving was done, the whole input was read, or a reply ends the connection.
 pub record ReadsAsAnswered (site : SiteData) (input : List ℕ) (served : Served) (read written : List ℕ) : Type 0 where
   pub replies : List Reply
   pub answered : ℕ
@@ -71,8 +70,8 @@ pub record ReadsAsAnswered (site : SiteData) (input : List ℕ) (served : Served
   pub few : length read ≤ length (bytes_of (take answered (heads_of 1000 input))) + 12288
   pub unread : OnDone served ((read ≡ input) ⊎ (has_closing replies ≡ true))
 
--- trusted, own: Serving a connection, from these counts of reads and of writes: a prefix of its input was read. A prefix of the
--- replies to its whole input was written, and all of them if serving was done. A count rose if serving ended by an error.
+-- trusted, own: Holds if serving a connection, from the counts `reads` and `writes`, read a prefix of its input. It wrote a
+-- prefix of the replies to its whole input, and all of them if serving was done. A count rose if serving ended by an error.
 pub record IsVisit (site : SiteData) (known : Bool) (reads writes : ℕ) (visit : Visit) : Type 0 where
   pub read : List ℕ
   pub written : List ℕ
@@ -84,8 +83,8 @@ pub record IsVisit (site : SiteData) (known : Bool) (reads writes : ℕ) (visit 
   pub read_count : visit.entry.reads ≡ reads_when visit.served reads - reads
   pub write_count : visit.entry.writes ≡ writes_when visit.served writes - writes
 
--- trusted, own: Connections were served one at a time, between these counts of reads and of writes: each from the counts at
--- which the one before it ended.
+-- trusted, own: Holds if connections were served one at a time, between two pairs of counts of reads and writes. Each was
+-- served from the counts at which the one before it ended.
 pub data AreVisits (site : SiteData) (known : Bool) : ℕ → ℕ → List Visit → ℕ → ℕ → Type 0 where
   no_visit : (reads writes : ℕ) → AreVisits site known reads writes [] reads writes
   one_visit : (reads writes : ℕ) (visit : Visit) (visits : List Visit) (reads' writes' : ℕ) → IsVisit site known reads writes visit
@@ -102,17 +101,17 @@ pub record DoorState : Type 0 where
 abbrev pub state_of : Aside → ℕ → ℕ → DoorState
 state_of aside reads writes = record { aside = aside; reads = reads; writes = writes }
 
--- trusted, own: Between two moments the first of the waiting connections were served, in their order, and follow those that
--- were finished before.
+-- trusted, own: holds if, from `before` to `now`, the first waiting connections were served, in their order, and follow those
+-- finished before
 pub record Visited (site : SiteData) (before now : DoorState) (visits : List Visit) : Type 0 where
   pub waited : before.aside.waiting ≡ option_map (λ rest. inputs_of visits ++ rest) now.aside.waiting
   pub finished : now.aside.finished ≡ option_map (λ earlier. earlier ++ entries_of visits) before.aside.finished
   pub are_visits : AreVisits site (is_some before.aside.waiting) before.reads before.writes visits now.reads now.writes
 
--- trusted, own: a count of an entry rose
+-- trusted, own: holds if a count of `entry` rose
 abbrev pub has_rise : Finished → Bool
 has_rise entry = not (entry.reads + entry.writes == 0)
 
--- trusted, own: the entries with a rise are those of the connections that ended by an error
+-- trusted, own: holds if the entries with a rise are those of the connections that ended by an error
 abbrev pub RisesTellErrors : List Visit → Type 0
 RisesTellErrors visits = map (λ (visit : Visit). has_rise visit.entry) visits ≡ map (λ (visit : Visit). is_error visit.served) visits

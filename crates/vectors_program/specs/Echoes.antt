@@ -3,6 +3,6 @@ use Rattle.std.specs.Prelude.{◌≡◌, ◌⊎◌, ℕ, ◌<◌, ◌≤◌, Lis
 use Rattle.tdl_lines.specs.Outputs.{LineAnswer}
 use Rattle.tdl_lines.specs.Outputs.LineAnswer.{accepted, rejected}
 
--- a text above 2,048 bytes is long, and every other is accepted unchanged
+-- holds if a text above 2,048 bytes is long, and every other is accepted unchanged
 abbrev pub IsEcho : List ℕ → LineAnswer → Type 0
 IsEcho text answer = ((2048 < length text) × (answer ≡ rejected (codes "long"))) ⊎ ((length text ≤ 2048) × (answer ≡ accepted text))

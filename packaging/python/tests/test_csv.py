@@ -65,9 +65,9 @@ class Records(unittest.TestCase):
             (["-c", "3"], b"id,EPC\n", "there is no column 3"),
             (["-c", "x", "-H"], b"id,EPC\n", "there is no column x: give a number from 1 to 2"),
             (["-c", "id"], b"id,id\n", "several columns are named id: give its number, 1 to 2"),
-            (["-c", "id"], b"id,id_reason\n", "the file has a column id_reason already"),
+            (["-c", "id"], b"id,id_link\n", "the file has a column id_link already: name the new ones by --name"),
             (["-c", "id"], b"", "the file is empty"),
-            (["-c", "id"], b'id\n"a\n', "line 2 is not CSV: unexpected end of data"),
+            (["-c", "id"], b'id\n"a\n', "the record at line 2 is not CSV: unexpected end of data"),
             (["-c", "id"], "id\n".encode("utf-16"), "UTF-16"),
             (["-c", "id", "--gcp", "13"], b"id\nx\n", "gcp is a number from 1 to 12, not 13"),
             (["-c", "id", "-j", "0"], b"id\n", "the number of processes is 1 to 256"),
@@ -109,7 +109,7 @@ class Files(unittest.TestCase):
         for jobs in (1, 2):
             words = ("-c", "EPC", "--from", "hex", "--to", "link", "-j", jobs)
             self.assertEqual(run(*words, self.path("in.csv"))[1].decode(), "EPC,EPC_link,EPC_reason\n" + line * 1_999 + "\n\n" + line * 2_000)
-            self.assertIn("line 5003 is not CSV: unexpected end of data", run(*words, self.path("open.csv"))[2])
+            self.assertIn("the record at line 5002 is not CSV: unexpected end of data", run(*words, self.path("open.csv"))[2])
 
     def test_a_file_appears_when_it_is_whole(self):
         self.path("in.csv").write_text(f'EPC\n{BITS}\n"a')
@@ -127,17 +127,17 @@ class Files(unittest.TestCase):
         self.assertEqual(run(*words, "--rejected", self.path("out.csv"))[0], 2)
 
     def test_progress_on_a_terminal_alone(self):
-        self.path("in.csv").write_text("EPC\n" + f"{BITS}\n" * 3_000)
+        self.path("in.csv").write_text("EPC\n" + f"{BITS}\n" * 30_000)
         shown, terminal = pty.openpty()
         words = [sys.executable, "-m", "tdl", "csv", "-c", "EPC", "--from", "hex", str(self.path("in.csv")), "-o", str(self.path("out.csv"))]
         self.assertEqual(subprocess.run(words, stderr=terminal, **OWN).returncode, 0)
         told = ""
-        while "3,000 translated, 0 rejected" not in told:
+        while "30,000 translated, 0 rejected" not in told:
             told += os.read(shown, 65_536).decode()
         for end in (shown, terminal):
             os.close(end)
-        self.assertRegex(told, r"\[#+ *\] 2,000 records, [0-9,]+ a second, \d+ s left, 0 rejected")
-        self.assertIn("3,000 records, 3,000 translated", told)
+        self.assertRegex(told, r"\[#+ *\] [0-9,]+ records, [0-9,]+ a second, \d+ s left, 0 rejected")
+        self.assertIn("30,000 records, 30,000 translated", told)
 
 
 if __name__ == "__main__":

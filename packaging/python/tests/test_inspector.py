@@ -22,7 +22,7 @@ from tdl.inspector import Inspector, Question, datamatrix, qr  # noqa: E402
 from tdl.inspector.elements import elements  # noqa: E402
 from tdl.inspector.encode import SAMPLES, compose, key_types  # noqa: E402
 from tdl.inspector.fields import read_fields  # noqa: E402
-from tdl.inspector.questions import bytes_of, forms_in_order  # noqa: E402
+from tdl.inspector.questions import FORMS, bytes_of, forms_in_order, possible_forms  # noqa: E402
 from tdl.inspector.reasons import COUNTED, OF_A_TARGET, OF_A_TEXT, check_digit, explain, explain_target, sentence_of  # noqa: E402
 from tdl.inspector.rows import Rows  # noqa: E402
 from tdl.inspector.server import FILES, POLICY, Server, is_served, serve  # noqa: E402
@@ -430,6 +430,17 @@ class Questions(unittest.TestCase):
             order = forms_in_order(text, ROWS.headers())
             self.assertEqual((order[0], len(order)), (form, 6))
 
+    def test_which_forms_may_read_a_text(self):
+        texts = ["", "(01)09506000134352", "0109506000134352", "^0109506000134352", "<GS>0109506000134352", "]C10109506000134352", BITS, BITS.lower()]
+        texts += ["http://ä.example/ü/01/09506000134352?ö=1", "HTTPS://a.example/01/09506000134352", "urn:epc:id:sgtin:0614141.812345.6789"]
+        texts += ["urn:epc:tag:sgtin-96:3.0614141.812345.6789", "Ärger", " 01", "(01)ä", "x", "30"]
+        for text in texts:
+            possible = possible_forms(text, ROWS.headers())
+            read = [form for form in FORMS if form != "canon" and INSPECTOR.answer(form, "canon", bytes_of(form, text), str(GS1), {})[0] is not None]
+            self.assertLessEqual(set(read), set(possible), text)
+            self.assertEqual(possible[0], forms_in_order(text, ROWS.headers())[0])
+        self.assertEqual([possible_forms(text, ()) for text in ("Ärger", "(01)ä", "http://ä")], [["raw"], ["bracketed"], ["link"]])
+
     def test_bytes(self):
         self.assertEqual(bytes_of("raw", "a^b<GS>c"), b"a\x1db\x1dc")
         self.assertEqual(bytes_of("link", "a^b\ud800"), b"a^b?")
@@ -478,6 +489,11 @@ class Serving(unittest.TestCase):
             self.assertEqual(self.reply("POST", "/compose", text, Content_Type="application/json")[0], 400)
         choices = json.loads(self.reply("GET", "/choices")[2])
         self.assertEqual((choices["sets"][0]["name"], len(choices["keys"])), ("gs1", 10))
+
+    def test_more_than_the_page_takes(self):
+        for digits in ("9" * 5_000, "8388609"):
+            status, _, body = self.reply("POST", "/inspect", Content_Type="application/json", Content_Length=digits)
+            self.assertEqual((status, list(json.loads(body))), (413, ["error"]))
 
     def test_a_page_that_is_served_already(self):
         self.assertTrue(is_served(self.server.server_port))

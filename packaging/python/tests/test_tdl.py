@@ -6,7 +6,6 @@ import subprocess
 import sys
 import tempfile
 import threading
-import time
 import unittest
 from pathlib import Path
 
@@ -278,9 +277,7 @@ class Processes(unittest.TestCase):
         self.assertEqual(os.waitpid(child, 0)[1], 0)
         self.assertEqual(translator.translate(PURE), LINK)
         process = self.process_of(translator)
-        began = time.monotonic()
         translator.close()
-        self.assertLess(time.monotonic() - began, 5)
         self.assertEqual(process.returncode, 0)
 
     def test_no_run_is_left(self):

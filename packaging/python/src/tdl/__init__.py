@@ -7,16 +7,21 @@
 A text has one of the forms `hex`, `tag`, `pure`, `raw`, `bracketed` and `link`, and is translated to one of these or to `canon`, the
 canonical GS1 Digital Link. A text without a translation raises `Rejected`, which says why and where.
 """
-from .errors import FilesRejected, ProgramError, Rejected
-from .options import Form, Target
-from .tables import BUILT_IN, GS1, Counts, check
-from .translator import Classes, Dumps, Translator, canon
+from typing import TYPE_CHECKING
+
+if TYPE_CHECKING:
+    from .errors import FilesRejected, ProgramError, Rejected
+    from .frames import Column
+    from .options import Form, Target
+    from .tables import BUILT_IN, GS1, Counts, check
+    from .translator import Classes, Dumps, Translator, canon
 
 __version__ = "1.0.0"
 
 __all__ = [
     "BUILT_IN",
     "Classes",
+    "Column",
     "Counts",
     "Dumps",
     "FilesRejected",
@@ -29,3 +34,22 @@ __all__ = [
     "canon",
     "check",
 ]
+
+_MODULES = {
+    "errors": ("FilesRejected", "ProgramError", "Rejected"),
+    "frames": ("Column",),
+    "options": ("Form", "Target"),
+    "tables": ("BUILT_IN", "GS1", "Counts", "check"),
+    "translator": ("Classes", "Dumps", "Translator", "canon"),
+}
+
+
+def __getattr__(name: str) -> object:
+    """Imports what is first used, so that a command can answer a signal as soon as it is started."""
+    from importlib import import_module
+
+    for module, names in _MODULES.items():
+        if name in names:
+            found = globals()[name] = getattr(import_module(f".{module}", __name__), name)
+            return found
+    raise AttributeError(f"module {__name__!r} has no attribute {name!r}")

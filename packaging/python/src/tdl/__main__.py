@@ -1,40 +1,39 @@
-"""`python3 -m tdl csv`: a column of a CSV file, translated. `python3 -m tdl inspect`: the page that shows what a code says."""
+"""`python3 -m tdl csv`, `jsonl`: columns of a CSV file, or members of JSON lines, translated. `links`: a linkset of a table. `inspect`: the page
+that shows what a code says. `epcis`: an EPCIS document, each identifier in one form."""
 from __future__ import annotations
 
-import argparse
-import os
 import sys
-import webbrowser
-from typing import List, Optional
 
-from .errors import FilesRejected
-from .options import FORMS, TARGETS
-from .records import Job, Wrong, translate_csv
-from .tables import SETS, check
+from . import interrupts
 
-PORT = 8090
+if __name__ == "__main__" and sys.argv[1:2] in (["csv"], ["jsonl"], ["links"]):
+    # (first of all, since imports take time)
+    interrupts.end_by_signals()
+
+import argparse  # noqa: E402
+import os  # noqa: E402
+from importlib import import_module  # noqa: E402
+from types import ModuleType  # noqa: E402
+from typing import List, Optional  # noqa: E402
+
+from .errors import FilesRejected, Wrong  # noqa: E402
+from .files import keep_standard_streams  # noqa: E402
+
+# each command: the module with its arguments and its run, and what it is for
+COMMANDS = {
+    "csv": ("columns.command", "translate columns of a CSV file: each record gets columns with the answers and one with the reason"),
+    "jsonl": ("jsonl", "translate members of JSON lines: each line gets members with the answers or the reason, before the next has come"),
+    "links": ("links.command", "make a linkset of a table of links, or a table of a linkset"),
+    "inspect": ("inspector.command", "serve a page on 127.0.0.1 that shows what a code says"),
+    "epcis": ("epcis.command", "translate the identifiers of an EPCIS document, JSON-LD or XML, to Digital Links or to EPC URIs"),
+}
+# the command that takes no list of company prefix lengths
+WITHOUT_PREFIXES = "links"
 
 
-def port(word: str) -> int:
-    """Returns the number of a port."""
-    if not word.isdigit() or int(word) > 65_535:
-        raise argparse.ArgumentTypeError("a port is a number from 0 to 65535")
-    return int(word)
-
-
-def processes(word: str) -> int:
-    """Returns a number of processes."""
-    if not word.isdigit() or not 1 <= int(word) <= 256:
-        raise argparse.ArgumentTypeError("the number of processes is 1 to 256")
-    return int(word)
-
-
-def delimiter(word: str) -> str:
-    """Returns the character between fields."""
-    found = "\t" if word in ("\\t", "tab") else word
-    if len(found) != 1 or found in '"\r\n ':
-        raise argparse.ArgumentTypeError("a delimiter is one character, or \\t, and not a quote, a space or a line end")
-    return found
+def module_of(command: str) -> ModuleType:
+    """Returns the module of a command, which only that command imports."""
+    return import_module(f"{__package__}.{COMMANDS[command][0]}")
 
 
 def arguments(words: Optional[List[str]]) -> argparse.Namespace:
@@ -43,73 +42,21 @@ def arguments(words: Optional[List[str]]) -> argparse.Namespace:
     commands = parser.add_subparsers(dest="command", required=True)
     files = argparse.ArgumentParser(add_help=False)
     files.add_argument("--prefixes", metavar="FILE", help="a list of company prefix lengths")
-    purpose = "translate a column of a CSV file: each record gets a column with the answer and one with the reason"
-    add_csv(commands.add_parser("csv", parents=[files], help=purpose, description=f"{purpose.capitalize()}."))
-    purpose = "serve a page on 127.0.0.1 that shows what a code says"
-    add_inspect(commands.add_parser("inspect", parents=[files], help=purpose, description=f"{purpose.capitalize()}."))
+    asked = (sys.argv[1:] if words is None else words)[:1]
+    for name, (_, purpose) in COMMANDS.items():
+        parents = [] if name == WITHOUT_PREFIXES else [files]
+        one = commands.add_parser(name, parents=parents, help=purpose, description=f"{purpose[0].upper()}{purpose[1:]}.")
+        if asked == [name]:
+            module_of(name).add(one)
     return parser.parse_args(words)
-
-
-def add_inspect(parser: argparse.ArgumentParser) -> None:
-    """Adds the arguments of `inspect`."""
-    sets = f"{', '.join(list(SETS)[1:-1])} and {list(SETS)[-1]}"
-    parser.add_argument("--tables", metavar="FILE", help=f"a table document of your own; else tables/gs1.json, and the page offers {sets} too")
-    parser.add_argument("--port", type=port, default=PORT, metavar="N", help=f"the port, {PORT} if none is given; 0 is any that is free")
-    opens = "open the page in a browser, also one that is served at the port already; without either option, only if a terminal and a desktop are there"
-    parser.add_argument("--open", action=argparse.BooleanOptionalAction, help=opens)
-
-
-def add_csv(parser: argparse.ArgumentParser) -> None:
-    """Adds the arguments of `csv`."""
-    parser.epilog = "The status is 1 if a record was rejected. Written files appear when all is done."
-    parser.add_argument("file", nargs="?", default="-", help="the CSV file in UTF-8; else, or for -, the standard input")
-    parser.add_argument("--tables", metavar="FILE", help="a table document, such as tables/gs1.json; else the built-in tables")
-    parser.add_argument("-c", "--column", required=True, help="the name of the column, or its number from 1")
-    parser.add_argument("--from", dest="source", required=True, choices=FORMS, help="the form of its texts")
-    parser.add_argument("--to", dest="target", default="canon", choices=TARGETS, help="the form of the answers; else the canonical link")
-    parser.add_argument("-o", "--output", default="-", metavar="FILE", help="the file to write; else the standard output")
-    parser.add_argument("--rejected", metavar="FILE", help="a second file with the rejected records and their numbers")
-    parser.add_argument("-j", "--jobs", type=processes, default=1, metavar="N", help="the number of processes; the output is the same for each")
-    parser.add_argument("-d", "--delimiter", type=delimiter, default=",", metavar="C", help="the character between fields; else a comma")
-    parser.add_argument("-H", "--no-header-row", dest="has_header", action="store_false", help="the file has no header: -c is a number")
-    parser.add_argument("--filter", type=int, metavar="N", help="a filter value where the text has none, 0 to 7")
-    parser.add_argument("--gcp", type=int, metavar="N", help="the digits of the company prefix where the text does not tell them, 1 to 12")
-    parser.add_argument("--encoding", metavar="NAME", help="the name of the encoding of a tag")
-    parser.add_argument("--stem", metavar="LINK", help="the stem of a link")
-    parser.add_argument("--keys-only", action="store_true", help="keep only the key and its serial")
-
-
-def run_csv(asked: argparse.Namespace) -> int:
-    """Translates a file, and returns the status."""
-    names = ("tables", "prefixes", "filter", "gcp", "encoding", "stem", "keys_only")
-    options = {name: getattr(asked, name) for name in names}
-    if asked.rejected is not None and asked.rejected == asked.output:
-        raise ValueError("--output and --rejected name the same file")
-    job = Job(asked.column, asked.source, asked.target, asked.delimiter, asked.has_header, asked.jobs, options)
-    total = translate_csv(job, asked.file, asked.output, asked.rejected)
-    noun = "record" if total.records == 1 else "records"
-    print(f"{total.records:,} {noun}, {total.records - total.rejected:,} translated, {total.rejected:,} rejected", file=sys.stderr)
-    return 1 if total.rejected else 0
-
-
-def run_inspect(asked: argparse.Namespace) -> int:
-    """Serves the page, or opens one that is served at the port already, and returns the status."""
-    from .inspector import address_of, is_served, serve
-
-    if asked.open and asked.port and is_served(asked.port):
-        webbrowser.open(address_of(asked.port))
-        return 0
-    check(asked.tables, prefixes=asked.prefixes)
-    has_desktop = sys.stdout.isatty() and any(os.environ.get(name) for name in ("DISPLAY", "WAYLAND_DISPLAY"))
-    serve(asked.port, tables=asked.tables, prefixes=asked.prefixes, is_opened=has_desktop if asked.open is None else asked.open)
-    return 0
 
 
 def main(words: Optional[List[str]] = None) -> int:
     """Runs a command and returns its status, which is the program's if a file or the program is wrong."""
+    keep_standard_streams()
     asked = arguments(words)
     try:
-        return run_csv(asked) if asked.command == "csv" else run_inspect(asked)
+        return int(module_of(asked.command).run(asked))
     except FilesRejected as error:
         return _failed(asked, f"the file of --{error.which} is rejected: {error.reason}", 3)
     except (Wrong, ValueError) as error:
@@ -124,7 +71,7 @@ def main(words: Optional[List[str]] = None) -> int:
 
 
 def _failed(asked: argparse.Namespace, sentence: str, status: int) -> int:
-    print(f"tdl {asked.command}: {sentence}", file=sys.stderr)
+    interrupts.tell(f"tdl {asked.command}: {sentence}")
     return status
 
 

@@ -4,6 +4,10 @@ from __future__ import annotations
 from typing import Optional, Tuple
 
 
+class Wrong(Exception):
+    """An input that is not in the format that it has to have, or lacks something that is asked for."""
+
+
 class Rejected(Exception):
     """A text that has no translation.
 

@@ -4,14 +4,15 @@ from __future__ import annotations
 import os
 import threading
 from itertools import islice
-from typing import Iterable, Iterator, List, NoReturn, Optional, Sequence, TypeVar, Union
+from typing import Callable, Iterable, Iterator, List, NoReturn, Optional, Sequence, TypeVar, Union
 
 from .errors import ProgramError, Rejected
-from .program import Killed, Run
+from .program import ANSWERS, Killed, Run
 
 Text = Union[str, bytes]
 Answer = Union[str, Rejected]
 Self = TypeVar("Self", bound="Lines")
+Result = TypeVar("Result")
 BATCH = 512
 
 
@@ -21,7 +22,7 @@ def bytes_of(text: Text) -> bytes:
         return text.encode("utf-8", "surrogateescape")
     if isinstance(text, (bytes, bytearray)):
         return bytes(text)
-    raise TypeError(f"a text is str or bytes, not {type(text).__name__}")
+    raise TypeError(f"{repr(text)[:40]} is of type {type(text).__name__}: a text is str or bytes, and an empty cell has none (tdl.Column)")
 
 
 def line_of(text: Text) -> bytes:
@@ -39,6 +40,14 @@ def lines_of(texts: Sequence[Text]) -> bytes:
     except TypeError:
         return b"".join(map(line_of, texts))
     return lines if lines.count(b"\n") == len(texts) else b"".join(map(line_of, texts))
+
+
+def _checked(run: Run, printed: bytes) -> bytes:
+    """Returns what the program printed if each line of it is an answer."""
+    lines = b"\n" + printed
+    if lines.count(b"\nok ") + lines.count(b"\nno ") == printed.count(b"\n"):
+        return printed
+    raise run.not_an_answer(next(line for line in printed.decode("latin-1").split("\n") if not line.startswith(ANSWERS)))
 
 
 class Lines:
@@ -66,11 +75,13 @@ class Lines:
             raise answer
         return answer
 
-    def translate_list(self, texts: Sequence[Text]) -> List[Answer]:
-        """Returns the answer to each text of a list; a text without one has its `Rejected`, which is not raised, there."""
+    def translate_list(self, texts: Iterable[Text]) -> List[Answer]:
+        """Returns the answer to each text of a list, or of a column or an array; a text without one has its `Rejected`, which is not
+        raised, there."""
         if isinstance(texts, (str, bytes, bytearray)):
             raise TypeError("translate_list takes a list of texts, not one text")
-        return self._ask(texts) if texts else []
+        taken = texts if isinstance(texts, (list, tuple)) else list(texts)
+        return self._ask(taken) if taken else []
 
     def translate_all(self, texts: Iterable[Text], *, batch: int = BATCH) -> Iterator[Answer]:
         """Returns an iterator of the answer to each text, in order; a text without one has its `Rejected`, which is not raised, there.
@@ -97,7 +108,8 @@ class Lines:
         finally:
             run.close()
 
-    def _answers(self, run: Run, texts: Sequence[Text], lines: List[str]) -> List[Answer]:
+    def _answers(self, run: Run, texts: Sequence[Text], printed: bytes) -> List[Answer]:
+        lines = printed.decode("latin-1").split("\n")
         return [line[3:] if line.startswith("ok ") else self._other(run, text, line) for text, line in zip(texts, lines)]
 
     def _other(self, run: Run, text: Text, line: str) -> Rejected:
@@ -136,8 +148,15 @@ class Lines:
         return self._lock
 
     def _ask(self, texts: Sequence[Text]) -> List[Answer]:
-        """Returns the answers of the kept run. Asks once more if a signal ends the program."""
-        lines = lines_of(texts)
+        """Returns the answers of the kept run."""
+        return self._kept(lines_of(texts), len(texts), lambda run, printed: self._answers(run, texts, printed))
+
+    def print_answers(self, lines: bytes, count: int) -> bytes:
+        """Returns the answers to some lines as the program prints them, `ok TEXT` or `no REASON` and a line feed each."""
+        return self._kept(lines, count, _checked)
+
+    def _kept(self, lines: bytes, count: int, read: Callable[[Run, bytes], Result]) -> Result:
+        """Returns what is read of the answers of the kept run. Asks once more if a signal ends the program."""
         with self._lock_of_process():
             if self._is_closed:
                 raise ValueError("this is closed")
@@ -145,7 +164,7 @@ class Lines:
                 if self._run is None:
                     self._run = Run(self._words, self._program)
                 try:
-                    return self._answers(self._run, texts, self._run.exchange(lines, len(texts)))
+                    return read(self._run, self._run.exchange(lines, count))
                 except Killed:
                     self._run = None
                 except BaseException:

@@ -1,6 +1,7 @@
 """The options of the program, judged before a run of it is started."""
 from __future__ import annotations
 
+import argparse
 import operator
 import os
 import re
@@ -13,6 +14,13 @@ FORMS = ("hex", "tag", "pure", "raw", "bracketed", "link")
 TARGETS = (*FORMS, "canon")
 STEM = re.compile(r"https?://[!\"$-.0->@-~][!\"$->@-~]*(?<!/)")
 MOST_OF_STEM = 1_024
+
+
+def processes(word: str) -> int:
+    """Returns the number of processes that a command line asks for."""
+    if not word.isdigit() or not 1 <= int(word) <= 256:
+        raise argparse.ArgumentTypeError("the number of processes is 1 to 256")
+    return int(word)
 
 
 def choice(name: str, value: object, choices: "tuple[str, ...]") -> str:

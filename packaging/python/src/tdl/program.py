@@ -9,6 +9,7 @@ import weakref
 from pathlib import Path
 from typing import List, Optional, Sequence, Union
 
+from . import interrupts
 from .errors import FilesRejected, ProgramError
 
 BLOCK = 65_536
@@ -57,26 +58,36 @@ class Run:
         self._input, self._output = self._process.stdin, self._process.stdout
         self._in, self._out = self._input.fileno(), self._output.fileno()
         os.set_blocking(self._in, False)
-        self._ends = select.poll()
-        self._ends.register(self._out, select.POLLIN)
-        self._ends.register(self._in, select.POLLOUT)
-        self._rest = ""
-        self._lines: List[str] = []
+        self._pipes = select.poll()
+        self._pipes.register(self._out, select.POLLIN)
+        self._pipes.register(self._in, select.POLLOUT)
+        self._found = bytearray()
+        self._ends = 0
         _ALIVE.add(self)
 
-    def exchange(self, sent: bytes, wanted: int) -> List[str]:
+    def exchange(self, sent: bytes, wanted: int) -> bytes:
         """Sends bytes and returns the next lines that come back. It reads while it writes, so no full pipe stops either side."""
         written = self._write(sent) if sent else 0
         left = memoryview(sent)[written:] if written < len(sent) else None
         while left:
-            for end, _ in self._ends.poll():
-                if end == self._out:
+            for pipe, _ in self._pipes.poll():
+                if pipe == self._out:
                     self._read()
                 else:
                     left = left[self._write(left) :]
-        while len(self._lines) < wanted:
+        while self._ends < wanted:
             self._read()
-        taken, self._lines = self._lines[:wanted], self._lines[wanted:]
+        return self._take(wanted)
+
+    def _take(self, wanted: int) -> bytes:
+        """Returns the first lines of what has come."""
+        if self._ends == wanted and self._found.endswith(b"\n"):
+            taken, self._found = bytes(self._found), bytearray()
+        else:
+            lines = self._found.split(b"\n", wanted)
+            self._found = lines.pop()
+            taken = b"".join(line + b"\n" for line in lines)
+        self._ends -= wanted
         return taken
 
     def _write(self, piece: Union[bytes, memoryview]) -> int:
@@ -93,13 +104,12 @@ class Run:
         block = os.read(self._out, BLOCK)
         if not block:
             raise self._ended()
-        lines = (self._rest + block.decode("latin-1")).split("\n")
-        self._rest = lines.pop()
-        self._lines += lines
+        self._ends += block.count(b"\n")
+        self._found += block
 
     def _ended(self) -> Exception:
         """Returns why the program ended before all its answers."""
-        printed = next((line for line in [*self._lines, self._rest] if not line.startswith(ANSWERS)), "")
+        printed = next((line for line in self._found.decode("latin-1").split("\n") if not line.startswith(ANSWERS)), "")
         status = self.close()
         return Killed() if status < 0 else error_of(status, printed, self._path)
 
@@ -122,6 +132,10 @@ class Run:
             self._process.kill()
             return self._process.wait()
 
+    def kill(self) -> None:
+        """Kills the run, whatever it does."""
+        self._process.kill()
+
     def forget(self) -> None:
         """Closes the pipes in a process that was forked off, which does not own the run."""
         self._input.close()
@@ -138,4 +152,10 @@ def _after_fork() -> None:
     _ALIVE.clear()
 
 
+def _kill_all() -> None:
+    for run in list(_ALIVE):
+        run.kill()
+
+
 os.register_at_fork(after_in_child=_after_fork)
+interrupts.AT_END.append(_kill_all)

@@ -20,6 +20,8 @@ def _shipped(name: str) -> str:
 
 
 BUILT_IN, GS1 = _shipped("builtin.json"), _shipped("gs1.json")
+# the built-in rows, and the kinds that only EPCIS events name
+EPCIS = _shipped("epcis.json")
 # the sets of tables/ (docs/TABLES.md, 'Which set to take')
 SETS = {name: _shipped(f"{name}.json") for name in ("gs1", "measures", "food", "healthcare", "logistics")}
 
@@ -43,14 +45,17 @@ def check(
     prefixes: Optional[File] = None,
     links: Optional[File] = None,
     voc: Optional[str] = None,
+    templates: bool = False,
     program: Optional[str] = None,
 ) -> Counts:
     """Returns the counts of what the program loads: `tables` is a table document, or None for the built-in tables.
 
-    Raises `FilesRejected` with the first reason if a file is rejected.
+    `voc` is the vocabulary of the links, and `templates` says whether they are templates. Raises `FilesRejected` with the first reason if
+    a file is rejected.
     """
     path = find_program(program)
     words = ["check", *options.words(tables=tables, prefixes=prefixes, links=links), *(["--voc", voc] if voc is not None else [])]
+    words += ["--templates", "yes"] if templates else []
     try:
         ran = subprocess.run([path, *words], stdin=subprocess.DEVNULL, stdout=subprocess.PIPE, check=False)
     except OSError as error:

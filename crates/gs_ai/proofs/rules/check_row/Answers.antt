@@ -13,9 +13,11 @@ returns-in-Some c =
 pub returns-then-not-keeps_predefined : goal.returns-then-not-keeps_predefined
 returns-then-not-keeps_predefined c =
     let place = sym c.find_clash.ensures ∙ c.in_default.is in
-    row_has_other_length c.args.i c.args.earlier.now c.args.row.now (sym c.if-not-is_row.ensures) (rw c.as_bytes.ensures at place) (sym c.if-not-keeps_predefined.ensures)
+    row_has_other_length c.args.i c.args.earlier.now c.args.row.now (sym c.if-not-is_row.ensures) (rw c.as_bytes.ensures at place)
+    (sym c.if-not-keeps_predefined.ensures)
 
 pub returns : goal.returns
 returns c =
     let place = sym c.find_clash.ensures ∙ c.in_default.is in
-    row_in_order c.args.i c.args.earlier.now c.args.row.now (sym c.if-not-is_row.ensures) (rw c.as_bytes.ensures at place) (sym c.if-not-keeps_predefined.ensures)
+    row_in_order c.args.i c.args.earlier.now c.args.row.now (sym c.if-not-is_row.ensures) (rw c.as_bytes.ensures at place)
+    (sym c.if-not-keeps_predefined.ensures)

@@ -32,5 +32,7 @@ pub returns-then-least_length_of-greatest : goal.returns-then-least_length_of-gr
 returns-then-least_length_of-greatest c =
     let row = c.args.row.now in
     let length_of = rw c.as_bytes-code.ensures at c.in-Some.ensures in
-    one_length row (length c.as_bytes-code.result.now) c.least_length_of.result c.greatest_length_of-greatest.result c.in-Some.n (ap length c.as_bytes-code.ensures)
-    (rw c.items-parts.ensures at c.least_length_of.ensures) (rw c.items-parts.ensures at c.greatest_length_of-greatest.ensures) (sym length_of) c.if-least_length_of-greatest.true
+    one_length row (length c.as_bytes-code.result.now) c.least_length_of.result c.greatest_length_of-greatest.result c.in-Some.n
+    (ap length c.as_bytes-code.ensures)
+    (rw c.items-parts.ensures at c.least_length_of.ensures) (rw c.items-parts.ensures at c.greatest_length_of-greatest.ensures)
+    (sym length_of) c.if-least_length_of-greatest.true

@@ -18,7 +18,8 @@ other_passes (SetOpt k) piece h = refl
 other_passes Date piece h = refl
 other_passes Other piece h = refl
 
-first_decides : (parts others : List Part) (part : Part) (value piece : List ℕ) (kept : Bool) → parts ≡ part ∷ others → piece ≡ take (greatest_length part) value →
+first_decides : (parts others : List Part) (part : Part) (value piece : List ℕ) (kept : Bool) → parts ≡ part ∷ others
+    → piece ≡ take (greatest_length part) value →
     kept ≡ keeps_check (part, piece) → kept ≡ false → kept ≡ list_all keeps_check (pieces parts value)
 first_decides parts others part value piece kept split e k fails =
     let none : keeps_check (part, take (greatest_length part) value) ≡ false = rw (← e, ← k) fails in

@@ -10,8 +10,10 @@ min_other : (m n : ℕ) → min m n ≡ min n m
 min_other m n = omega arith
 
 -- like `checked`, with the digits cut at their end or before it
-checked_cut : (k n check : ℕ) (r : Bool) (found : Option ℕ) (digits others last tail : List ℕ) → n ≡ min (length digits) (k - 1) → others ≡ take n digits → last ≡ drop n digits
-    → found ≡ (if are_digits others then Some (check_digit_of others) else None) → found ≡ Some check → tail ≡ check ∷ [] → r ≡ bytes_eq last tail → r ≡ is_checked k digits
+checked_cut : (k n check : ℕ) (r : Bool) (found : Option ℕ) (digits others last tail : List ℕ) → n ≡ min (length digits) (k - 1)
+    → others ≡ take n digits → last ≡ drop n digits
+    → found ≡ (if are_digits others then Some (check_digit_of others) else None) → found ≡ Some check → tail ≡ check ∷ []
+    → r ≡ bytes_eq last tail → r ≡ is_checked k digits
 checked_cut k n check r found digits others last tail m front back f g t e =
     let size = m ∙ min_other (length digits) (k - 1) in
     let front' : others ≡ take (k - 1) digits = front ∙ rw size (take_min (k - 1) digits) in

@@ -5,15 +5,18 @@ use Rattle.gs_ambig.proofs.search.+search.Goals as goal
 
 pub search-returns-then-contains-clause-none : goal.search-returns-then-contains-clause-none
 search-returns-then-contains-clause-none t c =
-    dead_marked _ _ _ _ _ _ c.requires.marked c.requires.second (rw c.states-2.ensures.count at c.pair_number-pair.ensures) (c.contains.ensures.0 c.if-contains.true)
+    dead_marked _ _ _ _ _ _ c.requires.marked c.requires.second (rw c.states-2.ensures.count at c.pair_number-pair.ensures)
+    (c.contains.ensures.0 c.if-contains.true)
 
 pub search-returns-in-Some-clause-found : goal.search-returns-in-Some-clause-found
 search-returns-in-Some-clause-found t c =
-    leads_by _ _ _ _ _ _ _ _ _ c.edges-edges.ensures.edges c.loop-edge-test.true (self_at _ _ _ c.loop-edge-test.true) (rw c.in-Some.is at c.in_ok-word.ensures.found)
+    leads_by _ _ _ _ _ _ _ _ _ c.edges-edges.ensures.edges c.loop-edge-test.true (self_at _ _ _ c.loop-edge-test.true)
+    (rw c.in-Some.is at c.in_ok-word.ensures.found)
 
 pub search-loop-edge-preserved : goal.search-loop-edge-preserved
 search-loop-edge-preserved t c = record {
-  dead = dead_by_more _ _ _ _ _ _ c.loop-edge.invariant.dead c.loop-edge-test.true (self_at _ _ _ c.loop-edge-test.true) (rw c.in_default.is at c.in_ok-word.ensures.none);
+  dead = dead_by_more _ _ _ _ _ _ c.loop-edge.invariant.dead c.loop-edge-test.true (self_at _ _ _ c.loop-edge-test.true)
+      (rw c.in_default.is at c.in_ok-word.ensures.none);
   marks = c.in_ok-word.ensures.marks;
 }
 
@@ -26,7 +29,8 @@ search-returns-clause-none t c =
 
 pub search-returns-clause-marks : goal.search-returns-clause-marks
 search-returns-clause-marks t c =
-    marks_more _ _ _ _ _ _ _ c.loop-edge.invariant.marks c.requires.second (rw c.states-2.ensures.count at c.pair_number-pair.ensures) c.in_ok-insert.ensures.inserted
+    marks_more _ _ _ _ _ _ _ c.loop-edge.invariant.marks c.requires.second
+    (rw c.states-2.ensures.count at c.pair_number-pair.ensures) c.in_ok-insert.ensures.inserted
     (dead_end _ _ _ _ _ _ _ _ c.loop-edge.invariant.dead c.loop-edge-test.false c.edges-edges.ensures.edges refl c.are_accepting.ensures c.if-are_accepting.false)
 
 pub search_behind-loop-other-preserved-then-other-least : goal.search_behind-loop-other-preserved-then-other-least
@@ -47,7 +51,8 @@ search_behind-returns-in-Some-2-clause-found t c =
 
 pub search_behind-loop-other-preserved : goal.search_behind-loop-other-preserved
 search_behind-loop-other-preserved t c = record {
-  dead = behind_dead _ _ _ _ _ _ _ c.loop-other.invariant.dead c.loop-other-test.true (self_at _ _ _ c.loop-other-test.true) (rw c.in_default-2.is at c.in_ok-word.ensures.none);
+  dead = behind_dead _ _ _ _ _ _ _ c.loop-other.invariant.dead c.loop-other-test.true (self_at _ _ _ c.loop-other-test.true)
+      (rw c.in_default-2.is at c.in_ok-word.ensures.none);
   marks = c.in_ok-word.ensures.marks;
 }
 

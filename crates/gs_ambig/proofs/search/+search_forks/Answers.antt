@@ -18,7 +18,8 @@ returns-in-Some-2-clause-found t c =
 
 pub loop-edge-preserved : goal.loop-edge-preserved
 loop-edge-preserved t c = record {
-  single = single_more _ _ _ _ c.loop-edge.invariant.single c.loop-edge-test.true (self_at _ _ _ c.loop-edge-test.true) (λ _. rw c.in_default-2.is at c.in_ok-word-2.ensures.none);
+  single = single_more _ _ _ _ c.loop-edge.invariant.single c.loop-edge-test.true (self_at _ _ _ c.loop-edge-test.true)
+      (λ _. rw c.in_default-2.is at c.in_ok-word-2.ensures.none);
   marks_single = c.in_ok-word-2.ensures.marks_single;
   marks = c.in_ok-word-2.ensures.marks;
 }

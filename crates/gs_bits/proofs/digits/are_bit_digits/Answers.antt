@@ -5,4 +5,5 @@ use Rattle.gs_bits.proofs.digits.are_bit_digits.Goals as goal
 
 pub returns : goal.returns
 returns c =
-    all_from_yields_List (λ (d : ℕ). (d == 48) || (d == 49)) _ _ _ c.all.ensures.ran (YieldsList-from_slice c.args.text.now cc) (λ x b q k. search (rules, tests))
+    all_from_yields_List (λ (d : ℕ). (d == 48) || (d == 49)) _ _ _ c.all.ensures.ran (YieldsList-from_slice c.args.text.now cc)
+    (λ x b q k. search (rules, tests))

@@ -15,5 +15,7 @@ loop-left-preserved c =
     record {
       some = omega arith;
       place = omega arith;
-      written = write_step _ c.loop-left.at (c.args.n - c.loop-left.left) step c.loop-left.left (c.loop-left.left - step) c.args.value c.field-piece.result c.with_piece.result c.loop-left.bytes _ (omega arith) (omega arith) (omega arith) (omega arith) c.field-piece.ensures c.with_piece.ensures c.loop-left.invariant.written;
+      written = write_step _ c.loop-left.at (c.args.n - c.loop-left.left) step c.loop-left.left
+          (c.loop-left.left - step) c.args.value c.field-piece.result c.with_piece.result c.loop-left.bytes _ (omega arith) (omega arith)
+          (omega arith) (omega arith) c.field-piece.ensures c.with_piece.ensures c.loop-left.invariant.written;
     }

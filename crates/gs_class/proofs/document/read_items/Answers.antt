@@ -7,7 +7,8 @@ use Rattle.gs_class.proofs.document.read_items.Goals as goal
 
 pub loop-i-preserved : goal.loop-i-preserved
 loop-i-preserved c =
-    one_read (item_of false) (view c.args.array.now.tree) c.loop-i.i (view c.in-Ok.item.tree) c.loop-i.items.items c.push.new.self.items c.in_ok-read_class_item.field-0
+    one_read (item_of false) (view c.args.array.now.tree) c.loop-i.i
+    (view c.in-Ok.item.tree) c.loop-i.items.items c.push.new.self.items c.in_ok-read_class_item.field-0
     (items_at (view c.args.array.now.tree) c.loop-i.i ∙ sym c.in-Ok.ensures.item) c.loop-i.invariant c.in_ok-push.ensures.items c.in_ok-read_class_item.ensures
 
 pub returns : goal.returns

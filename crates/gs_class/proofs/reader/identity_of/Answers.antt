@@ -13,7 +13,8 @@ pub of_key-requires : goal.of_key-requires
 of_key-requires c =
     let said = said_by c.args.class.now c.args.values.now in
     let lot = c.from-2.ensures ∙ c.in_ok-from_bytes.ensures ∙ (rw c.items.ensures at c.value_of-lot.ensures) in
-    is_key c.args.ais.now c.args.class.now said c.requires c.rows.ensures.kept _ _ _ _ (c.lent.ensures ∙ c.as_bytes.ensures) (c.from.ensures ∙ c.in_ok-key_value.ensures) (c.lent-2.ensures ∙ c.as_bytes-2.ensures) lot
+    is_key c.args.ais.now c.args.class.now said c.requires c.rows.ensures.kept _ _ _ _ (c.lent.ensures ∙ c.as_bytes.ensures)
+    (c.from.ensures ∙ c.in_ok-key_value.ensures) (c.lent-2.ensures ∙ c.as_bytes-2.ensures) lot
 
 pub returns-clause-identity : goal.returns-clause-identity
 returns-clause-identity c =
@@ -21,5 +22,6 @@ returns-clause-identity c =
     let said = said_by class c.args.values.now in
     let lot = c.from-2.ensures ∙ c.in_ok-from_bytes.ensures ∙ (rw c.items.ensures at c.value_of-lot.ensures) in
     let element : Pair = record { code = c.lent-2.result; value = c.from-2.result } in
-    IfOk-weaker c.of_key.result (λ identity. identity_of_pairs c.args.ais.now (_ ∷ pairs_in (Some element)) ≡ Ok identity) (λ identity. identity ≡ lay c.args.ais.now (kind_of class) said)
+    IfOk-weaker c.of_key.result (λ identity. identity_of_pairs c.args.ais.now (_ ∷ pairs_in (Some element)) ≡ Ok identity)
+    (λ identity. identity ≡ lay c.args.ais.now (kind_of class) said)
     (λ identity. identity_is c.args.ais.now class said c.requires c.rows.ensures.kept _ _ _ _ identity (c.lent.ensures ∙ c.as_bytes.ensures) (c.from.ensures ∙ c.in_ok-key_value.ensures) (c.lent-2.ensures ∙ c.as_bytes-2.ensures) lot) c.of_key.ensures.made

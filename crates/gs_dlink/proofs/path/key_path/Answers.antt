@@ -8,11 +8,13 @@ use Rattle.gs_dlink.proofs.path.key_path.Goals as goal
 
 pub returns-in_default-clause-path : goal.returns-in_default-clause-path
 returns-in_default-clause-path c =
-    none_left c.args.table.now c.rows.ensures.kept c.args.at c.args.path.now c.loop-value.front.now (map written_of (reverse c.loop-value.pairs.items)) c.loop-value.invariant.walked c.in_default.ensures
+    none_left c.args.table.now c.rows.ensures.kept c.args.at c.args.path.now c.loop-value.front.now
+    (map written_of (reverse c.loop-value.pairs.items)) c.loop-value.invariant.walked c.in_default.ensures
 
 pub returns-in_default-last_slash-clause-path : goal.returns-in_default-last_slash-clause-path
 returns-in_default-last_slash-clause-path c =
-    one_left c.args.table.now c.rows.ensures.kept c.args.at c.args.path.now c.loop-value.front.now (map written_of (reverse c.loop-value.pairs.items)) c.loop-value.invariant.walked c.in-Some.value c.in-Some.ensures c.in_default-last_slash.ensures
+    one_left c.args.table.now c.rows.ensures.kept c.args.at c.args.path.now c.loop-value.front.now
+    (map written_of (reverse c.loop-value.pairs.items)) c.loop-value.invariant.walked c.in-Some.value c.in-Some.ensures c.in_default-last_slash.ensures
 
 pub loop-value-preserved : goal.loop-value-preserved
 loop-value-preserved c =

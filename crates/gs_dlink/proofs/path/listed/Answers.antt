@@ -1,8 +1,8 @@
 use Rattle.std.proofs.Common.{refl, ap, sym, ◌∙◌}
 use Rattle.gs_ai.specs.declared.row.AiRow.{AiRow}
 use Rattle.gs_ai.specs.Values.{has_code}
-use Rattle.gs_ai.proofs.Searches.{find_none, find_read}
 use Rattle.gs_dlink.proofs.path.listed.Goals as goal
+use Rattle.gs_chars.proofs.Searches.{find_none, find_read}
 
 pub returns-in-Some : goal.returns-in-Some
 returns-in-Some c =

@@ -5,7 +5,8 @@ use Rattle.gs_dlink.specs.Values.{IsPlaced}
 use Rattle.gs_dlink.specs.declared.value.WrittenPair.{WrittenPair}
 use Rattle.gs_dlink.proofs.query.push_part.Goals as goal
 
-placed_more : (table : List AiRow) (old new : List WrittenPair) (pair : WrittenPair) → All (IsPlaced table) old → IsPlaced table pair → new ≡ old ++ pair ∷ [] → All (IsPlaced table) new
+placed_more : (table : List AiRow) (old new : List WrittenPair) (pair : WrittenPair) → All (IsPlaced table) old → IsPlaced table pair
+    → new ≡ old ++ pair ∷ [] → All (IsPlaced table) new
 placed_more table old new pair placed own push = rw push (All-push (IsPlaced table) old pair placed own)
 
 pub returns-clause-placed : goal.returns-clause-placed

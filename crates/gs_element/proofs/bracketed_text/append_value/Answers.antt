@@ -4,9 +4,11 @@ use Rattle.gs_element.specs.BracketedTexts.{value_before, written_character, wri
 use Rattle.gs_element.proofs.bracketed_text.append_value.Goals as goal
 
 written_more : (done : List ℕ) (c : ℕ) (behind : List ℕ) → written_value done ++ (written_character c ++ behind) ≡ written_value (done ++ c ∷ []) ++ behind
-written_more done c behind = rw (flat_map-append written_character done (c ∷ []), append-nil (written_character c)) (sym (append_assoc (written_value done) (written_character c) behind))
+written_more done c behind = rw (flat_map-append written_character done (c ∷ []), append-nil (written_character c))
+    (sym (append_assoc (written_value done) (written_character c) behind))
 
-character_more : (start value pushed text left behind done : List ℕ) (c : ℕ) → value ≡ start ++ done → value_before text ≡ done ++ value_before left → text ≡ written_value done ++ left
+character_more : (start value pushed text left behind done : List ℕ) (c : ℕ) → value ≡ start ++ done
+    → value_before text ≡ done ++ value_before left → text ≡ written_value done ++ left
     → pushed ≡ value ++ c ∷ [] → value_before left ≡ c ∷ value_before behind → left ≡ written_character c ++ behind
     → (x : List ℕ) × (pushed ≡ start ++ x) × (value_before text ≡ x ++ value_before behind) × (text ≡ written_value x ++ behind)
 character_more start value pushed text left behind done c so_far before written push next character = (

@@ -20,7 +20,8 @@ plain_value text cut = sym ((plain_front text).0 ∙ ap (λ (x : List ℕ). fron
 plain_rest : (text : List ℕ) → is_cut (behind_front text) ≡ true → text ≡ written_value (value_before text) ++ behind_front text
 plain_rest text cut = (plain_front text).1 ∙ ap (λ (x : List ℕ). written_value x ++ behind_front text) (plain_value text cut)
 
-whole_rest : (text rest : List ℕ) → behind_front text ≡ written_value (value_before (behind_front text)) ++ rest → text ≡ written_value (value_before text) ++ rest
+whole_rest : (text rest : List ℕ) → behind_front text ≡ written_value (value_before (behind_front text)) ++ rest
+    → text ≡ written_value (value_before text) ++ rest
 whole_rest text rest e =
     let front_of = front text in
     let last = value_before (behind_front text) in

@@ -8,7 +8,9 @@ use Rattle.gs_element.specs.Raw.{body_of, raw_error, IsRawElement}
 use Rattle.gs_element.proofs.laws.some_answer.Goals as goal
 
 pub returns-clause-raw : goal.returns-clause-raw
-returns-clause-raw c text = answered (IsRawElement c.args.table.now) (raw_error c.args.table.now) (raw_known c.args.table.now c.rows.ensures.kept) text (body_of text) (body_shorter text)
+returns-clause-raw c text = answered (IsRawElement c.args.table.now) (raw_error c.args.table.now)
+    (raw_known c.args.table.now c.rows.ensures.kept) text (body_of text) (body_shorter text)
 
 pub returns-clause-bracketed : goal.returns-clause-bracketed
-returns-clause-bracketed c text = answered (IsBracketedElement c.args.table.now) (bracketed_error c.args.table.now) (bracketed_known c.args.table.now c.rows.ensures.kept) text text (omega arith)
+returns-clause-bracketed c text = answered (IsBracketedElement c.args.table.now) (bracketed_error c.args.table.now)
+    (bracketed_known c.args.table.now c.rows.ensures.kept) text text (omega arith)

@@ -2,9 +2,9 @@ use Rattle.std.proofs.Common.{ap, refl, sym, ◌∙◌}
 use Rattle.std.specs.Option.{option_and_then}
 use Rattle.gs_ai.specs.declared.row.AiRow.{AiRow}
 use Rattle.gs_ai.specs.PredefinedLengths.{predefined_length}
-use Rattle.gs_ai.proofs.Searches.{find_none}
 use Rattle.gs_element.proofs.RawLemmas.{cut_at, front_row, judged, value_within}
 use Rattle.gs_element.proofs.raw.cut_element.Goals as goal
+use Rattle.gs_chars.proofs.Searches.{find_none}
 
 pub returns-in_default-clause-error : goal.returns-in_default-clause-error
 returns-in_default-clause-error c = rw (find_none _ c.args.table.now (sym c.in_default.ensures.row)) refl

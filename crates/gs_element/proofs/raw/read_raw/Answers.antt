@@ -45,4 +45,5 @@ returns-in-Err-clause-rejected c =
 pub returns-clause-in_order : goal.returns-clause-in_order
 returns-clause-in_order c =
     let rows = c.args.table.now in
-    all_joined (IsRawElement rows) (IsInOrder rows) (λ pair text after h. h.in_order) c.loop-rest.pairs.items (body_of c.args.text.now) c.loop-rest.rest.now c.loop-rest.invariant.joined
+    all_joined (IsRawElement rows) (IsInOrder rows) (λ pair text after h. h.in_order) c.loop-rest.pairs.items
+    (body_of c.args.text.now) c.loop-rest.rest.now c.loop-rest.invariant.joined

@@ -35,14 +35,19 @@ separator_begun old out closed done text e f = begins_after closed out old (begi
 code_begun : (now old out closed done text : List ℕ) → now ≡ closed → out ≡ old ++ done → closed ≡ out ++ text → BeginsWith now old
 code_begun now old out closed done text same e f = let begun = separator_begun old out closed done text e f in (begun.0, same ∙ begun.1)
 
-value_begun : (now old out closed coded done text code : List ℕ) → now ≡ coded → out ≡ old ++ done → closed ≡ out ++ text → coded ≡ closed ++ code → BeginsWith now old
-value_begun now old out closed coded done text code same e f g = begins_after now closed old (begins_more now closed code (same ∙ g)) (separator_begun old out closed done text e f)
+value_begun : (now old out closed coded done text code : List ℕ) → now ≡ coded → out ≡ old ++ done → closed ≡ out ++ text
+    → coded ≡ closed ++ code → BeginsWith now old
+value_begun now old out closed coded done text code same e f g = begins_after now closed old (begins_more now closed code (same ∙ g))
+    (separator_begun old out closed done text e f)
 
 pub returns-in_err-write_separator-clause-begun : goal.returns-in_err-write_separator-clause-begun
-returns-in_err-write_separator-clause-begun c = on_err c.from_residual.result _ (begins_after _ _ _ c.in_err-write_separator.ensures.begun (begins_more _ _ _ c.loop-pair.invariant.written))
+returns-in_err-write_separator-clause-begun c = on_err c.from_residual.result _
+    (begins_after _ _ _ c.in_err-write_separator.ensures.begun (begins_more _ _ _ c.loop-pair.invariant.written))
 
 pub returns-in_err-extend_from_slice-clause-begun : goal.returns-in_err-extend_from_slice-clause-begun
-returns-in_err-extend_from_slice-clause-begun c = on_err c.from_residual-in_err-extend_from_slice.result _ (code_begun _ _ _ _ _ _ c.in_err-extend_from_slice.ensures.items c.loop-pair.invariant.written c.in_ok-write_separator.ensures.written)
+returns-in_err-extend_from_slice-clause-begun c = on_err c.from_residual-in_err-extend_from_slice.result _
+    (code_begun _ _ _ _ _ _ c.in_err-extend_from_slice.ensures.items c.loop-pair.invariant.written c.in_ok-write_separator.ensures.written)
 
 pub returns-in_err-extend_from_slice-2-clause-begun : goal.returns-in_err-extend_from_slice-2-clause-begun
-returns-in_err-extend_from_slice-2-clause-begun c = on_err c.from_residual-in_err-extend_from_slice-2.result _ (value_begun _ _ _ _ _ _ _ _ c.in_err-extend_from_slice-2.ensures.items c.loop-pair.invariant.written c.in_ok-write_separator.ensures.written c.in_ok-extend_from_slice.ensures.items)
+returns-in_err-extend_from_slice-2-clause-begun c = on_err c.from_residual-in_err-extend_from_slice-2.result _
+    (value_begun _ _ _ _ _ _ _ _ c.in_err-extend_from_slice-2.ensures.items c.loop-pair.invariant.written c.in_ok-write_separator.ensures.written c.in_ok-extend_from_slice.ensures.items)

@@ -13,4 +13,5 @@ pub returns-clause-written : goal.returns-clause-written
 returns-clause-written c = value_whole c.args.value.now c.loop-c.c-index c.args.out.now.items c.loop-c.out.items c.loop-c-test.false c.loop-c.invariant
 
 pub returns-in_err-write_character-clause-begun : goal.returns-in_err-write_character-clause-begun
-returns-in_err-write_character-clause-begun c = on_err c.from_residual.result _ (begins_after _ _ _ c.in_err-write_character.ensures.begun (begins_more _ _ _ c.loop-c.invariant))
+returns-in_err-write_character-clause-begun c = on_err c.from_residual.result _
+    (begins_after _ _ _ c.in_err-write_character.ensures.begun (begins_more _ _ _ c.loop-c.invariant))

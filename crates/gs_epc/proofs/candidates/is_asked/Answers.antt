@@ -8,12 +8,14 @@ use Rattle.gs_epc.proofs.candidates.is_asked.Goals as goal
 not_none : (n : ℕ) → (suc n == 0) ≡ false
 not_none n = grind (arith, nat_tests)
 
-any_asked : (level : LevelName) (asked name : List ℕ) (none : Bool) → (level ≡ Binary) ⊎ (level ≡ Tag) → none ≡ (length asked == 0) → none ≡ true → none ≡ is_asked level asked name
+any_asked : (level : LevelName) (asked name : List ℕ) (none : Bool) → (level ≡ Binary) ⊎ (level ≡ Tag) → none ≡ (length asked == 0)
+    → none ≡ true → none ≡ is_asked level asked name
 any_asked level [] name none (inl is) e h = rw (is, h) refl
 any_asked level [] name none (inr is) e h = rw (is, h) refl
 any_asked level (x ∷ asked) name none is e h = absurd (let f : none ≡ false = e ∙ not_none (length asked) in cc)
 
-one_asked : (level : LevelName) (asked name : List ℕ) (none same : Bool) → (level ≡ Binary) ⊎ (level ≡ Tag) → none ≡ (length asked == 0) → none ≡ false → same ≡ bytes_eq asked name → same ≡ is_asked level asked name
+one_asked : (level : LevelName) (asked name : List ℕ) (none same : Bool) → (level ≡ Binary) ⊎ (level ≡ Tag) → none ≡ (length asked == 0)
+    → none ≡ false → same ≡ bytes_eq asked name → same ≡ is_asked level asked name
 one_asked level [] name none same is e h s = absurd (let f : none ≡ true = e in cc)
 one_asked level (x ∷ asked) name none same (inl is) e h s = rw is s
 one_asked level (x ∷ asked) name none same (inr is) e h s = rw is s

@@ -1,10 +1,10 @@
 use Rattle.std.proofs.Common.{◌≡◌, None, Some, find, refl}
 use Rattle.gs_ai.specs.Values.{has_code}
-use Rattle.gs_chars.proofs.TruthsAndLists.{within}
 use Rattle.gs_epc.proofs.key_parts.none_of.Goals as goal
+use Rattle.std.proofs.lemmas.Option.{slice_get_within}
 
 pub serial_row-requires : goal.serial_row-requires
-serial_row-requires c = within c.args.set.now.kinds c.args.index c.args.kind.now c.requires
+serial_row-requires c = slice_get_within c.args.set.now.kinds c.args.index c.args.kind.now c.requires
 
 pub returns-in-Some : goal.returns-in-Some
 returns-in-Some c = λ code is.

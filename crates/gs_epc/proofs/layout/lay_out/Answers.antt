@@ -6,7 +6,8 @@ use Rattle.gs_epc.proofs.layout.lay_out.Goals as goal
 pub returns-clause-laid : goal.returns-clause-laid
 returns-clause-laid c =
     let pairs = c.in_ok-key.ensures in
-    laid_out c.args.set.now.ais c.args.kind.now (fields_in c.args.epc.now) _ _ _ _ c.from_pairs.ensures pairs.key (c.in_ok-qualifiers.ensures ∙ pairs.serial) c.new.ensures.items
+    laid_out c.args.set.now.ais c.args.kind.now (fields_in c.args.epc.now) _ _ _ _ c.from_pairs.ensures pairs.key
+    (c.in_ok-qualifiers.ensures ∙ pairs.serial) c.new.ensures.items
 
 pub returns-clause-with_table : goal.returns-clause-with_table
 returns-clause-with_table c =

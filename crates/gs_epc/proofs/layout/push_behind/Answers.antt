@@ -1,7 +1,8 @@
 use Rattle.std.proofs.Common.{◌≡◌, ℕ, List, ◌++◌, append_assoc}
 use Rattle.gs_epc.proofs.layout.push_behind.Goals as goal
 
-behind_written : (value piece total tail one two three : List ℕ) → one ≡ value ++ piece → two ≡ one ++ total → three ≡ two ++ tail → three ≡ value ++ (piece ++ (total ++ tail))
+behind_written : (value piece total tail one two three : List ℕ) → one ≡ value ++ piece → two ≡ one ++ total → three ≡ two ++ tail
+    → three ≡ value ++ (piece ++ (total ++ tail))
 behind_written value piece total tail one two three a b d = rw (d, b, a) (simp append_assoc)
 
 pub returns : goal.returns

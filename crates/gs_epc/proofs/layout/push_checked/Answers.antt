@@ -8,7 +8,8 @@ use Rattle.gs_epc.specs.Layout.{AreKeyDigits, key_digits, with_check}
 use Rattle.gs_epc.proofs.layout.push_checked.Goals as goal
 
 -- the text read after the old value
-slice_is : (value digits whole old seen slice : List ℕ) → whole ≡ value ++ digits → old ≡ value → seen ≡ whole → slice ≡ take (length seen - length old) (drop (length old) seen) → slice ≡ digits
+slice_is : (value digits whole old seen slice : List ℕ) → whole ≡ value ++ digits → old ≡ value → seen ≡ whole
+    → slice ≡ take (length seen - length old) (drop (length old) seen) → slice ≡ digits
 slice_is value digits whole old seen slice w o e s =
     let count : length (value ++ digits) - length value ≡ length digits = omega (arith, length-append value digits) in
     rw (e, o, w, drop-append_seam value digits, count, take_all (length digits) digits (omega arith)) at s
@@ -19,12 +20,15 @@ record Checks (digits : List ℕ) : Type 0 where
   pub most : length digits ≤ 18
   pub all : IsTrue (are_digits digits)
 
-checks : (lead : ℕ) (value prefix rest whole old seen : List ℕ) → AreKeyDigits lead prefix rest → whole ≡ value ++ key_digits lead prefix rest → old ≡ value → seen ≡ whole → Checks (take (length seen - length old) (drop (length old) seen))
+checks : (lead : ℕ) (value prefix rest whole old seen : List ℕ) → AreKeyDigits lead prefix rest
+    → whole ≡ value ++ key_digits lead prefix rest → old ≡ value → seen ≡ whole
+    → Checks (take (length seen - length old) (drop (length old) seen))
 checks lead value prefix rest whole old seen key w o e =
     let same = slice_is value (key_digits lead prefix rest) whole old seen _ w o e refl in
     record { least = rw same key.least; most = rw same key.most; all = rw same key.digits }
 
-checked_written : (value digits whole old seen slice new : List ℕ) (check : ℕ) → whole ≡ value ++ digits → old ≡ value → seen ≡ whole → slice ≡ take (length seen - length old) (drop (length old) seen)
+checked_written : (value digits whole old seen slice new : List ℕ) (check : ℕ) → whole ≡ value ++ digits → old ≡ value → seen ≡ whole
+    → slice ≡ take (length seen - length old) (drop (length old) seen)
     → check ≡ check_digit_of slice → new ≡ whole ++ check ∷ [] → new ≡ value ++ with_check digits
 checked_written value digits whole old seen slice new check w o e s c n =
     let same = slice_is value digits whole old seen slice w o e s in

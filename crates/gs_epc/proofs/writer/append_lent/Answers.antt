@@ -27,14 +27,16 @@ pub loop-number-preserved-then-not-is_asked : goal.loop-number-preserved-then-no
 loop-number-preserved-then-not-is_asked c =
     let at = turn _ _ _ _ _ _ _ _ c.info-info.ensures.rows c.loop-number.invariant.tried c.loop-number-test.true refl in
     record {
-      tried = turn_skipped _ _ _ _ _ _ _ _ at _ c.info-info.ensures.rows c.index-info-i.is (sym c.if-not-is_asked.true ∙ (c.is_asked.ensures ∙ ap (λ (e : Epc). is_asked c.args.level e.encoding c.as_bytes.result.now) c.epc.view_is ∙ ap (is_asked c.args.level c.args.epc.now.encoding) c.as_bytes.ensures));
+      tried = turn_skipped _ _ _ _ _ _ _ _ at _ c.info-info.ensures.rows c.index-info-i.is
+          (sym c.if-not-is_asked.true ∙ (c.is_asked.ensures ∙ ap (λ (e : Epc). is_asked c.args.level e.encoding c.as_bytes.result.now) c.epc.view_is ∙ ap (is_asked c.args.level c.args.epc.now.encoding) c.as_bytes.ensures));
       same = c.loop-number.invariant.same;
     }
 
 pub try_candidate-requires-clause-candidate : goal.try_candidate-requires-clause-candidate
 try_candidate-requires-clause-candidate c =
     let at = turn _ _ _ _ _ _ _ _ c.info-info.ensures.rows c.loop-number.invariant.tried c.loop-number-test.true refl in
-    turn_candidate _ _ _ _ _ _ _ _ at _ c.info-info.ensures.rows c.index-info-i.is c.info-info.ensures.shaped (sym c.if-not-is_asked.false ∙ (c.is_asked.ensures ∙ ap (λ (e : Epc). is_asked c.args.level e.encoding c.as_bytes.result.now) c.epc.view_is ∙ ap (is_asked c.args.level c.args.epc.now.encoding) c.as_bytes.ensures))
+    turn_candidate _ _ _ _ _ _ _ _ at _ c.info-info.ensures.rows c.index-info-i.is c.info-info.ensures.shaped
+    (sym c.if-not-is_asked.false ∙ (c.is_asked.ensures ∙ ap (λ (e : Epc). is_asked c.args.level e.encoding c.as_bytes.result.now) c.epc.view_is ∙ ap (is_asked c.args.level c.args.epc.now.encoding) c.as_bytes.ensures))
 
 pub returns-in-Ok : goal.returns-in-Ok
 returns-in-Ok c =
@@ -54,4 +56,5 @@ loop-number-preserved c =
     }
 
 pub returns : goal.returns
-returns c = appends_none _ _ _ _ _ _ c.loop-number.invariant.same (all_tried _ _ _ _ _ _ _ c.info-info.ensures.rows c.loop-number-test.false c.loop-number.invariant.tried)
+returns c = appends_none _ _ _ _ _ _ c.loop-number.invariant.same
+    (all_tried _ _ _ _ _ _ _ c.info-info.ensures.rows c.loop-number-test.false c.loop-number.invariant.tried)

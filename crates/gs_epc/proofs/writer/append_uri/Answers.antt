@@ -15,8 +15,10 @@ as_it_is Binary symbols e = absurd (let f : true ≡ false = e in cc)
 as_it_is Tag symbols e = refl
 as_it_is Pure symbols e = refl
 
-appends : (level : LevelName) (items : List Item) (values : List (List ℕ)) (before now : List ℕ) (result : Result (Unit {0}) WriteFault) → OnOk result (now ≡ before ++ written items values) → (IsOk result → AreHeld items values)
-    → IfErr result (λ error. IsWriteFault items values error) → IfErr result (LeavesUnlessMemory before now) → is_bits level ≡ false → AppendsOption level items values before now result
+appends : (level : LevelName) (items : List Item) (values : List (List ℕ)) (before now : List ℕ) (result : Result (Unit {0}) WriteFault)
+    → OnOk result (now ≡ before ++ written items values) → (IsOk result → AreHeld items values)
+    → IfErr result (λ error. IsWriteFault items values error) → IfErr result (LeavesUnlessMemory before now) → is_bits level ≡ false
+    → AppendsOption level items values before now result
 appends level items values before now (Ok done) wrote held rejected unchanged e = (held refl, rw (as_it_is level (written items values) e) wrote)
 appends level items values before now (Err (CannotHold k why)) wrote held rejected unchanged e = (rejected, unchanged)
 appends level items values before now (Err Memory) wrote held rejected unchanged e = tt

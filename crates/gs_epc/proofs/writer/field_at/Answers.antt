@@ -4,7 +4,8 @@ use Rattle.gs_tables_document.specs.declared.document.Field.{Field}
 use Rattle.gs_epc.specs.Writes.{field_at}
 use Rattle.gs_epc.proofs.writer.field_at.Goals as goal
 
-named : (fields : List (Option Field)) (k : ℕ) (read : Option Field) (field : Field) → k < length fields → read ≡ get_or fields k read → read ≡ Some field → field ≡ field_at fields k
+named : (fields : List (Option Field)) (k : ℕ) (read : Option Field) (field : Field) → k < length fields → read ≡ get_or fields k read
+    → read ≡ Some field → field ≡ field_at fields k
 named fields k read field low at is = rw (read_at fields k read low at, is) refl
 
 pub returns-in-Some-Some : goal.returns-in-Some-Some

@@ -30,7 +30,8 @@ returns-in-NumPad-clause-written g c =
 pub returns-in-Fill-clause-written : goal.returns-in-Fill-clause-written
 returns-in-Fill-clause-written g c = rw c.in-Fill.is (rw c.from-in-Fill.ensures at c.push_zeros-in-Fill.ensures)
 
-ascii_written : {item : Item} {lo hi bits width : ℕ} (value out characters new : List ℕ) → item ≡ Ascii7 lo hi bits → width ≡ bits → characters ≡ out ++ flat_map (bits_of 7) value →
+ascii_written : {item : Item} {lo hi bits width : ℕ} (value out characters new : List ℕ) → item ≡ Ascii7 lo hi bits → width ≡ bits
+    → characters ≡ out ++ flat_map (bits_of 7) value →
     new ≡ characters ++ replicate (width - 7 * length value) 0 → new ≡ out ++ written_word item value
 ascii_written value out characters new is w e n = rw (is, n, e, w) (append_assoc out (flat_map (bits_of 7) value) _)
 

@@ -21,7 +21,8 @@ loop-item-preserved c =
     record {
       items = other_items _ _ _ c.in-Some.ensures.cases.0 c.loop-item.invariant.items;
       room = simp length-set (omega arith);
-      numbers = rw (tally_take c.loop-item.out c.loop-item.number c.number_of_word.result within, c.split_at.ensures.back) (tallies_step _ _ _ _ _ _ _ _ _ c.loop-item.invariant.numbers c.in-Some.ensures.cases.0 c.first_cut.ensures whole);
+      numbers = rw (tally_take c.loop-item.out c.loop-item.number c.number_of_word.result within, c.split_at.ensures.back)
+          (tallies_step _ _ _ _ _ _ _ _ _ c.loop-item.invariant.numbers c.in-Some.ensures.cases.0 c.first_cut.ensures whole);
     }
 
 pub returns : goal.returns

@@ -7,5 +7,6 @@ loop-left-preserved c =
     let few = c.loop-left.invariant.few in
     record {
       few = omega arith;
-      whole = ones_step _ _ _ _ _ _ _ c.loop-left-test.true refl c.loop-left.invariant.whole (let n = c.in_ok-next.ensures in omega arith) c.in_ok-add_layer.ensures;
+      whole = ones_step _ _ _ _ _ _ _ c.loop-left-test.true refl c.loop-left.invariant.whole
+          (let n = c.in_ok-next.ensures in omega arith) c.in_ok-add_layer.ensures;
     }

@@ -5,7 +5,8 @@ use Rattle.gs_grammar_compile.proofs.AddedCodes.{character_step}
 use Rattle.gs_grammar_compile.proofs.spelling_states.add_spelled.Goals as goal
 
 all_spelled : (lo hi first count least left end : ℕ) (table whole : List (List Edge)) → left ≤ 0 → first ≡ lo → count ≡ hi → end ≡ length table + 4 * hi →
-    whole ++ esc_table least left (length whole) end ≡ table ++ esc_table first count (length table) end → whole ≡ table ++ esc_table lo hi (length table) (length table + 4 * hi)
+    whole ++ esc_table least left (length whole) end ≡ table ++ esc_table first count (length table) end → whole ≡ table ++ esc_table lo hi
+    (length table) (length table + 4 * hi)
 all_spelled lo hi first count least left end table whole none f k e all =
     let left_is : left ≡ 0 = omega arith in
     sym (append-nil whole) ∙ rw (left_is, f, k, e) at all

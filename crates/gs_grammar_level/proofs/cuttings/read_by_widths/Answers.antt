@@ -24,7 +24,8 @@ pub returns-in_default-2-clause-none : goal.returns-in_default-2-clause-none
 returns-in_default-2-clause-none c =
     let item = first_item _ _ _ c.in-Some.ensures.cases.0 c.loop-item.invariant.items in
     let next = next_item _ _ _ _ _ _ _ _ c.loop-item.invariant.measures c.in-Some.ensures.cases.0 item c.loop-item.invariant.fixed in
-    no_word _ _ _ _ _ _ _ _ _ _ c.loop-item.invariant.measures c.in-Some.ensures.cases.0 next.width (rw c.width_by-width.ensures at c.split_at.ensures.front) (rw c.in_default-2.is at c.in_ok-value.ensures.none)
+    no_word _ _ _ _ _ _ _ _ _ _ c.loop-item.invariant.measures c.in-Some.ensures.cases.0 next.width
+    (rw c.width_by-width.ensures at c.split_at.ensures.front) (rw c.in_default-2.is at c.in_ok-value.ensures.none)
 
 pub loop-item-preserved : goal.loop-item-preserved
 loop-item-preserved c =
@@ -34,7 +35,8 @@ loop-item-preserved c =
     record {
       items = other_items _ _ _ c.in-Some.ensures.cases.0 c.loop-item.invariant.items;
       fixed = fixed_others _ _ _ c.in-Some.ensures.cases.0 c.loop-item.invariant.fixed;
-      measures = rw (c.in_ok-push.ensures.items, c.split_at.ensures.back, c.width_by-width.ensures) (measures_step _ _ _ _ _ _ _ _ _ _ c.loop-item.invariant.measures c.in-Some.ensures.cases.0 next.width word);
+      measures = rw (c.in_ok-push.ensures.items, c.split_at.ensures.back, c.width_by-width.ensures)
+          (measures_step _ _ _ _ _ _ _ _ _ _ c.loop-item.invariant.measures c.in-Some.ensures.cases.0 next.width word);
     }
 
 pub returns-then-not-is_empty-clause-none : goal.returns-then-not-is_empty-clause-none

@@ -11,7 +11,8 @@ pub read_group-requires-clause-begin : goal.read_group-requires-clause-begin
 read_group-requires-clause-begin c = group_begins _ _ _ _ _ _ (group_here _ _ _ c.loop-group-test.true c.group-item.is) c.loop-group.invariant
 
 pub loop-group-preserved : goal.loop-group-preserved
-loop-group-preserved c = next_group _ _ _ _ _ _ (group_here _ _ _ c.loop-group-test.true c.group-item.is) c.loop-group.invariant (rw c.in_default.is at c.in_ok-found.ensures.none)
+loop-group-preserved c = next_group _ _ _ _ _ _ (group_here _ _ _ c.loop-group-test.true c.group-item.is) c.loop-group.invariant
+    (rw c.in_default.is at c.in_ok-found.ensures.none)
 
 pub returns-clause-none : goal.returns-clause-none
 returns-clause-none c = no_group _ _ _ _ _ c.loop-group-test.false c.loop-group.invariant

@@ -10,7 +10,8 @@ loop-item-preserved c =
     let item = first_item _ _ _ c.in-Some.ensures.cases.0 c.loop-item.invariant.items in
     record {
       items = other_items _ _ _ c.in-Some.ensures.cases.0 c.loop-item.invariant.items;
-      places = places_step _ _ _ _ _ _ _ c.loop-item.invariant.places c.in-Some.ensures.cases.0 item c.size-size.ensures.size (c.has_one_length.ensures.0 c.if-not-has_one_length.false) c.in_ok-add_item.ensures;
+      places = places_step _ _ _ _ _ _ _ c.loop-item.invariant.places c.in-Some.ensures.cases.0 item c.size-size.ensures.size
+          (c.has_one_length.ensures.0 c.if-not-has_one_length.false) c.in_ok-add_item.ensures;
     }
 
 pub returns : goal.returns

@@ -37,7 +37,8 @@ loop-item-preserved c =
     let n = next_cut _ _ _ _ _ _ _ c.in-Some.ensures.cases.0 c.loop-item.invariant.ahead in
     record {
       items = other_items _ _ _ c.in-Some.ensures.cases.0 c.loop-item.invariant.items;
-      values = rw (c.in_ok-push.ensures.items, c.split_at.ensures.back) (gathers_step _ _ _ _ _ _ _ _ _ c.loop-item.invariant.values c.in-Some.ensures.cases.0 n.split (rw c.split_at.ensures.front at c.in_ok-value_of.ensures));
+      values = rw (c.in_ok-push.ensures.items, c.split_at.ensures.back)
+          (gathers_step _ _ _ _ _ _ _ _ _ c.loop-item.invariant.values c.in-Some.ensures.cases.0 n.split (rw c.split_at.ensures.front at c.in_ok-value_of.ensures));
       ahead = rw c.split_at.ensures.back n.ahead;
     }
 

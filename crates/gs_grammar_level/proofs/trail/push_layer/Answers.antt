@@ -14,7 +14,8 @@ pub edges-requires : goal.edges-requires
 edges-requires c = so_many_state _ _ _ _ _ _ _ _ c.loop-number.invariant (grind arith) c.index-entry.ensures c.requires
 
 pub loop-number-preserved : goal.loop-number-preserved
-loop-number-preserved c = so_many_step _ _ _ _ _ _ _ _ _ c.loop-number.invariant (grind arith) c.index-entry.ensures c.edges.ensures.edges c.in_ok-push_successors.ensures
+loop-number-preserved c = so_many_step _ _ _ _ _ _ _ _ _ c.loop-number.invariant
+    (grind arith) c.index-entry.ensures c.edges.ensures.edges c.in_ok-push_successors.ensures
 
 pub returns : goal.returns
 returns c = so_many_end _ _ _ _ _ _ c.loop-number.invariant (grind arith)

@@ -7,7 +7,8 @@ use Rattle.gs_http.proofs.Readings.{reads_none, reads_some}
 use Rattle.gs_http.proofs.buffer.read_more.Goals as goal
 
 -- a read that moved nothing left nothing
-none_left : (n : ℕ) (buf : List ℕ) (before after : Option (List ℕ)) → before ≡ prepend_known (take n buf) after → IfSome before (λ bytes. (n ≡ 0) ↔ (bytes ≡ [])) → n ≡ 0 → NothingLeft after
+none_left : (n : ℕ) (buf : List ℕ) (before after : Option (List ℕ)) → before ≡ prepend_known (take n buf) after
+    → IfSome before (λ bytes. (n ≡ 0) ↔ (bytes ≡ [])) → n ≡ 0 → NothingLeft after
 none_left n buf before None e h z = tt
 none_left n buf before (Some rest) e h z =
     let some = rw (e, z) at h in

@@ -19,17 +19,20 @@ returns-in-Headless-clause-turned g c =
 
 pub returns-in-Ended-clause-turned : goal.returns-in-Ended-clause-turned
 returns-in-Ended-clause-turned g c =
-    turned_with c.args.resolver.now.table c.args.resolver.now.links c.args.resolver.now.settings (Over Done) c.args.last c.args.bytes.now c.fill.new.bytes c.fill.new.bytes filled.Ended
+    turned_with c.args.resolver.now.table c.args.resolver.now.links c.args.resolver.now.settings
+    (Over Done) c.args.last c.args.bytes.now c.fill.new.bytes c.fill.new.bytes filled.Ended
     _ _ _ _ _ _ _ _ _ c.in-Ended.ensures.reads c.in-Ended.ensures.begins c.in-Ended.ensures.few c.in-Ended.ensures.unwritten.same_held refl refl (refl, refl)
 
 pub returns-in-Failed-clause-turned : goal.returns-in-Failed-clause-turned
 returns-in-Failed-clause-turned g c =
-    turned_with c.args.resolver.now.table c.args.resolver.now.links c.args.resolver.now.settings (Over ReadFault) c.args.last c.args.bytes.now c.fill.new.bytes c.fill.new.bytes filled.Failed
+    turned_with c.args.resolver.now.table c.args.resolver.now.links c.args.resolver.now.settings
+    (Over ReadFault) c.args.last c.args.bytes.now c.fill.new.bytes c.fill.new.bytes filled.Failed
     _ _ _ _ _ _ _ _ _ c.in-Failed.ensures.reads c.in-Failed.ensures.begins c.in-Failed.ensures.few c.in-Failed.ensures.unwritten.same_held refl refl (refl, refl)
 
 pub returns-in-Memory-clause-turned : goal.returns-in-Memory-clause-turned
 returns-in-Memory-clause-turned g c =
-    turned_with c.args.resolver.now.table c.args.resolver.now.links c.args.resolver.now.settings (Over Memory) c.args.last c.args.bytes.now c.fill.new.bytes c.fill.new.bytes filled.Memory
+    turned_with c.args.resolver.now.table c.args.resolver.now.links c.args.resolver.now.settings
+    (Over Memory) c.args.last c.args.bytes.now c.fill.new.bytes c.fill.new.bytes filled.Memory
     _ _ _ _ _ _ _ _ _ c.in-Memory.ensures.reads c.in-Memory.ensures.begins c.in-Memory.ensures.few c.in-Memory.ensures.unwritten.same_held refl refl (refl, refl)
 
 pub returns-in-Head-clause-turned : goal.returns-in-Head-clause-turned

@@ -13,17 +13,20 @@ loop-done-preserved g c = record {
   count = c.in-Took.ensures.count ∙ c.loop-done.invariant.count;
   unread = unread_on _ _ _ _ _ c.loop-done.invariant.unread (record { same_left = c.in-Took.ensures.same_left; same_taken = c.in-Took.ensures.same_taken });
   same_reads = c.in-Took.ensures.same_reads ∙ c.loop-done.invariant.same_reads;
-  stays_open = opens_on _ _ _ _ _ _ c.loop-done.invariant.stays_open (record { open_now = c.in-Took.ensures.stays_open; same_aside = c.in-Took.ensures.same_aside; same_ends = c.in-Took.ensures.same_ends });
+  stays_open = opens_on _ _ _ _ _ _ c.loop-done.invariant.stays_open
+      (record { open_now = c.in-Took.ensures.stays_open; same_aside = c.in-Took.ensures.same_aside; same_ends = c.in-Took.ensures.same_ends });
 }
 
 pub returns-in-Failed-clause-unread : goal.returns-in-Failed-clause-unread
-returns-in-Failed-clause-unread g c = unread_on _ _ _ _ _ c.loop-done.invariant.unread (record { same_left = c.in-Failed.ensures.same_left; same_taken = c.in-Failed.ensures.same_taken })
+returns-in-Failed-clause-unread g c = unread_on _ _ _ _ _ c.loop-done.invariant.unread
+    (record { same_left = c.in-Failed.ensures.same_left; same_taken = c.in-Failed.ensures.same_taken })
 
 pub returns-in-Failed-clause-same_reads : goal.returns-in-Failed-clause-same_reads
 returns-in-Failed-clause-same_reads g c = c.in-Failed.ensures.same_reads ∙ c.loop-done.invariant.same_reads
 
 pub returns-in-Failed-clause-stays_open : goal.returns-in-Failed-clause-stays_open
-returns-in-Failed-clause-stays_open g c = opens_on _ _ _ _ _ _ c.loop-done.invariant.stays_open (record { open_now = c.in-Failed.ensures.stays_open; same_aside = c.in-Failed.ensures.same_aside; same_ends = c.in-Failed.ensures.same_ends })
+returns-in-Failed-clause-stays_open g c = opens_on _ _ _ _ _ _ c.loop-done.invariant.stays_open
+    (record { open_now = c.in-Failed.ensures.stays_open; same_aside = c.in-Failed.ensures.same_aside; same_ends = c.in-Failed.ensures.same_ends })
 
 pub returns-in-Failed-clause-counts : goal.returns-in-Failed-clause-counts
 returns-in-Failed-clause-counts g c = omega (arith, c.loop-done.invariant.count, c.in-Failed.ensures.counts)
@@ -35,13 +38,15 @@ pub returns-in-Failed-clause-writes : goal.returns-in-Failed-clause-writes
 returns-in-Failed-clause-writes g c = (c.loop-done.done, c.in-Failed.ensures.unchanged ∙ c.loop-done.invariant.appended)
 
 pub returns-in-Memory-clause-unread : goal.returns-in-Memory-clause-unread
-returns-in-Memory-clause-unread g c = unread_on _ _ _ _ _ c.loop-done.invariant.unread (record { same_left = c.in-Memory.ensures.same_left; same_taken = c.in-Memory.ensures.same_taken })
+returns-in-Memory-clause-unread g c = unread_on _ _ _ _ _ c.loop-done.invariant.unread
+    (record { same_left = c.in-Memory.ensures.same_left; same_taken = c.in-Memory.ensures.same_taken })
 
 pub returns-in-Memory-clause-same_reads : goal.returns-in-Memory-clause-same_reads
 returns-in-Memory-clause-same_reads g c = c.in-Memory.ensures.same_reads ∙ c.loop-done.invariant.same_reads
 
 pub returns-in-Memory-clause-stays_open : goal.returns-in-Memory-clause-stays_open
-returns-in-Memory-clause-stays_open g c = opens_on _ _ _ _ _ _ c.loop-done.invariant.stays_open (record { open_now = c.in-Memory.ensures.stays_open; same_aside = c.in-Memory.ensures.same_aside; same_ends = c.in-Memory.ensures.same_ends })
+returns-in-Memory-clause-stays_open g c = opens_on _ _ _ _ _ _ c.loop-done.invariant.stays_open
+    (record { open_now = c.in-Memory.ensures.stays_open; same_aside = c.in-Memory.ensures.same_aside; same_ends = c.in-Memory.ensures.same_ends })
 
 pub returns-in-Memory-clause-counts : goal.returns-in-Memory-clause-counts
 returns-in-Memory-clause-counts g c = omega (arith, c.loop-done.invariant.count, c.in-Memory.ensures.counts)

@@ -6,4 +6,5 @@ use Rattle.gs_http.specs.SaidFields.{members_left}
 use Rattle.gs_http.proofs.fields.has_close.Goals as goal
 
 pub returns : goal.returns
-returns c = any_from_yields_List is_close c.any.new.self _ c.any.result c.any.ensures.ran (YieldsList-from_first (λ x. x.now) members_left _ c.of.ensures) (λ x b q k. search (rules, tests))
+returns c = any_from_yields_List is_close c.any.new.self _ c.any.result c.any.ensures.ran
+    (YieldsList-from_first (λ x. x.now) members_left _ c.of.ensures) (λ x b q k. search (rules, tests))

@@ -7,7 +7,8 @@ use Rattle.gs_http.specs.Replies.{body_of, close_field, length_field, line, own_
 use Rattle.gs_http.proofs.replies.reply_bytes.Goals as goal
 
 -- the end of the head is the close field and an empty line
-ends : (head_only close : Bool) (answer : Answer) (len end last : List ℕ) → len ≡ length_field (length (body_of answer)) → end ≡ close_field close ++ line [] → last ≡ (if head_only then [] else body_of answer)
+ends : (head_only close : Bool) (answer : Answer) (len end last : List ℕ) → len ≡ length_field (length (body_of answer))
+    → end ≡ close_field close ++ line [] → last ≡ (if head_only then [] else body_of answer)
     → (((line (codes "HTTP/1.1 " ++ status_of answer) ++ own_field answer) ++ len) ++ end) ++ last ≡ reply_bytes head_only close answer
 unfolding reply_bytes
 ends head_only close answer len end last h i j = rw (h, i, j)

@@ -1,9 +1,9 @@
 use Rattle.std.proofs.Common.{◌≡◌, Some, slice_get}
-use Rattle.gs_ai.proofs.Searches.{find_read}
 use Rattle.gs_ai.specs.Values.{has_code}
 use Rattle.gs_chars.proofs.TruthsAndLists.{read_at}
 use Rattle.gs_ident.proofs.MovedPairs.{row_distinct}
 use Rattle.gs_ident.proofs.maker.listed_codes.Goals as goal
+use Rattle.gs_chars.proofs.Searches.{find_read}
 
 pub returns-clause-codes : goal.returns-clause-codes
 returns-clause-codes c = λ key of_row.

@@ -11,7 +11,8 @@ use Rattle.gs_ident.proofs.IdentityLemmas.{made_with}
 use Rattle.gs_ident.proofs.maker.make.Goals as goal
 
 -- the elements of the only key of the pairs that count are the identity of the pairs
-answered : (table : List AiRow) (given pairs : List Pair) (place : KeyPlace) (identity : Elements) → pairs ≡ counted table given → HasOnlyKey table pairs place → HasElements table pairs place.pair identity → identity_of_pairs table given ≡ Ok identity
+answered : (table : List AiRow) (given pairs : List Pair) (place : KeyPlace) (identity : Elements) → pairs ≡ counted table given
+    → HasOnlyKey table pairs place → HasElements table pairs place.pair identity → identity_of_pairs table given ≡ Ok identity
 answered table given pairs place identity same key has =
     ap (identity_of_counted table) (sym same) ∙ key.only key.first.0 key.first.1 ∙ sym (ap (λ (e : Elements). Ok e) (has key.first.0 key.first.1))
 

@@ -37,4 +37,5 @@ returns c = λ before at a.
     let text = by_row table c.args.pair.now c.args.row c.index-rows-row.result c.requires (rw c.rows.ensures.rows at c.index-rows-row.is) in
     let none = rw c.as_bytes.ensures at c.or_none_text-with_none.ensures in
     let is_key = sym (c.is_key_row.ensures c.args.pair.now.code c.requires) ∙ c.if-not-is_key_row.false in
-    with_other_key table before c.args.pair.now c.args.keys c.in-Some.first _ _ c.args.place c.args.row c.in-Some.is (no_place c.is_some.result c.args.keys.other c.is_some.ensures c.if-is_some.false) c.if-first-row.false is_key at c.requires text none a
+    with_other_key table before c.args.pair.now c.args.keys c.in-Some.first _ _ c.args.place c.args.row c.in-Some.is
+    (no_place c.is_some.result c.args.keys.other c.is_some.ensures c.if-is_some.false) c.if-first-row.false is_key at c.requires text none a

@@ -21,4 +21,5 @@ pub returns-clause-written : goal.returns-clause-written
 returns-clause-written c = rw (take_all c.loop-pair.pair-index c.args.pairs.now c.loop-pair-test.false) at c.loop-pair.invariant
 
 pub returns-in_err-write_pair-clause-begun : goal.returns-in_err-write_pair-clause-begun
-returns-in_err-write_pair-clause-begun c = on_err c.from_residual.result _ (begins_after _ _ _ c.in_err-write_pair.ensures.begun (begins_more _ _ _ c.loop-pair.invariant))
+returns-in_err-write_pair-clause-begun c = on_err c.from_residual.result _
+    (begins_after _ _ _ c.in_err-write_pair.ensures.begun (begins_more _ _ _ c.loop-pair.invariant))

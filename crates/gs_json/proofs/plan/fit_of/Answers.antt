@@ -16,5 +16,6 @@ pub returns-in-Some-as_array : goal.returns-in-Some-as_array
 returns-in-Some-as_array c = λ place.
     ap (λ sort. first_error (sort_errors place sort (view c.args.value.now))) c.in-Arrays.is
     ∙ items_fit place is_array _ _ c.in-Some-as_array.ensures
-    ∙ ap (λ items. fit_answer place (fit_but (slice_get (failing_from 0 is_array (items_list (items_view items))) 0))) (sym c.as_slice-in-Some-as_array.ensures.value)
+    ∙ ap (λ items. fit_answer place (fit_but (slice_get (failing_from 0 is_array (items_list (items_view items))) 0)))
+    (sym c.as_slice-in-Some-as_array.ensures.value)
     ∙ ap (λ failing. fit_answer place (fit_but failing)) (sym c.first_no_array.ensures) ∙ ap (fit_answer place) (sym c.all_but-in-Some-as_array.ensures)

@@ -46,7 +46,8 @@ read_items-returns-clause-ok t c =
     let l = c.items in
     let n = l.invariant.0 in
     let r = c.take_end_array.new.self in
-    l.invariant.2 ∙ ap (parse_map (items_before l.found.items)) (items_over p n l.reader r l.invariant.1 (grind arith)) ∙ ap (λ ds. Some (ds, r)) (items_before-no_items l.found.items)
+    l.invariant.2 ∙ ap (parse_map (items_before l.found.items)) (items_over p n l.reader r l.invariant.1 (grind arith)) ∙ ap
+    (λ ds. Some (ds, r)) (items_before-no_items l.found.items)
 
 pub read_members-returns-in_default-clause-syntax : goal.read_members-returns-in_default-clause-syntax
 read_members-returns-in_default-clause-syntax t c refused =
@@ -112,30 +113,36 @@ module _ (depth : ℕ) (ts rest : List Token) where
   numbered : (s : List ℕ) → ts ≡ Token.number s ∷ rest → converted of_json (value depth ts) ≡ option_map (λ d. (d, rest)) (of_json (json.number s))
   numbered s is = ap (converted of_json) (ap (value depth) is ∙ value_is depth (Token.number s ∷ rest))
 
-  number_read : (s : List ℕ) (r : Result Value JsonFault) → ts ≡ Token.number s ∷ rest → IfOk r (λ v. of_json (json.number s) ≡ Some (view v)) → IfOk r (λ v. converted of_json (value depth ts) ≡ Some (view v, rest))
+  number_read : (s : List ℕ) (r : Result Value JsonFault) → ts ≡ Token.number s ∷ rest
+      → IfOk r (λ v. of_json (json.number s) ≡ Some (view v)) → IfOk r (λ v. converted of_json (value depth ts) ≡ Some (view v, rest))
   number_read s (Ok v) is h = numbered s is ∙ ap (option_map (λ d. (d, rest))) h
   number_read s (Err e) is h = tt
 
 pub value_from-returns-in_err-read_items-in-BeginArray-clause-syntax : goal.value_from-returns-in_err-read_items-in-BeginArray-clause-syntax
 value_from-returns-in_err-read_items-in-BeginArray-clause-syntax t c refused =
-    array_opened c.args.depth _ c.args.reader.now (ap (λ k. token_of k ∷ c.args.reader.now) c.in-BeginArray.is) (omega arith) ∙ ap (parse_map array) (c.read_items.ensures.syntax (grind arith))
+    array_opened c.args.depth _ c.args.reader.now (ap (λ k. token_of k ∷ c.args.reader.now) c.in-BeginArray.is) (omega arith) ∙ ap
+    (parse_map array) (c.read_items.ensures.syntax (grind arith))
 
 pub value_from-returns-in_err-read_members-in-BeginObject-clause-syntax : goal.value_from-returns-in_err-read_members-in-BeginObject-clause-syntax
 value_from-returns-in_err-read_members-in-BeginObject-clause-syntax t c refused =
-    object_opened c.args.depth _ c.args.reader.now (ap (λ k. token_of k ∷ c.args.reader.now) c.in-BeginObject.is) (omega arith) ∙ ap (parse_map object) (c.read_members.ensures.syntax (grind arith))
+    object_opened c.args.depth _ c.args.reader.now (ap (λ k. token_of k ∷ c.args.reader.now) c.in-BeginObject.is) (omega arith) ∙ ap
+    (parse_map object) (c.read_members.ensures.syntax (grind arith))
 
 pub value_from-returns-in_ok-text_value-in-String-clause-ok : goal.value_from-returns-in_ok-text_value-in-String-clause-ok
 value_from-returns-in_ok-text_value-in-String-clause-ok t c =
     let is = ap (λ k. token_of k ∷ c.args.reader.now) c.in-String.is in
-    ap (converted of_json) (ap (value c.args.depth) is ∙ value_is c.args.depth _) ∙ ap (λ d. Some (d, c.args.reader.now)) (sym c.in_ok-text_value-in-String.ensures)
+    ap (converted of_json) (ap (value c.args.depth) is ∙ value_is c.args.depth _) ∙ ap (λ d. Some (d, c.args.reader.now))
+    (sym c.in_ok-text_value-in-String.ensures)
 
 pub value_from-returns-in-Number-clause-ok : goal.value_from-returns-in-Number-clause-ok
 value_from-returns-in-Number-clause-ok t c =
-    number_read c.args.depth _ c.args.reader.now c.in-Number.text.now c.number_value.result (ap (λ k. token_of k ∷ c.args.reader.now) c.in-Number.is) c.number_value.ensures.ok
+    number_read c.args.depth _ c.args.reader.now c.in-Number.text.now c.number_value.result
+    (ap (λ k. token_of k ∷ c.args.reader.now) c.in-Number.is) c.number_value.ensures.ok
 
 pub value_from-returns-in-Number-clause-syntax : goal.value_from-returns-in-Number-clause-syntax
 value_from-returns-in-Number-clause-syntax t c refused =
-    numbered c.args.depth _ c.args.reader.now c.in-Number.text.now (ap (λ k. token_of k ∷ c.args.reader.now) c.in-Number.is) ∙ ap (option_map (λ d. (d, c.args.reader.now))) (c.number_value.ensures.syntax refused)
+    numbered c.args.depth _ c.args.reader.now c.in-Number.text.now (ap (λ k. token_of k ∷ c.args.reader.now) c.in-Number.is) ∙ ap
+    (option_map (λ d. (d, c.args.reader.now))) (c.number_value.ensures.syntax refused)
 
 pub value_from-returns-in-Bool-clause-ok : goal.value_from-returns-in-Bool-clause-ok
 value_from-returns-in-Bool-clause-ok t c =
@@ -157,9 +164,11 @@ value_from-returns-in-EndObject-clause-syntax t c refused =
 pub value_from-returns-in_ok-read_items-in-BeginArray-clause-ok : goal.value_from-returns-in_ok-read_items-in-BeginArray-clause-ok
 value_from-returns-in_ok-read_items-in-BeginArray-clause-ok t c =
     let found = c.in_ok-read_items-in-BeginArray in
-    array_opened c.args.depth _ c.args.reader.now (ap (λ k. token_of k ∷ c.args.reader.now) c.in-BeginArray.is) (omega arith) ∙ ap (parse_map array) found.ensures.ok ∙ ap (λ d. Some (d, c.read_items.new.reader)) (sym (view-Array found.field-0))
+    array_opened c.args.depth _ c.args.reader.now (ap (λ k. token_of k ∷ c.args.reader.now) c.in-BeginArray.is) (omega arith) ∙ ap
+    (parse_map array) found.ensures.ok ∙ ap (λ d. Some (d, c.read_items.new.reader)) (sym (view-Array found.field-0))
 
 pub value_from-returns-in_ok-read_members-in-BeginObject-clause-ok : goal.value_from-returns-in_ok-read_members-in-BeginObject-clause-ok
 value_from-returns-in_ok-read_members-in-BeginObject-clause-ok t c =
     let found = c.in_ok-read_members-in-BeginObject in
-    object_opened c.args.depth _ c.args.reader.now (ap (λ k. token_of k ∷ c.args.reader.now) c.in-BeginObject.is) (omega arith) ∙ ap (parse_map object) found.ensures.ok ∙ ap (λ d. Some (d, c.read_members.new.reader)) (sym (view-Object found.field-0))
+    object_opened c.args.depth _ c.args.reader.now (ap (λ k. token_of k ∷ c.args.reader.now) c.in-BeginObject.is) (omega arith) ∙ ap
+    (parse_map object) found.ensures.ok ∙ ap (λ d. Some (d, c.read_members.new.reader)) (sym (view-Object found.field-0))

@@ -4,7 +4,8 @@ use Rattle.gs_links.proofs.LoadLemmas.{identity_is, made_kept, no_identity, no_l
 use Rattle.gs_links.proofs.anchors.read_anchor.Goals as goal
 
 pub returns-in-Err-clause-answer : goal.returns-in-Err-clause-answer
-returns-in-Err-clause-answer c = ap Err c.in_ok-no_link-in-Err.ensures.0 ∙ no_link c.args.table.now c.args.text.now c.in-Err.error (c.in-Err.ensures.error c.in_ok-no_link-in-Err.ensures.1)
+returns-in-Err-clause-answer c = ap Err c.in_ok-no_link-in-Err.ensures.0 ∙ no_link c.args.table.now c.args.text.now c.in-Err.error
+    (c.in-Err.ensures.error c.in_ok-no_link-in-Err.ensures.1)
 
 pub returns-in-Ok-make-clause-answer : goal.returns-in-Ok-make-clause-answer
 returns-in-Ok-make-clause-answer c = c.without_attributes.ensures.answer ∙ identity_is c.args.table.now c.args.text.now _ c.in-Ok-make.identity c.in-Ok.ensures.pairs c.in-Ok-make.ensures.made

@@ -9,11 +9,13 @@ returns-then-pairs-first c = too_few c.args.first.now c.args.pairs.now c.if-pair
 pub loop-i-preserved : goal.loop-i-preserved
 loop-i-preserved c =
     let within : c.loop-i.i < length c.args.pairs.now = omega (arith, c.if-pairs-first.false, c.loop-i-test.true) in
-    first_more c.args.first.now c.args.pairs.now c.loop-i.i c.index-first-i.result c.index-pairs-i.result (read_at c.args.first.now c.loop-i.i c.index-first-i.result c.loop-i-test.true c.index-first-i.is)
+    first_more c.args.first.now c.args.pairs.now c.loop-i.i c.index-first-i.result c.index-pairs-i.result
+    (read_at c.args.first.now c.loop-i.i c.index-first-i.result c.loop-i-test.true c.index-first-i.is)
     (read_at c.args.pairs.now c.loop-i.i c.index-pairs-i.result within c.index-pairs-i.is) (sym c.if-is_same.ensures) c.loop-i.invariant
 
 pub returns-in-loop-i : goal.returns-in-loop-i
 returns-in-loop-i c =
     let within : c.loop-i.i < length c.args.pairs.now = omega (arith, c.if-pairs-first.false, c.loop-i-test.true) in
-    first_stops c.args.first.now c.args.pairs.now c.loop-i.i c.index-first-i.result c.index-pairs-i.result (read_at c.args.first.now c.loop-i.i c.index-first-i.result c.loop-i-test.true c.index-first-i.is)
+    first_stops c.args.first.now c.args.pairs.now c.loop-i.i c.index-first-i.result c.index-pairs-i.result
+    (read_at c.args.first.now c.loop-i.i c.index-first-i.result c.loop-i-test.true c.index-first-i.is)
     (read_at c.args.pairs.now c.loop-i.i c.index-pairs-i.result within c.index-pairs-i.is) (sym c.if-is_same.ensures)

@@ -10,4 +10,5 @@ loop-k-preserved c =
     let range = c.index-ranges-k.result in
     let at = read_at c.args.ranges.now c.loop-k.k range c.loop-k-test.true c.index-ranges-k.is in
     let hashed = c.hash_of.ensures ∙ ap (λ text. hash_with 14695981039346656037 (lowered text)) c.as_bytes.ensures in
-    marked_more c.loop-k.marks c.put_mark.new.marks c.args.ranges.now c.loop-k.k range at c.put_mark.ensures.lower (put_place c.put_mark.new.marks range c.hash_of.result c.loop-k.k hashed c.put_mark.ensures.put) c.loop-k.invariant
+    marked_more c.loop-k.marks c.put_mark.new.marks c.args.ranges.now c.loop-k.k range at c.put_mark.ensures.lower
+    (put_place c.put_mark.new.marks range c.hash_of.result c.loop-k.k hashed c.put_mark.ensures.put) c.loop-k.invariant

@@ -10,7 +10,8 @@ unexpanded voc name own is other = let e = rw is at other in rw e refl
 pub returns-in-None : goal.returns-in-None
 returns-in-None c = unexpanded c.args.voc.now c.args.name c.as_bytes.result.now c.as_bytes.ensures (search rules)
 
-opened : (voc name own rest relation text : List ℕ) → own ≡ name → starts_with (λ a b. a == b) own (codes "gs1:") ≡ true → rest ≡ drop 4 own → relation ≡ voc → text ≡ relation ++ rest → text ≡ expanded voc name
+opened : (voc name own rest relation text : List ℕ) → own ≡ name → starts_with (λ a b. a == b) own (codes "gs1:") ≡ true → rest ≡ drop 4 own
+    → relation ≡ voc → text ≡ relation ++ rest → text ≡ expanded voc name
 unfolding expanded
 opened voc name own rest relation text is front behind base e =
     let f = rw is at front in
@@ -19,5 +20,6 @@ opened voc name own rest relation text is front behind base e =
 
 pub returns-in_ok-extend_from_slice-in-Some : goal.returns-in_ok-extend_from_slice-in-Some
 returns-in_ok-extend_from_slice-in-Some c =
-    opened c.args.voc.now c.args.name c.as_bytes.result.now c.in-Some.rest.now _ _ c.as_bytes.ensures (search rules) c.in-Some.ensures.cases.1 c.in_ok-relation-in-Some.ensures.items
+    opened c.args.voc.now c.args.name c.as_bytes.result.now c.in-Some.rest.now _ _ c.as_bytes.ensures
+    (search rules) c.in-Some.ensures.cases.1 c.in_ok-relation-in-Some.ensures.items
     (c.from_vec.ensures ∙ c.in_ok-extend_from_slice-in-Some.ensures.items)

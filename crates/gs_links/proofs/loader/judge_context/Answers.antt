@@ -4,7 +4,8 @@ use Rattle.gs_links.proofs.LoadLemmas.{bad_anchor, bad_relations, no_attributes,
 use Rattle.gs_links.proofs.loader.judge_context.Goals as goal
 
 pub of-requires : goal.of-requires
-of-requires c = no_attributes c.args.table.now c.args.context.now.anchor c.in-Ok.anchor (sym c.in-Ok.is ∙ rw c.as_bytes.ensures at c.in_ok-anchor.ensures.answer)
+of-requires c = no_attributes c.args.table.now c.args.context.now.anchor c.in-Ok.anchor
+    (sym c.in-Ok.is ∙ rw c.as_bytes.ensures at c.in_ok-anchor.ensures.answer)
 
 pub returns-in-Err-clause-rejected : goal.returns-in-Err-clause-rejected
 returns-in-Err-clause-rejected c =

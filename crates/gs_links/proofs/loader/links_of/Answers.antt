@@ -14,7 +14,8 @@ push_context-requires-clause-shape c =
     let made = c.into_iter-context-iterator.ensures.into_iter_gives in
     let whole = c.into_vec-context-items.result.ok in
     let t = YieldsList-turn (YieldsList-from_vec {s = c.into_iter-context-iterator.result} c.args.contexts (cc) (cc)) c.loop-context.yielded c.loop-context.context-iterator c.loop-context.yielded_by c.next.result c.next.new.self c.in-Some.context c.in-Some.is c.next.ensures.steps in
-    true_at is_context c.args.contexts (length c.loop-context.yielded) c.in-Some.context c.requires.shape (read_at c.args.contexts (length c.loop-context.yielded) c.in-Some.context t.0 t.1)
+    true_at is_context c.args.contexts (length c.loop-context.yielded) c.in-Some.context c.requires.shape
+    (read_at c.args.contexts (length c.loop-context.yielded) c.in-Some.context t.0 t.1)
 
 pub returns-in_err-push_context-clause-answer : goal.returns-in_err-push_context-clause-answer
 returns-in_err-push_context-clause-answer c =

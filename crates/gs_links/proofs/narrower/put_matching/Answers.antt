@@ -33,7 +33,8 @@ loop-k-preserved c =
 
 pub returns-clause-count : goal.returns-clause-count
 returns-clause-count c =
-    c.loop-k.invariant.1 ∙ ap (λ ks. length (passing c.args.links.now (matches c.args.range.now) ks)) (take_all c.loop-k.k c.args.numbers.now c.loop-k-test.false)
+    c.loop-k.invariant.1 ∙ ap (λ ks. length (passing c.args.links.now (matches c.args.range.now) ks))
+    (take_all c.loop-k.k c.args.numbers.now c.loop-k-test.false)
 
 pub returns-clause-numbers : goal.returns-clause-numbers
 returns-clause-numbers c =

@@ -19,7 +19,8 @@ items-preserved c =
     let r = c.read_value.new.reader in
     let going : (after_end_array l.reader ≡ None) × (c.take_end_array.new.self ≡ l.reader) = grind arith in
     let less : length r < length l.reader = rw (← going.1) c.in_ok-item.ensures.shorter in
-    item_next c.args.depth c.args.reader.now l.reader r l.contexts l.invariant c.add.new.self (view c.in_ok-item.item) going.0 (rw (← going.1) c.in_ok-item.ensures.ok) less c.in_ok-add.ensures
+    item_next c.args.depth c.args.reader.now l.reader r l.contexts l.invariant c.add.new.self (view c.in_ok-item.item) going.0
+    (rw (← going.1) c.in_ok-item.ensures.ok) less c.in_ok-add.ensures
 
 pub items-preserved-in_ok-add : goal.items-preserved-in_ok-add
 items-preserved-in_ok-add c =
@@ -27,7 +28,8 @@ items-preserved-in_ok-add c =
     let r = c.read_value.new.reader in
     let going : (after_end_array l.reader ≡ None) × (c.take_end_array.new.self ≡ l.reader) = grind arith in
     let less : length r < length l.reader = rw (← going.1) c.in_ok-item.ensures.shorter in
-    item_next c.args.depth c.args.reader.now l.reader r l.contexts l.invariant c.add.new.self (view c.in_ok-item.item) going.0 (rw (← going.1) c.in_ok-item.ensures.ok) less c.in_ok-add.ensures
+    item_next c.args.depth c.args.reader.now l.reader r l.contexts l.invariant c.add.new.self (view c.in_ok-item.item) going.0
+    (rw (← going.1) c.in_ok-item.ensures.ok) less c.in_ok-add.ensures
 
 pub items-preserved-in_ok-add-2 : goal.items-preserved-in_ok-add-2
 items-preserved-in_ok-add-2 c =
@@ -35,7 +37,8 @@ items-preserved-in_ok-add-2 c =
     let r = c.read_value.new.reader in
     let going : (after_end_array l.reader ≡ None) × (c.take_end_array.new.self ≡ l.reader) = grind arith in
     let less : length r < length l.reader = rw (← going.1) c.in_ok-item.ensures.shorter in
-    item_next c.args.depth c.args.reader.now l.reader r l.contexts l.invariant c.add.new.self (view c.in_ok-item.item) going.0 (rw (← going.1) c.in_ok-item.ensures.ok) less c.in_ok-add.ensures
+    item_next c.args.depth c.args.reader.now l.reader r l.contexts l.invariant c.add.new.self (view c.in_ok-item.item) going.0
+    (rw (← going.1) c.in_ok-item.ensures.ok) less c.in_ok-add.ensures
 
 pub items-preserved-in_ok-add-3 : goal.items-preserved-in_ok-add-3
 items-preserved-in_ok-add-3 c =
@@ -43,7 +46,8 @@ items-preserved-in_ok-add-3 c =
     let r = c.read_value.new.reader in
     let going : (after_end_array l.reader ≡ None) × (c.take_end_array.new.self ≡ l.reader) = grind arith in
     let less : length r < length l.reader = rw (← going.1) c.in_ok-item.ensures.shorter in
-    item_next c.args.depth c.args.reader.now l.reader r l.contexts l.invariant c.add.new.self (view c.in_ok-item.item) going.0 (rw (← going.1) c.in_ok-item.ensures.ok) less c.in_ok-add.ensures
+    item_next c.args.depth c.args.reader.now l.reader r l.contexts l.invariant c.add.new.self (view c.in_ok-item.item) going.0
+    (rw (← going.1) c.in_ok-item.ensures.ok) less c.in_ok-add.ensures
 
 pub returns-clause-ok : goal.returns-clause-ok
 returns-clause-ok c =

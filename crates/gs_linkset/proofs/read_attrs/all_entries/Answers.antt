@@ -12,8 +12,10 @@ returns-in_default-clause-entries g c =
 
 pub loop-item-preserved : goal.loop-item-preserved
 loop-item-preserved g c = (
-  every_more g.T.ReadEntry.known (map view c.args.items.now) c.loop-item.item-index (view c.item-item.result) c.loop-item.entries.items c.in-Some.entry c.push.new.self.items
-      (viewed_at c.args.items.now c.loop-item.item-index c.item-item.result c.loop-item-test.true c.item-item.is) c.loop-item.invariant.0 (sym c.in-Some.is ∙ c.in_ok-entry.ensures.known) c.in_ok-push.ensures.items,
+  every_more g.T.ReadEntry.known (map view c.args.items.now) c.loop-item.item-index
+      (view c.item-item.result) c.loop-item.entries.items c.in-Some.entry c.push.new.self.items
+      (viewed_at c.args.items.now c.loop-item.item-index c.item-item.result c.loop-item-test.true c.item-item.is) c.loop-item.invariant.0
+      (sym c.in-Some.is ∙ c.in_ok-entry.ensures.known) c.in_ok-push.ensures.items,
   rw c.in_ok-push.ensures.items (all_more g.T.Shaped.shape c.loop-item.entries.items c.in-Some.entry c.loop-item.invariant.1 (rw c.in-Some.is at c.in_ok-entry.ensures.shape)),
 )
 

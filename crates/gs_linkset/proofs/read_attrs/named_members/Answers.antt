@@ -18,7 +18,9 @@ returns-in_err-read-clause-answer g c =
 pub loop-i-preserved : goal.loop-i-preserved
 loop-i-preserved g c =
     let low : c.loop-i.i < length c.args.names.now = omega (arith, c.loop-i-test.true) in
-    member_kept (g.M.ReadMember.errors c.args.object.now.place (view c.args.object.now.tree)) (g.M.ReadMember.made (view c.args.object.now.tree)) g.M.Shaped.shape (map (λ name. name.now) c.args.names.now) c.loop-i.all.items c.loop-i.i _ c.in_ok-read.read c.push_some.new.items.items c.loop-i.invariant
+    member_kept (g.M.ReadMember.errors c.args.object.now.place (view c.args.object.now.tree))
+    (g.M.ReadMember.made (view c.args.object.now.tree)) g.M.Shaped.shape
+    (map (λ name. name.now) c.args.names.now) c.loop-i.all.items c.loop-i.i _ c.in_ok-read.read c.push_some.new.items.items c.loop-i.invariant
     (name_read c.args.names.now c.loop-i.i _ low) c.in_ok-read.ensures.answer c.in_ok-read.ensures.shape c.in_ok-push_some.ensures
 
 pub returns-clause-answer : goal.returns-clause-answer

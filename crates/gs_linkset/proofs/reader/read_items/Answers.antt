@@ -13,7 +13,8 @@ returns-in_err-item-clause-answer g c =
 
 pub loop-i-preserved : goal.loop-i-preserved
 loop-i-preserved g c = (
-  array_read g.T.ReadItem.errors g.T.ReadItem.made c.args.array.now.place (view c.args.array.now.tree) c.loop-i.items.items c.loop-i.i c.in_ok-item.item c.push.new.items.items c.loop-i.invariant.0 c.in_ok-item.ensures.answer c.in_ok-push.ensures,
+  array_read g.T.ReadItem.errors g.T.ReadItem.made c.args.array.now.place
+      (view c.args.array.now.tree) c.loop-i.items.items c.loop-i.i c.in_ok-item.item c.push.new.items.items c.loop-i.invariant.0 c.in_ok-item.ensures.answer c.in_ok-push.ensures,
   rw c.in_ok-push.ensures (all_more g.T.Shaped.shape c.loop-i.items.items c.in_ok-item.item c.loop-i.invariant.1 c.in_ok-item.ensures.shape),
 )
 
@@ -22,6 +23,3 @@ returns-clause-answer g c =
     let size = items_length (view c.args.array.now.tree) ∙ sym c.requires in
     let few : length (items_of (view c.args.array.now.tree)) ≤ c.loop-i.i = rw size (omega (arith, c.loop-i-test.false)) in
     rw c.from_vec.ensures (items_read g.T.ReadItem.errors g.T.ReadItem.made c.args.array.now.place (items_of (view c.args.array.now.tree)) c.loop-i.items.items c.loop-i.i c.loop-i.invariant.0 few)
-
-pub returns-clause-shape : goal.returns-clause-shape
-returns-clause-shape g c = rw c.from_vec.ensures c.loop-i.invariant.1

@@ -6,4 +6,5 @@ use Rattle.gs_linkset.proofs.ReadLemmas.{SoFar}
 use Rattle.gs_linkset.proofs.reader.read_items.Given as goal
 
 abbrev pub invariant-loop-i : goal.invariant-loop-i
-invariant-loop-i g l = SoFar g.T.ReadItem.errors g.T.ReadItem.made l.array.place (items_of (view l.array.tree)) l.items.items l.i × (list_all g.T.Shaped.shape l.items.items ≡ true)
+invariant-loop-i g l = SoFar g.T.ReadItem.errors g.T.ReadItem.made l.array.place
+    (items_of (view l.array.tree)) l.items.items l.i × (list_all g.T.Shaped.shape l.items.items ≡ true)

@@ -1,12 +1,6 @@
 use Rattle.std.proofs.lemmas.Result.{on_ok_weaker}
-use Rattle.gs_linkset.proofs.TokenLemmas.{adds_five, all_drop, all_take, object_tokens}
+use Rattle.gs_linkset.proofs.TokenLemmas.{adds_five, object_tokens}
 use Rattle.gs_linkset.proofs.writer.put_object.Goals as goal
-
-pub put_members-requires : goal.put_members-requires
-put_members-requires g c = rw c.split_at.ensures.front (all_take g.T.ToJson.shape c.count_below.result c.args.things.now c.requires.shape)
-
-pub put_members-requires-2 : goal.put_members-requires-2
-put_members-requires-2 g c = rw c.split_at.ensures.back (all_drop g.T.ToJson.shape c.count_below.result c.args.things.now c.requires.shape)
 
 pub returns : goal.returns
 returns g c =

@@ -6,7 +6,8 @@ use Rattle.gs_linktext.proofs.cuts.with_link.Goals as goal
 pub returns-then-eq : goal.returns-then-eq
 returns-then-eq c =
     more_target c.args.context (record { anchor = c.args.context.anchor; relations = c.from_vec-relations-then-eq.result }) c.args.name.now c.args.target c.pop.new.self.items c.in-Some.last c.in_ok-with_target.field-0 refl (sym c.into_vec-relations.ensures ∙ c.in-Some.ensures.items)
-    (equal_name _ _ _ c.if-eq.ensures c.as_bytes.ensures) c.in_ok-with_target.ensures.name c.in_ok-with_target.ensures.targets (c.from_vec-relations-then-eq.ensures ∙ c.in_ok-push-2.ensures.items)
+    (equal_name _ _ _ c.if-eq.ensures c.as_bytes.ensures) c.in_ok-with_target.ensures.name c.in_ok-with_target.ensures.targets
+    (c.from_vec-relations-then-eq.ensures ∙ c.in_ok-push-2.ensures.items)
 
 pub returns : goal.returns
 returns c =

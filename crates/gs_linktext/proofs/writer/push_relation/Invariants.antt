@@ -3,4 +3,5 @@ use Rattle.gs_linktext.specs.Lent.{seen}
 use Rattle.gs_linktext.proofs.writer.push_relation.Given as goal
 
 abbrev pub invariant-loop-target : goal.invariant-loop-target
-invariant-loop-target l = map seen l.links.items ≡ map seen l.fn.links.items ++ map (λ target. (l.anchor, l.relation.name, target)) (take l.target-index l.relation.targets)
+invariant-loop-target l = map seen l.links.items ≡ map seen l.fn.links.items ++ map (λ target. (l.anchor, l.relation.name, target))
+    (take l.target-index l.relation.targets)

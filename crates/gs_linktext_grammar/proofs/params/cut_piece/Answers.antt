@@ -6,7 +6,8 @@ use Rattle.gs_linktext_grammar.proofs.params.cut_piece.Goals as goal
 pub returns-then-is_empty-clause-ok : goal.returns-then-is_empty-clause-ok
 returns-then-is_empty-clause-ok c =
     let h = c.loop-behind.invariant.0 in
-    piece_ends c.loop-behind.lexemes.items c.args.text.now c.loop-behind.rest.now h.0 h.1 (nothing _ _ c.if-is_empty.ensures c.after_blanks-behind.ensures.value)
+    piece_ends c.loop-behind.lexemes.items c.args.text.now c.loop-behind.rest.now h.0 h.1
+    (nothing _ _ c.if-is_empty.ensures c.after_blanks-behind.ensures.value)
 
 pub returns-in_err-next-clause-err : goal.returns-in_err-next-clause-err
 returns-in_err-next-clause-err c =

@@ -11,5 +11,7 @@ returns-in_err-push_param-clause-err c =
 
 pub loop-part-preserved : goal.loop-part-preserved
 loop-part-preserved c =
-    parts_step param_of (map (λ part. part.now) c.args.parts.now) c.loop-part.part-index c.part-item.result.now (params_of (map (λ part. part.now) c.args.parts.now)) c.loop-part.params.items c.push_param.new.params.items (borrowed_at c.args.parts.now c.loop-part.part-index c.part-item.result c.loop-part-test.true c.part-item.is) c.loop-part.invariant
+    parts_step param_of (map (λ part. part.now) c.args.parts.now) c.loop-part.part-index c.part-item.result.now
+    (params_of (map (λ part. part.now) c.args.parts.now)) c.loop-part.params.items c.push_param.new.params.items
+    (borrowed_at c.args.parts.now c.loop-part.part-index c.part-item.result c.loop-part-test.true c.part-item.is) c.loop-part.invariant
     c.in_ok-push_param.ensures.ok

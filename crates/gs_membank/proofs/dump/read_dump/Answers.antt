@@ -16,7 +16,8 @@ pub unreachable-requires : goal.unreachable-requires
 unreachable-requires c = never_hex c.args.set.now c.args.text.now c.split_at.result.1.now c.in_ok-word.word c.in-Err-Hex.field-0 c.in-Err-Hex.field-0-0 c.in_ok-word.ensures.word c.split_at.ensures.back c.in-Err-Hex.field-0-is c.in-Err-Hex.ensures.answer
 
 pub returns-in-Ok-clause-answer : goal.returns-in-Ok-clause-answer
-returns-in-Ok-clause-answer c = bank_read c.args.set.now c.args.text.now c.in_ok-word.word c.in-Ok.epc c.in_ok-word.ensures.word (rw c.split_at.ensures.back at c.in-Ok.ensures.answer)
+returns-in-Ok-clause-answer c = bank_read c.args.set.now c.args.text.now c.in_ok-word.word c.in-Ok.epc c.in_ok-word.ensures.word
+    (rw c.split_at.ensures.back at c.in-Ok.ensures.answer)
 
 pub returns-in-Ok-clause-filter : goal.returns-in-Ok-clause-filter
 returns-in-Ok-clause-filter c = filter_said c.args.set.now Binary _ c.in-Ok.epc c.kinds.ensures.shaped one_in_bits c.in-Ok.ensures.answer.1

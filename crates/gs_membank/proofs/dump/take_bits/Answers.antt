@@ -10,4 +10,5 @@ returns-clause-small c =
 pub returns-clause-joined : goal.returns-clause-joined
 returns-clause-joined c =
     let none : length c.args.cursor.now < c.args.n → ⊥ = λ h. let e = c.in_ok-number.ensures.short.1 h in cc in
-    taken_joined c.args.n c.in_ok-number.number c.args.cursor.now c.take.new.self c.left.ensures.bits (omega arith) c.in_ok-number.ensures.number c.in_ok-number.ensures.moved
+    taken_joined c.args.n c.in_ok-number.number c.args.cursor.now c.take.new.self c.left.ensures.bits
+    (omega arith) c.in_ok-number.ensures.number c.in_ok-number.ensures.moved

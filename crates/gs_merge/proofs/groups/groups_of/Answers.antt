@@ -12,7 +12,9 @@ loop-i-preserved c =
     let own = c.in_ok-text.ensures ∙ ap (key_of c.args.by) c.link.ensures.same in
     let put = rw c.again.ensures at c.in_ok-put_link.ensures.group in (
       c.in_ok-put_link.ensures.ordered,
-      groups_more c.args.by c.args.links.now c.loop-i.i c.index-links-i.result c.in_ok-text.text (λ q. option_map (λ g. g.items) (found_at c.loop-i.groups.entries q)) (λ q. option_map (λ g. g.items) (found_at c.put_link.new.groups.entries q)) at own
+      groups_more c.args.by c.args.links.now c.loop-i.i c.index-links-i.result c.in_ok-text.text
+          (λ q. option_map (λ g. g.items) (found_at c.loop-i.groups.entries q))
+          (λ q. option_map (λ g. g.items) (found_at c.put_link.new.groups.entries q)) at own
           c.loop-i.invariant.1 put,
     )
 

@@ -13,4 +13,5 @@ pub returns : goal.returns
 returns c =
     let whole : map (λ entry. entry) c.loop-entry.yielded ≡ c.in_ok-groups.groups.entries = search (rules, iter_end) in
     let all = all_yielded c.loop-entry.yielded c.in_ok-groups.groups.entries whole in
-    c.from_vec.ensures ∙ contexts_made c.args.links.now (map (entry_seen (λ g. g.items)) c.loop-entry.yielded) c.loop-entry.contexts.items (ap (map (entry_seen (λ g. g.items))) all ∙ c.in_ok-groups.ensures) c.loop-entry.invariant
+    c.from_vec.ensures ∙ contexts_made c.args.links.now (map (entry_seen (λ g. g.items)) c.loop-entry.yielded) c.loop-entry.contexts.items
+    (ap (map (entry_seen (λ g. g.items))) all ∙ c.in_ok-groups.ensures) c.loop-entry.invariant

@@ -12,5 +12,6 @@ loop-item-preserved c =
 
 pub returns : goal.returns
 returns c =
-    mapped_all (λ item. entry_of (view item)) c.items_in-item-items.result.now c.loop-item.item-index c.loop-item.entries.items (omega (arith, c.loop-item-test.false)) c.loop-item.invariant
+    mapped_all (λ item. entry_of (view item)) c.items_in-item-items.result.now c.loop-item.item-index c.loop-item.entries.items
+    (omega (arith, c.loop-item-test.false)) c.loop-item.invariant
     ∙ mapped_views entry_of c.items_in-item-items.result.now ∙ ap (map entry_of) c.items_in-item-items.ensures

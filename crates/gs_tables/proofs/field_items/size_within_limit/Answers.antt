@@ -6,7 +6,8 @@ use Rattle.gs_tables.proofs.field_items.size_within_limit.Goals.{in-Some+else-si
 
 pub returns-then-size-gt-MOST_SYMBOLS : goal.returns-then-size-gt-MOST_SYMBOLS
 returns-then-size-gt-MOST_SYMBOLS c =
-    size_passed c.args.items.now c.loop-entry.entry-index c.entry-item.result (c.in-Some.field-0-0, c.in-Some.item) most_symbols c.loop-entry-test.true c.entry-item.is c.in-Some.is (omega arith)
+    size_passed c.args.items.now c.loop-entry.entry-index c.entry-item.result
+    (c.in-Some.field-0-0, c.in-Some.item) most_symbols c.loop-entry-test.true c.entry-item.is c.in-Some.is (omega arith)
 
 pub loop-entry-preserved : goal.loop-entry-preserved
 loop-entry-preserved c = elim c.match-entry.branch [

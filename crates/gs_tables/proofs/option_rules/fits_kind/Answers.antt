@@ -19,7 +19,8 @@ unfolding fits_kind
 returns-then-not-keeps_level c =
     stops_second (are_visible c.args.row.now.encoding) (keeps_level c.args.level c.args.row.now.encoding (items_there c.args.row.now))
     (option_map_or (keeps_form c.args.ais.now c.args.kind.now c.args.row.now.gcp (items_there c.args.row.now)) (form_at c.args.ais.now c.args.kind.now.key) false)
-    c.are_visible.result c.keeps_level.result (rw c.as_bytes-encoding.ensures at c.are_visible.ensures) (rw (c.as_bytes-encoding.ensures, c.items.ensures) at c.keeps_level.ensures) (search rules) (search rules)
+    c.are_visible.result c.keeps_level.result (rw c.as_bytes-encoding.ensures at c.are_visible.ensures)
+    (rw (c.as_bytes-encoding.ensures, c.items.ensures) at c.keeps_level.ensures) (search rules) (search rules)
 
 pub returns-in-Some : goal.returns-in-Some
 unfolding fits_kind
@@ -27,7 +28,8 @@ returns-in-Some c =
     let last = tested (keeps_form c.args.ais.now c.args.kind.now c.args.row.now.gcp (items_there c.args.row.now)) (form_at c.args.ais.now c.args.kind.now.key) c.in-Some.form c.keeps_form.result (search rules) c.keeps_form.ensures in
     last ∙ goes_on (are_visible c.args.row.now.encoding) (keeps_level c.args.level c.args.row.now.encoding (items_there c.args.row.now))
     (option_map_or (keeps_form c.args.ais.now c.args.kind.now c.args.row.now.gcp (items_there c.args.row.now)) (form_at c.args.ais.now c.args.kind.now.key) false)
-    c.are_visible.result c.keeps_level.result (rw c.as_bytes-encoding.ensures at c.are_visible.ensures) (rw (c.as_bytes-encoding.ensures, c.items.ensures) at c.keeps_level.ensures) (search rules) (search rules)
+    c.are_visible.result c.keeps_level.result (rw c.as_bytes-encoding.ensures at c.are_visible.ensures)
+    (rw (c.as_bytes-encoding.ensures, c.items.ensures) at c.keeps_level.ensures) (search rules) (search rules)
 
 pub returns-in-None : goal.returns-in-None
 unfolding fits_kind
@@ -35,4 +37,5 @@ returns-in-None c =
     let last = not_tested (keeps_form c.args.ais.now c.args.kind.now c.args.row.now.gcp (items_there c.args.row.now)) (form_at c.args.ais.now c.args.kind.now.key) (search rules) in
     last ∙ goes_on (are_visible c.args.row.now.encoding) (keeps_level c.args.level c.args.row.now.encoding (items_there c.args.row.now))
     (option_map_or (keeps_form c.args.ais.now c.args.kind.now c.args.row.now.gcp (items_there c.args.row.now)) (form_at c.args.ais.now c.args.kind.now.key) false)
-    c.are_visible.result c.keeps_level.result (rw c.as_bytes-encoding.ensures at c.are_visible.ensures) (rw (c.as_bytes-encoding.ensures, c.items.ensures) at c.keeps_level.ensures) (search rules) (search rules)
+    c.are_visible.result c.keeps_level.result (rw c.as_bytes-encoding.ensures at c.are_visible.ensures)
+    (rw (c.as_bytes-encoding.ensures, c.items.ensures) at c.keeps_level.ensures) (search rules) (search rules)

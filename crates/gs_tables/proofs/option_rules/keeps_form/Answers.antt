@@ -22,7 +22,8 @@ returns-then-not-keeps_rest c =
     (keeps_rest c.args.form c.args.row.now.gcp (items_of_field Rest (items_there c.args.row.now)))
     (keeps_serial (serial_room c.args.ais.now c.args.form (serial_at c.args.kind.now.serial)) (items_of_field Serial (items_there c.args.row.now))
     && keeps_further c.args.form (items_of_field Piece (items_there c.args.row.now)) (items_of_field Total (items_there c.args.row.now)))
-    c.keeps_gcp.result c.keeps_rest.result (rw c.items-items.ensures at c.keeps_gcp.ensures) (rw c.items-items.ensures at c.keeps_rest.ensures) (search rules) (search rules)
+    c.keeps_gcp.result c.keeps_rest.result (rw c.items-items.ensures at c.keeps_gcp.ensures)
+    (rw c.items-items.ensures at c.keeps_rest.ensures) (search rules) (search rules)
 
 pub returns : goal.returns
 unfolding keeps_form
@@ -31,4 +32,5 @@ returns c =
     (keeps_rest c.args.form c.args.row.now.gcp (items_of_field Rest (items_there c.args.row.now)))
     (keeps_serial (serial_room c.args.ais.now c.args.form (serial_at c.args.kind.now.serial)) (items_of_field Serial (items_there c.args.row.now))
     && keeps_further c.args.form (items_of_field Piece (items_there c.args.row.now)) (items_of_field Total (items_there c.args.row.now)))
-    c.keeps_gcp.result c.keeps_rest.result (rw c.items-items.ensures at c.keeps_gcp.ensures) (rw c.items-items.ensures at c.keeps_rest.ensures) (search rules) (search rules)
+    c.keeps_gcp.result c.keeps_rest.result (rw c.items-items.ensures at c.keeps_gcp.ensures)
+    (rw c.items-items.ensures at c.keeps_rest.ensures) (search rules) (search rules)

@@ -18,4 +18,5 @@ loop-i-preserved c =
 
 pub returns : goal.returns
 unfolding level_rejections
-returns c = all_rows (option_rejections c.args.ais.now c.args.kinds.now c.args.level c.args.rows.now) c.args.rows.now c.loop-i.i (omega arith) c.loop-i.invariant
+returns c = all_rows (option_rejections c.args.ais.now c.args.kinds.now c.args.level c.args.rows.now) c.args.rows.now c.loop-i.i
+    (omega arith) c.loop-i.invariant

@@ -25,7 +25,8 @@ returns-in_err-check_level-2 c =
     (first_in_front (level_rejections c.args.ais.now c.args.kinds.now Tag c.args.tag.now) (level_rejections c.args.ais.now c.args.kinds.now Pure c.args.pure.now) c.in_err-check_level-2.field-0.0 c.in_err-check_level-2.ensures)))
 
 pub returns : goal.returns
-returns c = first_behind (kinds_rejections c.args.ais.now c.args.kinds.now) ((level_rejections c.args.ais.now c.args.kinds.now Binary c.args.binary.now) ++ ((level_rejections c.args.ais.now c.args.kinds.now Tag c.args.tag.now) ++ (level_rejections c.args.ais.now c.args.kinds.now Pure c.args.pure.now))) c.check_level-3.result c.in_ok-check_kinds.ensures
+returns c = first_behind (kinds_rejections c.args.ais.now c.args.kinds.now)
+    ((level_rejections c.args.ais.now c.args.kinds.now Binary c.args.binary.now) ++ ((level_rejections c.args.ais.now c.args.kinds.now Tag c.args.tag.now) ++ (level_rejections c.args.ais.now c.args.kinds.now Pure c.args.pure.now))) c.check_level-3.result c.in_ok-check_kinds.ensures
     (first_behind (level_rejections c.args.ais.now c.args.kinds.now Binary c.args.binary.now) ((level_rejections c.args.ais.now c.args.kinds.now Tag c.args.tag.now) ++ (level_rejections c.args.ais.now c.args.kinds.now Pure c.args.pure.now)) c.check_level-3.result c.in_ok-check_level.ensures
     (first_behind (level_rejections c.args.ais.now c.args.kinds.now Tag c.args.tag.now) (level_rejections c.args.ais.now c.args.kinds.now Pure c.args.pure.now) c.check_level-3.result c.in_ok-check_level-2.ensures
     c.check_level-3.ensures))

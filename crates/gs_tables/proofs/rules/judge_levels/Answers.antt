@@ -9,7 +9,8 @@ use Rattle.gs_tables.specs.Judgements.{AreClear, AreClearBefore, IsClear}
 use Rattle.gs_tables.specs.JudgedSupport.{AreJudged, IsLevelJudged, by_name}
 use Rattle.gs_tables.proofs.rules.judge_levels.Goals as goal
 
-stops_at : (levels : LevelName → LevelForm) (name : LevelName) (error : LoadFault) → AreClearBefore levels name → IsLevelJudged name (levels name) (Err error) → AreJudged levels (Err error)
+stops_at : (levels : LevelName → LevelForm) (name : LevelName) (error : LoadFault) → AreClearBefore levels name
+    → IsLevelJudged name (levels name) (Err error) → AreJudged levels (Err error)
 stops_at levels name (Ambiguous other i j text) before h = record { before = rw h.0 before; share = rw h.0 h.1 }
 stops_at levels name Memory before h = tt
 stops_at levels name (Json error) before h = absurd h
@@ -26,7 +27,8 @@ all_clear binary tag pure b t p Binary = b
 all_clear binary tag pure b t p Tag = t
 all_clear binary tag pure b t p Pure = p
 
-last_judged : (binary tag pure : LevelForm) (result : Result (Unit {0}) LoadFault) → IsClear binary → IsClear tag → IsLevelJudged Pure pure result → AreJudged (by_name binary tag pure) result
+last_judged : (binary tag pure : LevelForm) (result : Result (Unit {0}) LoadFault) → IsClear binary → IsClear tag
+    → IsLevelJudged Pure pure result → AreJudged (by_name binary tag pure) result
 last_judged binary tag pure (Ok u) b t h = all_clear binary tag pure b t h
 last_judged binary tag pure (Err error) b t h = stops_at (by_name binary tag pure) Pure error (b, t) h
 

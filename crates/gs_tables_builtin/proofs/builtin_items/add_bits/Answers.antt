@@ -7,5 +7,6 @@ pub loop-left-preserved : goal.loop-left-preserved
 loop-left-preserved c =
     let left = c.loop-left.left in (
       omega arith,
-      bits_more c.loop-left.bits.items _ _ left c.args.number (omega arith) (shr_and_one c.args.number (left - 1)) c.in_ok-push.ensures.items ∙ c.loop-left.invariant.1,
+      bits_more c.loop-left.bits.items _ _ left c.args.number (omega arith)
+          (shr_and_one c.args.number (left - 1)) c.in_ok-push.ensures.items ∙ c.loop-left.invariant.1,
     )

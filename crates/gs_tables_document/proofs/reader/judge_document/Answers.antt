@@ -48,7 +48,8 @@ returns-in_err-judge_options-2 c =
 
 pub returns : goal.returns
 unfolding document_errors
-returns c = form_rest (object_errors [] document_plan (view c.args.root.now.tree)) ((rows_errors (codes "ais") ai_plan (view c.args.root.now.tree)) ++ ((rows_errors (codes "kinds") (kind_plan (is_second (view c.args.root.now.tree))) (view c.args.root.now.tree)) ++ ((rows_errors (codes "binary") option_plan (view c.args.root.now.tree)) ++ ((rows_errors (codes "tag") option_plan (view c.args.root.now.tree)) ++ (rows_errors (codes "pure") option_plan (view c.args.root.now.tree)))))) c.judge_options-3.result c.in_ok-judge_object.ensures
+returns c = form_rest (object_errors [] document_plan (view c.args.root.now.tree))
+    ((rows_errors (codes "ais") ai_plan (view c.args.root.now.tree)) ++ ((rows_errors (codes "kinds") (kind_plan (is_second (view c.args.root.now.tree))) (view c.args.root.now.tree)) ++ ((rows_errors (codes "binary") option_plan (view c.args.root.now.tree)) ++ ((rows_errors (codes "tag") option_plan (view c.args.root.now.tree)) ++ (rows_errors (codes "pure") option_plan (view c.args.root.now.tree)))))) c.judge_options-3.result c.in_ok-judge_object.ensures
     (form_rest (rows_errors (codes "ais") ai_plan (view c.args.root.now.tree)) ((rows_errors (codes "kinds") (kind_plan (is_second (view c.args.root.now.tree))) (view c.args.root.now.tree)) ++ ((rows_errors (codes "binary") option_plan (view c.args.root.now.tree)) ++ ((rows_errors (codes "tag") option_plan (view c.args.root.now.tree)) ++ (rows_errors (codes "pure") option_plan (view c.args.root.now.tree))))) c.judge_options-3.result c.in_ok-judge_ais.ensures
     (form_rest (rows_errors (codes "kinds") (kind_plan (is_second (view c.args.root.now.tree))) (view c.args.root.now.tree)) ((rows_errors (codes "binary") option_plan (view c.args.root.now.tree)) ++ ((rows_errors (codes "tag") option_plan (view c.args.root.now.tree)) ++ (rows_errors (codes "pure") option_plan (view c.args.root.now.tree)))) c.judge_options-3.result c.in_ok-judge_kinds.ensures
     (form_rest (rows_errors (codes "binary") option_plan (view c.args.root.now.tree)) ((rows_errors (codes "tag") option_plan (view c.args.root.now.tree)) ++ (rows_errors (codes "pure") option_plan (view c.args.root.now.tree))) c.judge_options-3.result c.in_ok-judge_options.ensures

@@ -22,5 +22,6 @@ returns-in-Some c =
 pub returns-in-None : goal.returns-in-None
 returns-in-None c =
     let known = rw (c.digits_from_prefix.ensures, c.as_bytes-value.ensures, c.key.ensures) at c.length_of.ensures.length in
-    known ∙ none_of_two c.args.meaning.now.gcp c.args.options.now.gcp (prefix_length c.args.prefixes.now (digits_from_prefix c.args.set.now c.args.kind c.args.meaning.now.identity.key.value))
+    known ∙ none_of_two c.args.meaning.now.gcp c.args.options.now.gcp
+    (prefix_length c.args.prefixes.now (digits_from_prefix c.args.set.now c.args.kind c.args.meaning.now.identity.key.value))
     (sym c.or.ensures ∙ c.in-None.is)

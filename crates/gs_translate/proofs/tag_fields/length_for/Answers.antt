@@ -8,9 +8,11 @@ use Rattle.gs_translate.proofs.tag_fields.length_for.Goals as goal
 none_if : (has : Bool) (gcp : ℕ) → has ≡ false → (if has then Ok gcp else Err NoOption) ≡ Err NoOption
 none_if has gcp none = rw none refl
 
-no_option : (has : ℕ → Bool) (gcp : ℕ) (known : Option ℕ) → Some gcp ≡ known → has gcp ≡ false → and_then (else_rejected (Missing Gcp) known) (λ n. if has n then Ok n else Err NoOption) ≡ Err NoOption
+no_option : (has : ℕ → Bool) (gcp : ℕ) (known : Option ℕ) → Some gcp ≡ known → has gcp ≡ false
+    → and_then (else_rejected (Missing Gcp) known) (λ n. if has n then Ok n else Err NoOption) ≡ Err NoOption
 no_option has gcp known is none =
-    subst (λ (k : Option ℕ). and_then (else_rejected (Missing Gcp) k) (λ n. if has n then Ok n else Err NoOption) ≡ Err NoOption) is (none_if (has gcp) gcp none)
+    subst (λ (k : Option ℕ). and_then (else_rejected (Missing Gcp) k) (λ n. if has n then Ok n else Err NoOption) ≡ Err NoOption) is
+    (none_if (has gcp) gcp none)
 
 pub returns-else-has_option : goal.returns-else-has_option
 returns-else-has_option c =

@@ -20,4 +20,6 @@ returns-in_err-show_dump c =
     (λ memory. enough (let is : c.in_err-show_dump.field-0.0 ≡ writing.Memory = cc in ap of_writing is)) c.in_err-show_dump.ensures)
 
 pub returns : goal.returns
-returns c = λ _. second_answers reading.Memory of_reading writing.Memory of_writing (ReadsDump c.args.set.now) (ShowsDump c.args.set.now) c.args.text.now c.in_ok-dump.dump (Ok c.in_ok-show_dump.field-0) c.if-text-gt-LONGEST_TEXT.false c.in_ok-dump.ensures.answer (λ memory. cc) c.in_ok-show_dump.ensures
+returns c = λ _. second_answers reading.Memory of_reading writing.Memory of_writing (ReadsDump c.args.set.now)
+    (ShowsDump c.args.set.now) c.args.text.now c.in_ok-dump.dump
+    (Ok c.in_ok-show_dump.field-0) c.if-text-gt-LONGEST_TEXT.false c.in_ok-dump.ensures.answer (λ memory. cc) c.in_ok-show_dump.ensures

@@ -4,4 +4,5 @@ use Rattle.tdl_arguments.proofs.pairs.takes.Given as goal
 
 -- no row before takes it
 abbrev pub invariant-loop-row : goal.invariant-loop-row
-invariant-loop-row l = (pairs : List (List ℕ × List ℕ)) → ArePairs (map string_bytes l.others) pairs → takes (take l.row-index l.rows) l.name l.value pairs ≡ false
+invariant-loop-row l = (pairs : List (List ℕ × List ℕ)) → ArePairs (map string_bytes l.others) pairs → takes
+    (take l.row-index l.rows) l.name l.value pairs ≡ false

@@ -57,7 +57,8 @@ returns-clause-loads g c =
     let ais = c.args.ais.now in
     let voc = c.args.values.voc.now in
     let templates = c.args.values.templates in
-    loads_then (λ known. LinksGive known templates ais voc names.links) (λ known. GivesOthers known names ais voc) (first_named names) (others_named names) _ _ _ _ _ _ c.in_ok-links.links _ (λ one other. other ∙ one) c.in_ok-links.ensures
+    loads_then (λ known. LinksGive known templates ais voc names.links) (λ known. GivesOthers known names ais voc) (first_named names)
+    (others_named names) _ _ _ _ _ _ c.in_ok-links.links _ (λ one other. other ∙ one) c.in_ok-links.ensures
     (loads_then (λ known. OtherGives known kind.Second ais voc names.second) (λ known. GivesThird known names ais voc c.in_ok-links.links) (option_to_list names.second) (option_to_list names.third) _ _ _ _ _ _ c.in_ok-second.second _ (λ one other. other ∙ one) c.in_ok-second.ensures
     (gives_last (λ known. OtherGives known kind.Third ais voc names.third) (λ known. AreLinked ais voc c.in_ok-links.links c.in_ok-second.second) (option_to_list names.third) _ _ _ c.in_ok-third.third _ c.in_ok-third.ensures
     (linked_is ais voc c.in_ok-links.links c.in_ok-second.second c.in_ok-third.third c.in_ok-merged.merged c.in_ok-merged.ensures)))
@@ -83,4 +84,5 @@ returns-in_err-merged-clause-decided g c =
     rw (p.1, p.2) (stops_anyway _ (others_stop (known_files c.args.named) (known_values c.args.values) c.args.ais.now c.in_ok-links.ensures (third_stops (known_files c.args.named) c.args.ais.now c.args.values.voc.now c.in_ok-links.links c.in_ok-second.ensures c.in_ok-third.ensures)))
 
 pub returns-clause-decided : goal.returns-clause-decided
-returns-clause-decided g c = others_stop (known_files c.args.named) (known_values c.args.values) c.args.ais.now c.in_ok-links.ensures (third_stops (known_files c.args.named) c.args.ais.now c.args.values.voc.now c.in_ok-links.links c.in_ok-second.ensures c.in_ok-third.ensures)
+returns-clause-decided g c = others_stop (known_files c.args.named) (known_values c.args.values) c.args.ais.now c.in_ok-links.ensures
+    (third_stops (known_files c.args.named) c.args.ais.now c.args.values.voc.now c.in_ok-links.links c.in_ok-second.ensures c.in_ok-third.ensures)

@@ -8,5 +8,6 @@ load-requires c = rw c.as_bytes.ensures.value (and_second _ _ (and_second _ _ c.
 
 pub returns-in-Ok : goal.returns-in-Ok
 returns-in-Ok c =
-    store_placed c.args.judging.kind c.args.judging.templates c.args.judging.ais.now (load_answer c.args.judging.ais.now c.args.judging.voc.now c.args.doc) c.in-Ok.store c.placed.result
+    store_placed c.args.judging.kind c.args.judging.templates c.args.judging.ais.now
+    (load_answer c.args.judging.ais.now c.args.judging.voc.now c.args.doc) c.in-Ok.store c.placed.result
     (rw c.as_bytes.ensures.value at c.in-Ok.ensures) c.placed.ensures

@@ -25,5 +25,6 @@ returns g c =
     let names = known_files c.args.named in
     let values = known_values c.args.values in
     let voc : c.in_ok-voc.voc ≡ values.voc = c.in_ok-voc.ensures ∙ c.as_bytes.ensures.value in
-    gives_last (λ known. DescriptionGives known names.describe) (λ known. AreSettings values) (option_to_list names.describe) _ _ _ c.in_ok-describe.describe _ c.in_ok-describe.ensures
+    gives_last (λ known. DescriptionGives known names.describe) (λ known. AreSettings values)
+    (option_to_list names.describe) _ _ _ c.in_ok-describe.describe _ c.in_ok-describe.ensures
     (ap (λ v. Ok (record { voc = v; describe = c.in_ok-describe.describe; templates = values.templates })) voc)

@@ -23,7 +23,8 @@ returns-in_err-prefixes-clause-loads g c =
 pub returns-clause-loads : goal.returns-clause-loads
 returns-clause-loads g c =
     let names = known_files c.args.named in
-    loads_then (λ known. TablesGive known names.tables) (λ known. GivesPrefixes known names) (option_to_list names.tables) (option_to_list names.prefixes) _ _ _ _ _ _ c.in_ok-given.given _ (λ one other. other ∙ one) c.in_ok-given.ensures
+    loads_then (λ known. TablesGive known names.tables) (λ known. GivesPrefixes known names) (option_to_list names.tables)
+    (option_to_list names.prefixes) _ _ _ _ _ _ c.in_ok-given.given _ (λ one other. other ∙ one) c.in_ok-given.ensures
     (gives_last (λ known. PrefixesGive known names.prefixes) (λ known. AreTabled c.in_ok-given.given) (option_to_list names.prefixes) _ _ _ c.in_ok-prefixes.prefixes _ c.in_ok-prefixes.ensures refl)
 
 pub returns-in_err-given-clause-decided : goal.returns-in_err-given-clause-decided

@@ -5,7 +5,8 @@ use Rattle.tdl_loads.proofs.named_files.load_unnamed.Goals as goal
 
 pub returns-then-is_of_classes : goal.returns-then-is_of_classes
 returns-then-is_of_classes c =
-    built_in_loaded c.args.ais.now c.args.command c.builtin.result c.classes_of.result (sym c.if-is_of_classes.ensures) c.builtin.ensures.answer c.classes_of.ensures
+    built_in_loaded c.args.ais.now c.args.command c.builtin.result c.classes_of.result
+    (sym c.if-is_of_classes.ensures) c.builtin.ensures.answer c.classes_of.ensures
 
 pub returns-in_err-none : goal.returns-in_err-none
 returns-in_err-none c =

@@ -5,9 +5,11 @@ use Rattle.tdl_messages.specs.Rejections.{shown, shown_byte}
 use Rattle.tdl_messages.proofs.rejections.append_place.Goals as goal
 
 -- one byte more of a place
-one_more : (out place : List ℕ) (i : ℕ) → i < length place → (out ++ shown (take i place)) ++ shown_byte (get_or place i 0) ∷ [] ≡ out ++ shown (take (i + 1) place)
+one_more : (out place : List ℕ) (i : ℕ) → i < length place
+    → (out ++ shown (take i place)) ++ shown_byte (get_or place i 0) ∷ [] ≡ out ++ shown (take (i + 1) place)
 one_more out place i low =
-    rw (add-one, take-suc place i 0 low, map-append shown_byte (take i place) (get_or place i 0 ∷ [])) (append_assoc out (shown (take i place)) (shown_byte (get_or place i 0) ∷ []))
+    rw (add-one, take-suc place i 0 low, map-append shown_byte (take i place) (get_or place i 0 ∷ []))
+    (append_assoc out (shown (take i place)) (shown_byte (get_or place i 0) ∷ []))
 
 pub loop-c-preserved : goal.loop-c-preserved
 loop-c-preserved c =

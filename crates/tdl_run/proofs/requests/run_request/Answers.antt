@@ -13,10 +13,12 @@ use Rattle.tdl_run.proofs.ServeLemmas.{door_left, none_finish}
 use Rattle.tdl_run.proofs.requests.run_request.Goals as goal
 
 pub run_command-requires-clause-classes : goal.run_command-requires-clause-classes
-run_command-requires-clause-classes g c = classes_kept (g.F.Files.files c.args.files.now) (known_request c.args.request) c.in-Ok.loaded c.in-Ok.ensures.loads.loaded
+run_command-requires-clause-classes g c = classes_kept (g.F.Files.files c.args.files.now)
+    (known_request c.args.request) c.in-Ok.loaded c.in-Ok.ensures.loads.loaded
 
 pub run_command-requires-clause-source : goal.run_command-requires-clause-source
-run_command-requires-clause-source g c = source_of (g.F.Files.files c.args.files.now) (known_request c.args.request) c.in-Ok.loaded c.requires.tables c.in-Ok.ensures.loads.loaded
+run_command-requires-clause-source g c = source_of (g.F.Files.files c.args.files.now)
+    (known_request c.args.request) c.in-Ok.loaded c.requires.tables c.in-Ok.ensures.loads.loaded
 
 pub returns-in-Ok-clause-ran : goal.returns-in-Ok-clause-ran
 returns-in-Ok-clause-ran g c =

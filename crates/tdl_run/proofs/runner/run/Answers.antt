@@ -73,11 +73,14 @@ returns-in-None-clause-finished g c =
 
 pub returns-in-Some-clause-ended : goal.returns-in-Some-clause-ended
 returns-in-Some-clause-ended g c =
-    ended_of _ _ (map string_bytes c.args.words.now) (known_request c.in-Some.request) (g.F.Files.files c.args.files.now) (g.S.Source.left c.args.input.now) (g.S.Source.left c.run_request.new.input) (g.K.Sink.held c.args.output.now) (g.K.Sink.held c.run_request.new.output) c.run_request.result c.in-Some.ensures.request c.run_request.ensures.read_error
+    ended_of _ _ (map string_bytes c.args.words.now) (known_request c.in-Some.request) (g.F.Files.files c.args.files.now)
+    (g.S.Source.left c.args.input.now) (g.S.Source.left c.run_request.new.input) (g.K.Sink.held c.args.output.now)
+    (g.K.Sink.held c.run_request.new.output) c.run_request.result c.in-Some.ensures.request c.run_request.ensures.read_error
 
 pub returns-in-Some-clause-complete : goal.returns-in-Some-clause-complete
 returns-in-Some-clause-complete g c =
-    λ loads fits none. complete_asked (map string_bytes c.args.words.now) (known_request c.in-Some.request) _ _ _ _ _ _ _ _ c.run_request.result c.in-Some.ensures.request c.run_request.ensures.ran loads fits none
+    λ loads fits none. complete_asked (map string_bytes c.args.words.now)
+    (known_request c.in-Some.request) _ _ _ _ _ _ _ _ c.run_request.result c.in-Some.ensures.request c.run_request.ensures.ran loads fits none
 
 pub returns-in-None-clause-complete : goal.returns-in-None-clause-complete
 returns-in-None-clause-complete g c = λ loads fits none. absurd (c.in-None.ensures.none loads.asked loads.order)
@@ -163,7 +166,8 @@ pub returns-in-None-clause-write_error : goal.returns-in-None-clause-write_error
 returns-in-None-clause-write_error g c = c.print_line.ensures.error
 
 pub returns-in-Some-clause-untouched : goal.returns-in-Some-clause-untouched
-returns-in-Some-clause-untouched g c = loads_of _ (map string_bytes c.args.words.now) (known_request c.in-Some.request) _ c.in-Some.ensures.request c.run_request.ensures.untouched
+returns-in-Some-clause-untouched g c = loads_of _ (map string_bytes c.args.words.now)
+    (known_request c.in-Some.request) _ c.in-Some.ensures.request c.run_request.ensures.untouched
 
 pub returns-in-Some-clause-closed : goal.returns-in-Some-clause-closed
 returns-in-Some-clause-closed g c = c.run_request.ensures.closed

@@ -124,7 +124,8 @@ pub returns-in-Failed-serve_all-clause-output_counts : goal.returns-in-Failed-se
 returns-in-Failed-serve_all-clause-output_counts g c = omega arith
 
 pub returns-in-Failed-serve_all-clause-door_count : goal.returns-in-Failed-serve_all-clause-door_count
-returns-in-Failed-serve_all-clause-door_count g c = c.in-Failed-serve_all.ensures.left.own_count ∙ ap (λ (a : Aside). counted a.errors) c.in-Opened.ensures.aside
+returns-in-Failed-serve_all-clause-door_count g c = c.in-Failed-serve_all.ensures.left.own_count ∙ ap
+    (λ (a : Aside). counted a.errors) c.in-Opened.ensures.aside
 
 pub returns-in-Memory-serve_all-clause-closed : goal.returns-in-Memory-serve_all-clause-closed
 returns-in-Memory-serve_all-clause-closed g c = c.in-Memory-serve_all.ensures.closed
@@ -164,12 +165,15 @@ returns-in-Memory-clause-opens g c = c.in-Memory.ensures.addressed
 
 pub returns-in-Over-clause-opens : goal.returns-in-Over-clause-opens
 returns-in-Over-clause-opens g c =
-    stays_added _ (g.D.Conn.aside c.args.door.now).addresses (g.D.Conn.aside c.open.new.self).addresses (g.D.Conn.aside c.serve_all.new.door).addresses (c.args.address.now ∷ []) c.in-Opened.ensures.addressed c.in-Over.ensures.left.same_addresses
+    stays_added _ (g.D.Conn.aside c.args.door.now).addresses (g.D.Conn.aside c.open.new.self).addresses
+    (g.D.Conn.aside c.serve_all.new.door).addresses (c.args.address.now ∷ []) c.in-Opened.ensures.addressed c.in-Over.ensures.left.same_addresses
 
 pub returns-in-Failed-serve_all-clause-opens : goal.returns-in-Failed-serve_all-clause-opens
 returns-in-Failed-serve_all-clause-opens g c =
-    stays_added _ (g.D.Conn.aside c.args.door.now).addresses (g.D.Conn.aside c.open.new.self).addresses (g.D.Conn.aside c.serve_all.new.door).addresses (c.args.address.now ∷ []) c.in-Opened.ensures.addressed c.in-Failed-serve_all.ensures.left.same_addresses
+    stays_added _ (g.D.Conn.aside c.args.door.now).addresses (g.D.Conn.aside c.open.new.self).addresses
+    (g.D.Conn.aside c.serve_all.new.door).addresses (c.args.address.now ∷ []) c.in-Opened.ensures.addressed c.in-Failed-serve_all.ensures.left.same_addresses
 
 pub returns-in-Memory-serve_all-clause-opens : goal.returns-in-Memory-serve_all-clause-opens
 returns-in-Memory-serve_all-clause-opens g c =
-    stays_added _ (g.D.Conn.aside c.args.door.now).addresses (g.D.Conn.aside c.open.new.self).addresses (g.D.Conn.aside c.serve_all.new.door).addresses (c.args.address.now ∷ []) c.in-Opened.ensures.addressed c.in-Memory-serve_all.ensures.left.same_addresses
+    stays_added _ (g.D.Conn.aside c.args.door.now).addresses (g.D.Conn.aside c.open.new.self).addresses
+    (g.D.Conn.aside c.serve_all.new.door).addresses (c.args.address.now ∷ []) c.in-Opened.ensures.addressed c.in-Memory-serve_all.ensures.left.same_addresses

@@ -24,7 +24,8 @@ returns-in-Failed-clause-did g c =
 
 pub returns-in-Memory-clause-did : goal.returns-in-Memory-clause-did
 returns-in-Memory-clause-did g c =
-    memory_ran_out c.args.resolver.now _ _ _ _ _ c.args.count c.loop-finished.invariant.so_far c.in-Memory.ensures.did (let more = c.loop-finished-test.true in omega arith)
+    memory_ran_out c.args.resolver.now _ _ _ _ _ c.args.count c.loop-finished.invariant.so_far c.in-Memory.ensures.did
+    (let more = c.loop-finished-test.true in omega arith)
 
 pub loop-finished-preserved : goal.loop-finished-preserved
 loop-finished-preserved g c = record {

@@ -15,7 +15,7 @@ from .encode import Wrong, compose, key_types
 from .fields import Reading, read_fields
 from .filters import filters_of
 from .marks import bit_rows, key_of, marks_of, pieces, value_marks
-from .questions import FORMS, Question, bytes_of, forms_in_order
+from .questions import FORMS, Question, bytes_of, forms_in_order, possible_forms
 from .reasons import COUNTED, explain, explain_target, listed, unknown_code
 from .rows import Rows
 from .sets import Sets, sets_by_code
@@ -194,7 +194,7 @@ class Answers:
     def _links(self, texts: List[str]) -> List[Tuple[str, Answer]]:
         """Returns the first form that reads each text with its canonical link, or the form that it looks like with its reason."""
         headers = self._rows.headers()
-        orders = [forms_in_order(text, headers) for text in texts]
+        orders = [possible_forms(text, headers) for text in texts]
         found: Dict[int, Tuple[str, Answer]] = {}
         waiting = list(range(len(texts)))
         for turn in range(len(FORMS) - 1):
@@ -210,7 +210,7 @@ class Answers:
                     for place, answer in zip(places[form], of_form):
                         if turn == 0 or isinstance(answer, str):
                             found[place] = (form, answer)
-            waiting = [place for place in waiting if not isinstance(found[place][1], str)]
+            waiting = [place for place in waiting if not isinstance(found[place][1], str) and turn + 1 < len(orders[place])]
         return [found[place] for place in range(len(texts))]
 
     def _retarget(self, rows: List[List[Any]], texts: List[str]) -> None:

@@ -16,6 +16,15 @@ FORMS = {
     "link": "GS1 Digital Link",
     "canon": "canonical link",
 }
+# what a text of each form begins with, or consists of: tables may define any tag and pure identity URIs of ASCII characters
+POSSIBLE = {
+    "raw": re.compile(r"[0-9\]^\x1d]|<GS>|$"),
+    "bracketed": re.compile(r"\(|$"),
+    "hex": re.compile(r"[0-9A-Fa-f]*$"),
+    "tag": re.compile(r"[!-~]*$"),
+    "pure": re.compile(r"[!-~]*$"),
+    "link": re.compile(r"https?://", re.IGNORECASE),
+}
 MEMBERS = {"text", "gcp", "filter", "encoding", "stem", "keys_only", "target", "tables"}
 
 
@@ -86,3 +95,9 @@ def forms_in_order(text: str, headers: Iterable[str]) -> List[str]:
     elif re.fullmatch("[0-9A-Fa-f]{16,}", text) and f"{int(text[:2], 16):08b}" in headers:
         likely = "hex"
     return [likely, *(form for form in FORMS if form not in (likely, "canon"))]
+
+
+def possible_forms(text: str, headers: Iterable[str]) -> List[str]:
+    """Returns the forms that may read a text by its first characters, after the one that it looks like (docs/FORMATS.md)."""
+    likely, *others = forms_in_order(text, headers)
+    return [likely, *(form for form in others if POSSIBLE[form].match(text))]

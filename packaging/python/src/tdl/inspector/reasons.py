@@ -45,6 +45,7 @@ FIELDS = {"gcp": "company prefix", "rest": "reference", "filter": "filter value"
 OF_A_TARGET = {"kind", "missing", "option", "hold", "extra"}
 OF_A_TEXT = {"long", "odd", "full", "reading", "http", "path", "key", "repeat", "keys", "digit", "unknown", "bracket", "escape"}
 OF_A_TEXT |= {"length", "char", "check", "date"}
+PLAIN = {"long", "odd", "full", "reading", "http", "path", "key"}
 NEEDS = {"missing gcp": "gcp", "missing filter": "filter", "hold": "encoding", "option": "encoding", "extra": "keys_only"}
 # what lines with each first word of a reason have in common, for the count of many lines
 COUNTED = {
@@ -197,6 +198,8 @@ def _coded(form: str, text: bytes, code: str, sort: str, rows: Rows) -> Told:
 
 def _plain(form: str, text: bytes, reason: str) -> Optional[Told]:
     """Returns the sentence of a reason that needs no table, or None."""
+    if reason not in PLAIN:
+        return None
     last = max(0, len(text) - 1)
     sentences: Dict[str, Told] = {
         "long": (f"A text has at most {MOST_BYTES:,} bytes. Those from byte {MOST_BYTES} on are too many.", [Mark(MOST_BYTES, len(text), "error")]),
@@ -210,7 +213,7 @@ def _plain(form: str, text: bytes, reason: str) -> Optional[Told]:
         "path": ("The path does not end in a key and its qualifiers, as in /01/09506000134352/10/ABC.", []),
         "key": ("No element is a key. Add one, such as (01) GTIN." if text else "The text is empty.", []),
     }
-    return sentences.get(reason)
+    return sentences[reason]
 
 
 def _dump(kind: str, words: List[str]) -> Optional[Told]:

@@ -1,4 +1,4 @@
-"""The rows of a table document (docs/FORMATS.md, 'The table document'), as far as a text is explained by them."""
+"""The rows of a table document (docs/TABLES.md, 'The table document'), as far as a text is explained by them."""
 from __future__ import annotations
 
 import json
@@ -44,6 +44,7 @@ class Ai:
     parts: Tuple[Part, ...]
     role: str
     is_short: bool
+    qualifiers: Tuple[str, ...] = ()
 
     @property
     def least(self) -> int:
@@ -93,7 +94,10 @@ class Rows:
     def __init__(self, path: Optional[str] = None) -> None:
         document = json.loads(Path(path or BUILT_IN).read_bytes())
         self.ais: Dict[str, Ai] = {
-            row["code"]: Ai(row["code"], tuple(map(Part.of, row["parts"])), row["role"], row.get("short", False)) for row in document["ais"]
+            row["code"]: Ai(
+                row["code"], tuple(map(Part.of, row["parts"])), row["role"], row.get("short", False), tuple(row.get("qualifiers", ()))
+            )
+            for row in document["ais"]
         }
         self.kinds: Dict[str, Kind] = {
             row["key"]: Kind(row["name"], row["key"], row["lead"], row["serial"], tuple(row.get("fields", ()))) for row in document["kinds"]

@@ -37,7 +37,7 @@ HEADERS = {
     "Cross-Origin-Resource-Policy": "same-origin",
     "Cache-Control": "no-store",
 }
-MOST_BYTES, PATIENCE = 8_388_608, 5
+MOST_BYTES, MOST_DIGITS, PATIENCE = 8_388_608, 18, 5
 JSON = "application/json"
 
 
@@ -66,7 +66,7 @@ class Handler(BaseHTTPRequestHandler):
         if not self._is_own() or self.path not in ("/inspect", "/compose") or not is_json or not (length.isascii() and length.isdigit()):
             self.close_connection = True
             self._reply(HTTPStatus.FORBIDDEN, b"", "text/plain")
-        elif int(length) > MOST_BYTES:
+        elif len(length) > MOST_DIGITS or int(length) > MOST_BYTES:
             self.close_connection = True
             self._tell(HTTPStatus.REQUEST_ENTITY_TOO_LARGE, {"error": "This is more than the page takes. Use python3 -m tdl csv."})
         else:

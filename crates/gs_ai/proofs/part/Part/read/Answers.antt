@@ -15,7 +15,8 @@ NotBetween before after least greatest text = (k : ℕ) → least ≤ k → k �
 not_text : (text name word : List ℕ) (b : Bool) → b ≡ bytes_eq text word → word ≡ name → b ≡ false → name ≡ text → ⊥
 not_text text name word b e w f t = let same : bytes_eq text word ≡ true = rw (w, t) (same_bytes text) in true≢false (sym same ∙ sym e ∙ f)
 
-module _ (before after text : List ℕ) (least greatest : ℕ) (none : NotBetween before after least greatest text) (k : ℕ) (h : (leb least k && leb k greatest) ≡ true) where
+module _ (before after text : List ℕ) (least greatest : ℕ) (none : NotBetween before after least greatest text) (k : ℕ)
+    (h : (leb least k && leb k greatest) ≡ true) where
   between : before ++ number_text k ++ after ≡ text → ⊥
   between e = none k (leb-true _ _ (and_first _ _ h)) (leb-true _ _ (and_second _ _ h)) e
 

@@ -1,8 +1,9 @@
 use Rattle.std.proofs.Common.{◌∙◌, ap, sym, arith, rules}
-use Rattle.gs_ai.proofs.Searches.{position_within, within}
 use Rattle.gs_ai.specs.declared.row.AiRow.{AiRow}
 use Rattle.gs_ai.proofs.PlaceLemmas.{found_at, no_digits, none_at, one_place_more, place_low, place_read, row_at_place, start_read, start_within}
 use Rattle.gs_ai.proofs.table.AiTable.begins.Goals as goal
+use Rattle.gs_chars.proofs.Searches.{position_within}
+use Rattle.std.proofs.lemmas.Option.{slice_get_within}
 
 pub returns-in_err-start-clause-row : goal.returns-in_err-start-clause-row
 returns-in_err-start-clause-row c =
@@ -45,4 +46,5 @@ returns-clause-row c =
     let kept = rw c.self.view_is at c.self.invariant.0 in
     let starts = rw c.self.view_is at c.self.invariant.1 in
     let places = c.items-places.ensures ∙ start_read c.args.self.now c.self.inside.starts starts c.in_ok-start.start c.index-items-start.result c.in_ok-start.ensures.small (rw c.items.ensures at c.index-items-start.is) in
-    none_at c.args.self.now kept c.args.text.now c.in_ok-start.start c.in_ok-start.ensures.number c.items-places.result.now places (λ k i row at there. c.loop-place.invariant k i row (let low = within c.items-places.result.now k i at in omega (arith, c.loop-place-test.false)) at there)
+    none_at c.args.self.now kept c.args.text.now c.in_ok-start.start c.in_ok-start.ensures.number c.items-places.result.now places
+    (λ k i row at there. c.loop-place.invariant k i row (let low = slice_get_within c.items-places.result.now k i at in omega (arith, c.loop-place-test.false)) at there)

@@ -5,4 +5,5 @@ use Rattle.gs_ai.proofs.table.AiTable.begins.Given as goal
 
 -- no code of the places so far begins the text
 abbrev pub invariant-loop-place : goal.invariant-loop-place
-invariant-loop-place l = (k i : ℕ) (row : AiRow) → k < l.place-index → slice_get l.places k ≡ Some i → slice_get l.self i ≡ Some row → begins row.code l.text ≡ false
+invariant-loop-place l = (k i : ℕ) (row : AiRow) → k < l.place-index → slice_get l.places k ≡ Some i → slice_get l.self i ≡ Some row
+    → begins row.code l.text ≡ false

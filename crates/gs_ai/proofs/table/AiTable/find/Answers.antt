@@ -1,8 +1,8 @@
 use Rattle.std.proofs.Common.{ap, arith, sym, ◌∙◌}
-use Rattle.gs_ai.proofs.Searches.{read_at}
 use Rattle.gs_ai.specs.declared.row.AiRow.{AiRow}
 use Rattle.gs_ai.proofs.PlaceLemmas.{code_absent, code_by_length, code_here, code_nowhere, length_differs}
 use Rattle.gs_ai.proofs.table.AiTable.find.Goals as goal
+use Rattle.gs_chars.proofs.TruthsAndLists.{read_at}
 
 pub returns-in_err-row-clause-row : goal.returns-in_err-row-clause-row
 returns-in_err-row-clause-row c =
@@ -15,7 +15,8 @@ returns-then-as_bytes-code-clause-row c =
     let read = rw (c.items-rows.ensures, c.self.view_is) at c.index-rows-row.is in
     let at = read_at c.args.self.now c.in_ok-row.row c.index-rows-row.result c.in_ok-row.ensures.within read in
     let test = rw (c.as_bytes.ensures ∙ ap (λ (r : AiRow). r.code) (sym c.index-rows-row.is)) at c.if-as_bytes-code.true in
-    code_here c.args.self.now kept c.args.code.now c.in_ok-row.row c.index-rows-row.result at c.in_ok-row.ensures.row (code_by_length c.args.self.now kept c.args.code.now c.in_ok-row.row c.index-rows-row.result at c.in_ok-row.ensures.row (omega (arith, test)))
+    code_here c.args.self.now kept c.args.code.now c.in_ok-row.row c.index-rows-row.result at c.in_ok-row.ensures.row
+    (code_by_length c.args.self.now kept c.args.code.now c.in_ok-row.row c.index-rows-row.result at c.in_ok-row.ensures.row (omega (arith, test)))
 
 pub returns-else-as_bytes-code-clause-row : goal.returns-else-as_bytes-code-clause-row
 returns-else-as_bytes-code-clause-row c =
@@ -23,4 +24,5 @@ returns-else-as_bytes-code-clause-row c =
     let read = rw (c.items-rows.ensures, c.self.view_is) at c.index-rows-row.is in
     let at = read_at c.args.self.now c.in_ok-row.row c.index-rows-row.result c.in_ok-row.ensures.within read in
     let test = rw (c.as_bytes.ensures ∙ ap (λ (r : AiRow). r.code) (sym c.index-rows-row.is)) at c.if-as_bytes-code.false in
-    code_absent c.args.self.now kept c.args.code.now c.in_ok-row.row c.index-rows-row.result at c.in_ok-row.ensures.row (length_differs c.args.self.now kept c.args.code.now c.in_ok-row.row c.index-rows-row.result at c.in_ok-row.ensures.row (λ e. omega (arith, e, test)))
+    code_absent c.args.self.now kept c.args.code.now c.in_ok-row.row c.index-rows-row.result at c.in_ok-row.ensures.row
+    (length_differs c.args.self.now kept c.args.code.now c.in_ok-row.row c.index-rows-row.result at c.in_ok-row.ensures.row (λ e. omega (arith, e, test)))

@@ -1,8 +1,8 @@
 use Rattle.std.proofs.Common.{sym}
-use Rattle.gs_ai.proofs.Searches.{find_none}
 use Rattle.gs_ai.proofs.TableLemmas.{no_key}
 use Rattle.gs_ai.specs.Values.{has_code}
 use Rattle.gs_ai.proofs.table.AiTable.is_key.Goals as goal
+use Rattle.gs_chars.proofs.Searches.{find_none}
 
 pub returns-in-None : goal.returns-in-None
 returns-in-None c =

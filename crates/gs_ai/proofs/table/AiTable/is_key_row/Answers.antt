@@ -1,8 +1,8 @@
 use Rattle.std.proofs.Common.{sym, ◌∙◌}
-use Rattle.gs_ai.proofs.Searches.{find_read}
 use Rattle.gs_ai.proofs.TableLemmas.{key_by_row}
 use Rattle.gs_ai.specs.Values.{has_code}
 use Rattle.gs_ai.proofs.table.AiTable.is_key_row.Goals as goal
+use Rattle.gs_chars.proofs.Searches.{find_read}
 
 pub returns : goal.returns
 returns c = λ code place.

@@ -1,10 +1,12 @@
 use Rattle.std.proofs.Common.{sym, ◌∙◌}
-use Rattle.gs_ai.proofs.Searches.{find_none, find_read, read_at}
 use Rattle.gs_ai.specs.Values.{has_code}
 use Rattle.gs_ai.proofs.table.AiTable.row_with.Goals as goal
+use Rattle.gs_chars.proofs.Searches.{find_none, find_read}
+use Rattle.gs_chars.proofs.TruthsAndLists.{read_at}
 
 pub returns-in_err-row-clause-row : goal.returns-in_err-row-clause-row
-returns-in_err-row-clause-row c = rw c.from_residual.ensures (sym (find_none (has_code c.args.code.now) c.args.self.now (sym c.find.ensures.row ∙ c.in_err-row.was)))
+returns-in_err-row-clause-row c = rw c.from_residual.ensures
+    (sym (find_none (has_code c.args.code.now) c.args.self.now (sym c.find.ensures.row ∙ c.in_err-row.was)))
 
 pub returns-clause-row : goal.returns-clause-row
 returns-clause-row c =

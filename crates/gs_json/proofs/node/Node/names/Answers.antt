@@ -5,6 +5,3 @@ use Rattle.gs_json.proofs.node.Node.names.Goals as goal
 pub returns-clause-answer : goal.returns-clause-answer
 returns-clause-answer c =
     rw (← c.self.view_is) (inr (names_found _ _ _ _ c.in-Some.ensures (ap (map (λ name. name.now)) c.from_vec.ensures ∙ c.in_ok-keys_of.ensures.names)))
-
-pub returns-clause-ascending : goal.returns-clause-ascending
-returns-clause-ascending c = rw c.from_vec.ensures c.in_ok-keys_of.ensures.ascending

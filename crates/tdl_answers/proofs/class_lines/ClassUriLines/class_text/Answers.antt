@@ -18,7 +18,8 @@ returns-in_err-write_class c =
     let p = err_from_is_err_and c.from_residual-in_err-write_class.result c.from_residual-in_err-write_class.ensures.1 in
     let by = writing_by c.self.inside.tables.now c.self.inside.prefixes.now c.self.inside.classes.now c.self.inside.gcp in
     rw (← c.self.view_is, p.1, p.2) (λ enough. class_writes by c.args.text.now c.in_ok-meaning.meaning (Err c.in_err-write_class.field-0.0) c.in_ok-meaning.ensures.meaning
-    (λ memory. enough (let is : c.in_err-write_class.field-0.0 ≡ Memory = cc in ap of_class_writing is)) (rw c.ais-table.ensures.rows at c.in_err-write_class.ensures))
+    (λ memory. enough (let is : c.in_err-write_class.field-0.0 ≡ Memory = cc in ap of_class_writing is))
+    (rw c.ais-table.ensures.rows at c.in_err-write_class.ensures))
 
 pub returns : goal.returns
 returns c =

@@ -1,0 +1,1 @@
+"""EPCIS documents: each identifier in one form."""
