@@ -38,7 +38,8 @@ impl<'a> Model for Identity<'a> {
 }
 
 impl<'a> Identity<'a> {
-    /// Returns the identity of these pairs: the key, its qualifiers in the order of the key's path, and the attributes.
+    /// Returns the identity of exactly these pairs: the key, its qualifiers in the order of the key's path, and the attributes. No
+    /// table is asked: `make` gives it by a table if and only if they are the pairs of such an identity.
     pub fn from_pairs(
         key: Pair<'a>,
         qualifiers: Vec<Pair<'a>>,
