@@ -24,6 +24,7 @@ use Rattle.gs_http.specs.Turns.{Delivers, Outcome, Turned}
 use Rattle.gs_http.specs.ServedStreams.{IsServed, OnDone, after_serving}
 use Rattle.gs_chars.specs.Answers.{BeginsWith}
 use Rattle.gs_http.specs.Streams.{AreReplies, IsReplyTo, all_bytes, bytes_of, front_of, has_closing, head_end, headless, heads_of, replies_of, with_front}
+use Rattle.gs_http.proofs.Readings.{sent_nothing}
 use Rattle.gs_http.proofs.Fronts.{front_cut, front_ended, front_full, front_head}
 use Rattle.gs_http.proofs.StreamLaws.{all_append, are_append, bytes_append, closing_append, replies_append, some_replies}
 
@@ -271,16 +272,12 @@ module _ (table : List AiRow) (links : List Link) (settings : Settings) where
         by Memory others are d = subst (Ended n Memory first) (sym d.1)
             (finish false false n i bytes first before Memory x (reply ∷ others) are (take d.0 reply.bytes) (front_of_reply others d.0) tt)
 
-    -- nothing was written
-    sent_nothing : now ≡ before → sent_to before [] false ≡ now
-    sent_nothing same = ap (λ held. record before { held = held }) (append_nothing before.held) ∙ sym same
-
     -- nothing was written, for an error or out of memory
     end_before : (errored : Bool) → SoFar errored n i bytes first before → (served : Served) → OnDone served ⊥ → now ≡ before
         → IsServed n table links settings served first now × (now ≡ moved_on errored now first)
     end_before errored x served not_done same =
         let tail = some_replies table links settings (n - i) (heads_of (n - i) (bytes ++ rest_of before.left)) in
-        subst (λ (s : ConnState). IsServed n table links settings served first s × (s ≡ moved_on errored s first)) (sent_nothing same)
+        subst (λ (s : ConnState). IsServed n table links settings served first s × (s ≡ moved_on errored s first)) (sym (same ∙ sent_nothing before))
         (finish errored false n i bytes first before served x tail.0 tail.1 [] (replies_of tail.0, refl)
         (none ((([] ≡ replies_of tail.0) × ((rest_of before.left ≡ []) ⊎ (has_closing tail.0 ≡ true)))) served not_done))
       where
@@ -297,7 +294,7 @@ module _ (table : List AiRow) (links : List Link) (settings : Settings) where
         let stream : bytes ++ rest_of before.left ≡ [] = ap (λ front. front ++ rest_of before.left) empty ∙ rest in
         let are : AreReplies table links settings (n - i) (heads_of (n - i) (bytes ++ rest_of before.left)) [] =
         subst (λ (hs : List (Option (List ℕ))). AreReplies table links settings (n - i) hs []) (sym (heads_ended n i (bytes ++ rest_of before.left) low stream)) tt in
-        subst (Ended n Done first) (sent_nothing same) (finish false false n i bytes first before Done x [] are [] ([], refl) (refl, inl rest))
+        subst (Ended n Done first) (sym (same ∙ sent_nothing before)) (finish false false n i bytes first before Done x [] are [] ([], refl) (refl, inl rest))
 
     over_by : i < n → (served : Served) (after : List ℕ) (front : Filled) → SoFar (is_failed front) n i bytes first before → Begins front bytes before.left
         → Outcome front table links settings (Over served) ((n - i) == 1) bytes after before now → Ended n served first now
