@@ -11,7 +11,7 @@ loop-turn-init g c = record {
 
 pub loop-turn-preserved : goal.loop-turn-preserved
 loop-turn-preserved g c =
-    let turned = rw c.is_last.ensures at c.in-Stays.ensures in
+    let turned = rw c.is_last.ensures at c.in-None.ensures in
     let stays = not_last c.args.resolver.now.table c.args.resolver.now.links c.args.resolver.now.settings (1000 - c.loop-turn.turn == 1) _ _ _ _ turned in
     record {
       so_far = goes_on c.args.resolver.now.table c.args.resolver.now.links c.args.resolver.now.settings 1000 c.loop-turn.turn _ _ _ _ _ c.loop-turn.invariant.more c.loop-turn.invariant.so_far
@@ -20,12 +20,12 @@ loop-turn-preserved g c =
       room = let same = c.answer_next.auto.room in omega (arith, c.loop-turn.invariant.room);
     }
 
-pub returns-in-Over-clause-served : goal.returns-in-Over-clause-served
-returns-in-Over-clause-served g c =
-    (is_over c.args.resolver.now.table c.args.resolver.now.links c.args.resolver.now.settings 1000 c.loop-turn.turn _ _ _ _ _ c.in-Over.served c.loop-turn.invariant.more c.loop-turn.invariant.so_far
-    (rw c.is_last.ensures at c.in-Over.ensures)).0
+pub returns-in-Some-clause-served : goal.returns-in-Some-clause-served
+returns-in-Some-clause-served g c =
+    (is_over c.args.resolver.now.table c.args.resolver.now.links c.args.resolver.now.settings 1000 c.loop-turn.turn _ _ _ _ _ c.in-Some.served c.loop-turn.invariant.more c.loop-turn.invariant.so_far
+    (rw c.is_last.ensures at c.in-Some.ensures)).0
 
-pub returns-in-Over-clause-rest : goal.returns-in-Over-clause-rest
-returns-in-Over-clause-rest g c =
-    (is_over c.args.resolver.now.table c.args.resolver.now.links c.args.resolver.now.settings 1000 c.loop-turn.turn _ _ _ _ _ c.in-Over.served c.loop-turn.invariant.more c.loop-turn.invariant.so_far
-    (rw c.is_last.ensures at c.in-Over.ensures)).1
+pub returns-in-Some-clause-rest : goal.returns-in-Some-clause-rest
+returns-in-Some-clause-rest g c =
+    (is_over c.args.resolver.now.table c.args.resolver.now.links c.args.resolver.now.settings 1000 c.loop-turn.turn _ _ _ _ _ c.in-Some.served c.loop-turn.invariant.more c.loop-turn.invariant.so_far
+    (rw c.is_last.ensures at c.in-Some.ensures)).1
