@@ -14,20 +14,13 @@ use Rattle.tdl_arguments.specs.declared.name.Name.TheVariants.{Tables, Prefixes,
 use Rattle.tdl_arguments.specs.declared.name.NameRow.{NameRow}
 use Rattle.tdl_arguments.specs.declared.command.Command.TheVariants.{Migrate}
 use Rattle.tdl_arguments.specs.Commands.{names_of}
-use Rattle.tdl_arguments.specs.Names.{AreTaken, has_required, in_range, is_given, look_up, name_takes, name_word, none_taken, one_taken, row_takes, takes}
+use Rattle.tdl_arguments.specs.Names.{AreTaken, has_required, in_range, is_given, look_up, name_named, name_takes, name_word, none_taken, one_taken, row_takes, takes}
 use Rattle.tdl_arguments.specs.Ranges.{filter_of, is_numeral, is_vocabulary}
 use Rattle.tdl_arguments.specs.Requests.{Asked, WordsInOrder, default_voc, options_of}
 
 -- ---- names by their words
 
-names : List Name
-names = Tables ∷ Prefixes ∷ Links ∷ LinkText ∷ Second ∷ Third ∷ Describe ∷ Classes ∷ Voc ∷ Templates ∷ Listen ∷ Count ∷ Filter ∷ Gcp ∷ Encoding ∷ KeysOnly ∷ Stem ∷ []
-
-abbrev name_of : List ℕ → Option Name
-name_of word = find (λ (name : Name). bytes_eq word (name_word name)) names
-
-name_read : (name : Name) → name_of (name_word name) ≡ Some name
-unfolding names
+name_read : (name : Name) → name_named (name_word name) ≡ Some name
 name_read Tables = refl
 name_read Prefixes = refl
 name_read Links = refl
@@ -47,7 +40,7 @@ name_read KeysOnly = refl
 name_read Stem = refl
 
 same_name : (one other : Name) → name_word one ≡ name_word other → one ≡ other
-same_name one other e = let f : Some one ≡ Some other = sym (name_read one) ∙ ap name_of e ∙ name_read other in cc
+same_name one other e = let f : Some one ≡ Some other = sym (name_read one) ∙ ap name_named e ∙ name_read other in cc
 
 -- ---- values that are taken
 
