@@ -59,7 +59,11 @@ fn why_text(why: Why) -> &'static str {
 /// Writes which argument is wrong, and the reason.
 pub fn say_wrong(rt: HostRuntime, arguments: &[String], wrong: Wrong) {
     let why = why_text(wrong.why);
-    let _ = match wrong.place.and_then(|place| arguments.get(place)) {
+    let word = match wrong.place {
+        Some(place) => arguments.get(place),
+        None => None,
+    };
+    let _ = match word {
         Some(word) => eprintln!(rt; "tdl: {:?}: {why}", word.as_str()),
         None => eprintln!(rt; "tdl: {why}"),
     };

@@ -1,7 +1,7 @@
 -- Values that are named are in range.
 use Rattle.std.proofs.Common.{◌≡◌, ℕ, ◌≤◌, ◌&&◌, ◌||◌, Bool, true, false, List, [], ◌∷◌, Option, None, Some, refl, sym, ◌∙◌, ap, inl, inr}
 use Rattle.std.specs.List.{list_any}
-use Rattle.std.specs.Prelude.{IfSome, bytes_eq, find, if◌then◌else◌, is_some, nat_le, not, option_and_then, option_to_list, unwrap_or}
+use Rattle.std.specs.Prelude.{IfSome, bytes_eq, if◌then◌else◌, is_some, nat_le, not, option_and_then, option_to_list, unwrap_or}
 use Rattle.std.proofs.lemmas.Bool.{leb-true, and_parts}
 use Rattle.gs_chars.proofs.TruthsAndLists.{equal_bytes, true_or_false}
 use Rattle.gs_dlink.specs.Stems.{stem_ok}
