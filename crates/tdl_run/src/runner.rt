@@ -131,7 +131,7 @@ pub fn run<F: Files, S: Source, K: Sink, D: Door>(
     ensures door_counts { (D.aside door.old).errors ≤ (D.aside door.new).errors }
 {
     match read_arguments(words) {
-        Some(request) => run_request(alloc, request, files, input, output, door),
-        None => print_line(output, USAGE, Status::Usage),
+        Ok(request) => run_request(alloc, request, files, input, output, door),
+        Err(_) => print_line(output, USAGE, Status::Usage),
     }
 }
