@@ -1,9 +1,9 @@
 -- A whole run at a listener.
-use Rattle.std.proofs.Common.{◌≡◌, ℕ, ◌-◌, Bool, false, List, [], Option, length, take, drop, refl, sym, ap, ◌∙◌, inl, inr, arith, take-append-drop}
+use Rattle.std.proofs.Common.{◌≡◌, ℕ, ◌-◌, Bool, false, List, [], Option, length, take, drop, refl, sym, ap, ◌∙◌, subst, inl, inr, arith, take-append-drop}
 use Rattle.std.proofs.lemmas.List.Folds.{list_any-append}
 use Rattle.gs_chars.proofs.TruthsAndLists.{or_first}
 use Rattle.gs_http.specs.Sites.{SiteData}
-use Rattle.gs_port.specs.Connections.{aside_opened}
+use Rattle.gs_port.specs.Connections.{Listens, aside_opened}
 use Rattle.gs_port.specs.Files.{AddsNames}
 use Rattle.gs_port.specs.States.{ConnState}
 use Rattle.gs_port.specs.declared.files.OpenAnswer.TheVariants as opening
@@ -33,15 +33,18 @@ still_served n visits all =
     (sym (list_any-append (λ (visit : Visit). is_want visit.served) (take n visits) (drop n visits)) ∙ ap wants_memory (take-append-drop n visits) ∙ all)
 
 -- the same, seen from before the listener was opened
-pub ran_since : (site : SiteData) (count : ℕ) (a b : ConnState) (addresses : Option (List (List ℕ))) (output : List ℕ) (status : Status)
-    → ServeRan site count (record a { aside = aside_opened opening.Opened addresses a.aside }) b output status → ServeRan site count a b output status
-ran_since site count a b addresses output status r = let visited = r.visited in record {
-  visits = r.visits;
-  visited = record { waited = visited.waited; finished = visited.finished; are_visits = visited.are_visits };
-  few = r.few;
-  last = r.last;
-  prints = r.prints;
-}
+pub ran_since : (site : SiteData) (count : ℕ) (address : List ℕ) (a m b : ConnState) (output : List ℕ) (status : Status) → Listens opening.Opened address a m
+    → ServeRan site count m b output status → ServeRan site count a b output status
+ran_since site count address a m b output status l r =
+    let opened : ServeRan site count (record a { aside = aside_opened opening.Opened m.aside.addresses a.aside }) b output status = subst (λ (door : ConnState). ServeRan site count door b output status) l.rest r in
+    let visited = opened.visited in
+    record {
+      visits = opened.visits;
+      visited = record { waited = visited.waited; finished = visited.finished; are_visits = visited.are_visits };
+      few = opened.few;
+      last = opened.last;
+      prints = opened.prints;
+    }
 
 prints_line : (status : Status) (count : ℕ) (b : ConnState) (visits : List Visit) (output : List ℕ) → IsOver count b visits
     → PrintedAs Done (line_of visits) output status

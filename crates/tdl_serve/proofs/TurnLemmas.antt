@@ -1,16 +1,16 @@
 -- One connection at a listener.
-use Rattle.std.proofs.Common.{◌≡◌, ◌≢◌, ℕ, ◌-◌, List, [], ◌∷◌, ◌++◌, Option, Some, None, Result, Bool, refl, sym, ap, ◌∙◌, subst}
+use Rattle.std.proofs.Common.{◌≡◌, ◌≢◌, ℕ, ◌-◌, List, [], ◌∷◌, ◌++◌, Option, Some, None, Result, Bool, false, refl, sym, ap, ◌∙◌, subst}
 use Rattle.std.specs.Prelude.{is_some, option_map}
 use Rattle.gs_chars.specs.declared.memory.Memory.{Memory}
-use Rattle.gs_http.specs.ServedStreams.{reads_when, writes_when}
+use Rattle.gs_http.specs.ServedStreams.{after_serving, reads_when, writes_when}
 use Rattle.gs_http.specs.Sites.{SiteData}
 use Rattle.gs_port.specs.Asides.{Aside}
-use Rattle.gs_port.specs.Connections.{after_accept, behind_first, finished_now, first_begun, first_input}
+use Rattle.gs_port.specs.Connections.{after_accept, after_finish, behind_first, finished_now, first_begun, first_input}
 use Rattle.gs_port.specs.Contents.{append_known}
 use Rattle.gs_port.specs.States.{ConnState}
 use Rattle.gs_port.specs.declared.door.AcceptAnswer.TheVariants as accepting
 use Rattle.tdl_lines.specs.Inputs.{IsKnown}
-use Rattle.tdl_serve.specs.Turns.{OpenServed, TellsError}
+use Rattle.tdl_serve.specs.Turns.{OpenServed, TellsError, after_turns}
 use Rattle.tdl_serve.specs.Visits.{AreVisits, IsVisit, Visit, Visited, no_visit, one_visit, known_if}
 use Rattle.tdl_serve.proofs.StreamLemmas.{as_answered, front_is_part, replied, known_whole}
 
@@ -26,6 +26,18 @@ first_waited (Some []) bytes some is_known = absurd (some refl)
 first_waited (Some (input ∷ rest)) bytes some is_known =
     let same : bytes ≡ input = is_known in
     ap (λ first. Some (first ∷ rest)) (sym same)
+
+-- a listener before its first turn
+pub stays_closed : (door : ConnState) → door.is_open ≡ false → door ≡ after_turns false door door
+stays_closed door none = ap (λ open_now. record door { is_open = open_now }) none
+
+-- the listener after one more connection
+pub turned : (site : SiteData) (answer : Result Bool Memory) (a b c : ConnState) → b ≡ after_turns false b a
+    → OpenServed site answer (after_accept accepting.Accepted b) c → c ≡ after_turns false c a
+turned site answer a b c before x =
+    let accepted : ConnState → ConnState = λ door. after_finish (after_serving x.served x.last (after_accept accepting.Accepted door)) in
+    let is : c ≡ accepted (after_turns false b a) = x.ended ∙ ap after_finish x.rest ∙ ap accepted before in
+    is ∙ ap (λ door. after_turns false door a) (sym is)
 
 -- one connection was served and finished
 pub record OneVisit (site : SiteData) (answer : Result Bool Memory) (before now : ConnState) : Type 0 where

@@ -52,10 +52,11 @@ abbrev pub is_failed : Result Tally Status → Bool
 is_failed (Ok tally) = false
 is_failed (Err status) = is_status status ReadFault
 
--- The listener after the turns: one more of its own errors if the last of them failed. The connections and the counts of reads and
--- writes are those now.
+-- The listener after the turns: none is open, with one more of its own errors if the last of them failed. The connections and the
+-- counts of reads and writes are those now.
 abbrev pub after_turns : Bool → ConnState → ConnState → ConnState
 after_turns failed now before = record before {
+  is_open = false;
   left = now.left;
   taken = now.taken;
   held = now.held;
