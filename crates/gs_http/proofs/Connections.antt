@@ -13,8 +13,6 @@ use Rattle.gs_http.specs.declared.buffer.Filled.TheVariants as filled
 use Rattle.gs_http.specs.declared.buffer.Filled.{Filled}
 use Rattle.gs_http.specs.declared.connection.Served.{Served}
 use Rattle.gs_http.specs.declared.connection.Served.TheVariants.{Done, ReadFault, WriteFault, Memory}
-use Rattle.gs_http.specs.declared.connection.Turn.{Turn}
-use Rattle.gs_http.specs.declared.connection.Turn.TheVariants.{Stays, Over}
 use Rattle.gs_http.specs.declared.replies.Reply.{Reply}
 use Rattle.gs_http.specs.declared.resolver.Settings.{Settings}
 use Rattle.gs_http.specs.ConnectedSupport.{Begins, Fetches, NothingLeft, is_failed, sent_to}
@@ -24,6 +22,7 @@ use Rattle.gs_http.specs.Turns.{Delivers, Outcome, Turned}
 use Rattle.gs_http.specs.ServedStreams.{IsServed, OnDone, after_serving}
 use Rattle.gs_chars.specs.Answers.{BeginsWith}
 use Rattle.gs_http.specs.Streams.{AreReplies, IsReplyTo, all_bytes, bytes_of, front_of, has_closing, head_end, headless, heads_of, replies_of, with_front}
+use Rattle.gs_http.proofs.Readings.{sent_nothing}
 use Rattle.gs_http.proofs.Fronts.{front_cut, front_ended, front_full, front_head}
 use Rattle.gs_http.proofs.StreamLaws.{all_append, are_append, bytes_append, closing_append, replies_append, some_replies}
 
@@ -188,7 +187,7 @@ module _ (table : List AiRow) (links : List Link) (settings : Settings) where
         few = let shorter = length-append head after in let whole = ap length split in let before = x.few in omega arith;
       }
 
-  -- the connection was served
+  -- holds if a connection was served with this result, and nothing else was done to it
   abbrev pub Ended : ℕ → Served → ConnState → ConnState → Type 0
   Ended n served before now = IsServed n table links settings served before now × (now ≡ after_serving served now before)
 
@@ -211,26 +210,28 @@ module _ (table : List AiRow) (links : List Link) (settings : Settings) where
       let taken_heads : take i (heads_of n (read ++ rest)) ≡ x.heads =
       ap (take i) cut ∙ ap (λ k. take k (x.heads ++ heads_of (n - i) (bytes ++ rest))) (sym x.count) ∙ take-append_seam x.heads
       (heads_of (n - i) (bytes ++ rest)) in
-      let few = x.few in
-      (record {
-        read = read;
-        written = all_bytes x.replies ++ part;
-        rest = rest;
-        replies = x.replies ++ tail;
-        answered = i;
-        moved = x.moved;
-        took = x.took;
-        wrote = ap (λ known. append_known known part) x.wrote ∙ append_twice first.held (all_bytes x.replies) part;
-        is_rest = rest_is before.left;
-        are_replies = subst (λ (heads : List (Option (List ℕ))). AreReplies table links settings n heads (x.replies ++ tail)) (sym cut) all;
-        begun = (begins.0, replied ∙ ap (λ more. all_bytes x.replies ++ more) begins.1 ∙ sym (append_assoc (all_bytes x.replies) part begins.0));
-        whole = done served x.replies tail part replied x.stay whole;
-        front = (part, ap (λ replies. all_bytes replies ++ part) (sym answered));
-        few =
-            let sum = length-append (bytes_of x.heads) bytes in
-            let same : length (bytes_of (take i (heads_of n (read ++ rest)))) ≡ length (bytes_of x.heads) = ap (λ heads. length (bytes_of heads)) taken_heads in
-            omega arith;
-      }, ap (λ (s : ConnState). record s { held = append_known before.held part; writes = count_if faulted s.writes }) x.rest)
+      let few = x.few in (
+        record {
+          read = read;
+          written = all_bytes x.replies ++ part;
+          rest = rest;
+          replies = x.replies ++ tail;
+          answered = i;
+          moved = x.moved;
+          took = x.took;
+          wrote = ap (λ known. append_known known part) x.wrote ∙ append_twice first.held (all_bytes x.replies) part;
+          is_rest = rest_is before.left;
+          are_replies = subst (λ (heads : List (Option (List ℕ))). AreReplies table links settings n heads (x.replies ++ tail)) (sym cut) all;
+          begun = (begins.0, replied ∙ ap (λ more. all_bytes x.replies ++ more) begins.1 ∙ sym (append_assoc (all_bytes x.replies) part begins.0));
+          whole = done served x.replies tail part replied x.stay whole;
+          front = (part, ap (λ replies. all_bytes replies ++ part) (sym answered));
+          few =
+              let sum = length-append (bytes_of x.heads) bytes in
+              let same : length (bytes_of (take i (heads_of n (read ++ rest)))) ≡ length (bytes_of x.heads) = ap (λ heads. length (bytes_of heads)) taken_heads in
+              omega arith;
+        },
+        ap (λ (s : ConnState). record s { held = append_known before.held part; writes = count_if faulted s.writes }) x.rest,
+      )
     where
       done : (served : Served) (a tail : List Reply) (part : List ℕ) → replies_of (a ++ tail) ≡ all_bytes a ++ replies_of tail → has_closing a ≡ false
           → OnDone served ((part ≡ replies_of tail) × ((rest_of before.left ≡ []) ⊎ (has_closing tail ≡ true)))
@@ -244,7 +245,7 @@ module _ (table : List AiRow) (links : List Link) (settings : Settings) where
   module _ (n i : ℕ) (bytes : List ℕ) (first before now : ConnState) where
     end_with : SoFar false n i bytes first before → (head : Option (List ℕ)) (heads : List (Option (List ℕ)))
         → heads_of (n - i) (bytes ++ rest_of before.left) ≡ head ∷ heads
-        → (reply : Reply) → IsReplyTo table links settings head ((n - i) == 1) reply → (served : Served) → Delivers (Over served) reply before now
+        → (reply : Reply) → IsReplyTo table links settings head ((n - i) == 1) reply → (served : Served) → Delivers (Some served) reply before now
         → Ended n served first now
     end_with x head heads e reply is served delivers =
         let others = some_replies table links settings ((n - i) - 1) heads in
@@ -259,7 +260,7 @@ module _ (table : List AiRow) (links : List Link) (settings : Settings) where
 
         by : (served : Served) (others : List Reply)
             → AreReplies table links settings (n - i) (heads_of (n - i) (bytes ++ rest_of before.left)) (reply ∷ others)
-            → Delivers (Over served) reply before now → Ended n served first now
+            → Delivers (Some served) reply before now → Ended n served first now
         by Done others are d =
             let whole : replies_of (reply ∷ others) ≡ reply.bytes ++ [] = rw d.1 refl in
             let closing : has_closing (reply ∷ others) ≡ true = rw d.1 refl in
@@ -271,16 +272,12 @@ module _ (table : List AiRow) (links : List Link) (settings : Settings) where
         by Memory others are d = subst (Ended n Memory first) (sym d.1)
             (finish false false n i bytes first before Memory x (reply ∷ others) are (take d.0 reply.bytes) (front_of_reply others d.0) tt)
 
-    -- nothing was written
-    sent_nothing : now ≡ before → sent_to before [] false ≡ now
-    sent_nothing same = ap (λ held. record before { held = held }) (append_nothing before.held) ∙ sym same
-
     -- nothing was written, for an error or out of memory
     end_before : (errored : Bool) → SoFar errored n i bytes first before → (served : Served) → OnDone served ⊥ → now ≡ before
         → IsServed n table links settings served first now × (now ≡ moved_on errored now first)
     end_before errored x served not_done same =
         let tail = some_replies table links settings (n - i) (heads_of (n - i) (bytes ++ rest_of before.left)) in
-        subst (λ (s : ConnState). IsServed n table links settings served first s × (s ≡ moved_on errored s first)) (sent_nothing same)
+        subst (λ (s : ConnState). IsServed n table links settings served first s × (s ≡ moved_on errored s first)) (sym (same ∙ sent_nothing before))
         (finish errored false n i bytes first before served x tail.0 tail.1 [] (replies_of tail.0, refl)
         (none ((([] ≡ replies_of tail.0) × ((rest_of before.left ≡ []) ⊎ (has_closing tail.0 ≡ true)))) served not_done))
       where
@@ -297,10 +294,10 @@ module _ (table : List AiRow) (links : List Link) (settings : Settings) where
         let stream : bytes ++ rest_of before.left ≡ [] = ap (λ front. front ++ rest_of before.left) empty ∙ rest in
         let are : AreReplies table links settings (n - i) (heads_of (n - i) (bytes ++ rest_of before.left)) [] =
         subst (λ (hs : List (Option (List ℕ))). AreReplies table links settings (n - i) hs []) (sym (heads_ended n i (bytes ++ rest_of before.left) low stream)) tt in
-        subst (Ended n Done first) (sent_nothing same) (finish false false n i bytes first before Done x [] are [] ([], refl) (refl, inl rest))
+        subst (Ended n Done first) (sym (same ∙ sent_nothing before)) (finish false false n i bytes first before Done x [] are [] ([], refl) (refl, inl rest))
 
     over_by : i < n → (served : Served) (after : List ℕ) (front : Filled) → SoFar (is_failed front) n i bytes first before → Begins front bytes before.left
-        → Outcome front table links settings (Over served) ((n - i) == 1) bytes after before now → Ended n served first now
+        → Outcome front table links settings (Some served) ((n - i) == 1) bytes after before now → Ended n served first now
     over_by low served after filled.Ended x begins o =
         let is : served ≡ Done = (let e = o.0 in cc) in
         subst (λ (s : Served). Ended n s first now) (sym is) (end_of_stream low x begins.0 begins.1 o.1)
@@ -317,7 +314,7 @@ module _ (table : List AiRow) (links : List Link) (settings : Settings) where
         (heads_headed n i bytes (rest_of before.left) len low begins) o.0.reply o.0.is_reply served o.0.delivers
 
     stays_by : i < n → (after : List ℕ) (front : Filled) → SoFar (is_failed front) n i bytes first before → Begins front bytes before.left
-        → Outcome front table links settings Stays ((n - i) == 1) bytes after before now → SoFar false n (i + 1) after first now
+        → Outcome front table links settings None ((n - i) == 1) bytes after before now → SoFar false n (i + 1) after first now
     stays_by low after filled.Ended x begins o = absurd (let e = o.0 in cc)
     stays_by low after filled.Failed x begins o = absurd (let e = o.0 in cc)
     stays_by low after filled.Memory x begins o = absurd (let e = o.0 in cc)
@@ -327,20 +324,20 @@ module _ (table : List AiRow) (links : List Link) (settings : Settings) where
 
   -- a turn after which nothing more is done
   pub is_over : (n i : ℕ) (bytes after : List ℕ) (first before now : ConnState) (served : Served) → i < n → SoFar false n i bytes first before
-      → Turned table links settings (Over served) ((n - i) == 1) bytes after before now → Ended n served first now
+      → Turned table links settings (Some served) ((n - i) == 1) bytes after before now → Ended n served first now
   is_over n i bytes after first before now served low x turn =
       over_by n i turn.grown first turn.between now low served after turn.front
       (more_read (is_failed turn.front) n i bytes turn.grown first before turn.between x turn.reads turn.few) turn.begins turn.outcome
 
   -- a turn after which the connection stays
   pub goes_on : (n i : ℕ) (bytes after : List ℕ) (first before now : ConnState) → i < n → SoFar false n i bytes first before
-      → Turned table links settings Stays ((n - i) == 1) bytes after before now → SoFar false n (i + 1) after first now
+      → Turned table links settings None ((n - i) == 1) bytes after before now → SoFar false n (i + 1) after first now
   goes_on n i bytes after first before now low x turn =
       stays_by n i turn.grown first turn.between now low after turn.front
       (more_read (is_failed turn.front) n i bytes turn.grown first before turn.between x turn.reads turn.few) turn.begins turn.outcome
 
   outcome_last : (front : Filled) (last : Bool) (grown after : List ℕ) (before now : ConnState)
-      → Outcome front table links settings Stays last grown after before now → last ≡ false
+      → Outcome front table links settings None last grown after before now → last ≡ false
   outcome_last filled.Ended last grown after before now o = absurd (let e = o.0 in cc)
   outcome_last filled.Failed last grown after before now o = absurd (let e = o.0 in cc)
   outcome_last filled.Memory last grown after before now o = absurd (let e = o.0 in cc)
@@ -348,12 +345,27 @@ module _ (table : List AiRow) (links : List Link) (settings : Settings) where
   outcome_last (filled.Head len) last grown after before now o = stays_before_last (take len grown) last o.0.reply o.0.is_reply o.0.delivers.1
 
   -- after the last reply that may come the connection does not stay
-  pub not_last : (last : Bool) (bytes after : List ℕ) (before now : ConnState) → Turned table links settings Stays last bytes after before now → last ≡ false
+  pub not_last : (last : Bool) (bytes after : List ℕ) (before now : ConnState) → Turned table links settings None last bytes after before now → last ≡ false
   not_last last bytes after before now turn = outcome_last turn.front last turn.grown after turn.between now turn.outcome
 
   -- nothing was done, out of memory
   pub nothing_done : (n : ℕ) (conn : ConnState) → IsServed n table links settings Memory conn conn
   nothing_done n conn = (end_before n 0 [] conn conn conn false (at_start n conn) Memory tt refl).0
+
+  -- ---- one turn
+
+  pub turned : (turn : Option Served) (last : Bool) (bytes grown after : List ℕ) (front : Filled) (before between now : ConnState)
+      → Fetches bytes grown (is_failed front) before between → Begins front grown between.left → length grown ≤ 12287
+      → Outcome front table links settings turn last grown after between now → Turned table links settings turn last bytes after before now
+  turned turn last bytes grown after front before between now reads begins few outcome = record {
+    grown = grown;
+    front = front;
+    between = between;
+    reads = reads;
+    begins = begins;
+    few = few;
+    outcome = outcome;
+  }
 
 pub last_turn : (i : ℕ) → i < 1000 → (i + 1 == 1000) ≡ ((1000 - i) == 1)
 last_turn i low = elim (cases_order i 999) [

@@ -29,6 +29,10 @@ fetches_further a b c errored first mid last x y = record {
       ∙ ap (λ taken. record first { left = last.left; taken = taken; reads = count_if errored first.reads }) (append_twice first.taken x.bytes y.bytes);
 }
 
+-- nothing was written
+pub sent_nothing : (conn : ConnState) → conn ≡ sent_to conn [] false
+sent_nothing conn = ap (λ held. record conn { held = held }) (sym (append_nothing conn.held))
+
 -- writing after the first bytes of a list writes the next ones
 pub sent_further : (before now after : ConnState) (bytes : List ℕ) (done n : ℕ) → now ≡ sent_to before (take done bytes) false
     → after ≡ sent_to now (take n (take (length bytes - done) (drop done bytes))) false → after ≡ sent_to before (take (done + n) bytes) false

@@ -28,6 +28,7 @@ enum More {
 }
 
 /// Moves the next bytes of the connection after those that were read, at most 4,096 of them.
+#[tactic(auto, using(crate::proofs::Readings::fetches_none))]
 fn read_more<C: Conn>(conn: &mut C, bytes: &mut Vec<u8>) -> More
     requires current { (C.state conn.old).is_open ≡ true }
     requires few { length bytes.old.items < 8192 }
@@ -177,6 +178,7 @@ fn at_end(bytes: &[u8]) -> Filled
 }
 
 /// Reads until the bytes begin with a head, or none can follow. Reads nothing if they already begin with one.
+#[tactic(auto, using(crate::proofs::Readings::fetches_further))]
 pub(crate) fn fill<C: Conn>(conn: &mut C, bytes: &mut Buffer) -> Filled
     requires current { (C.state conn.old).is_open ≡ true }
     requires few { length bytes.old ≤ 12287 }

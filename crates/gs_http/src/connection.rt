@@ -32,15 +32,6 @@ pub enum Served {
     Memory,
 }
 
-/// How a turn of serving a connection ended.
-#[derive(Clone, Copy)]
-enum Turn {
-    /// A head was answered, and the connection stays.
-    Stays,
-    /// Nothing more is done with the connection.
-    Over(Served),
-}
-
 /// Writes all the bytes, in as many pieces as the connection takes.
 fn send<C: Conn>(conn: &mut C, bytes: &[u8]) -> Whole
     requires current { (C.state conn.old).is_open ≡ true }
@@ -57,36 +48,36 @@ fn send<C: Conn>(conn: &mut C, bytes: &[u8]) -> Whole
     Whole::Done
 }
 
-/// Writes a reply.
-fn deliver<C: Conn>(conn: &mut C, reply: &Reply) -> Turn
+/// Writes a reply. Returns how serving ended, or `None` if the connection stays.
+fn deliver<C: Conn>(conn: &mut C, reply: &Reply) -> Option<Served>
     requires current { (C.state conn.old).is_open ≡ true }
     ensures { Delivers result reply.now (C.state conn.old) (C.state conn.new) }
 {
     match send(conn, reply.bytes.as_bytes()) {
-        Whole::SinkFault => return Turn::Over(Served::WriteFault),
-        Whole::Memory => return Turn::Over(Served::Memory),
+        Whole::SinkFault => return Some(Served::WriteFault),
+        Whole::Memory => return Some(Served::Memory),
         Whole::Done => {}
     }
     if reply.close {
-        Turn::Over(Served::Done)
+        Some(Served::Done)
     } else {
-        Turn::Stays
+        None
     }
 }
 
-/// Answers bytes that are not a head, whatever follows.
-fn reject<C: Conn>(alloc: Global, conn: &mut C) -> Turn
+/// Answers bytes that are not a head, whatever follows, as `deliver` does.
+fn reject<C: Conn>(alloc: Global, conn: &mut C) -> Option<Served>
     requires current { (C.state conn.old).is_open ≡ true }
     ensures { (table : List AiRow) (links : List Link) (settings : How) (last : Bool)
         → Answered table links settings result None last (C.state conn.old) (C.state conn.new) }
 {
     match rejection(alloc) {
         Ok(reply) => deliver(conn, &reply),
-        Err(_) => Turn::Over(Served::Memory),
+        Err(_) => Some(Served::Memory),
     }
 }
 
-/// Answers the head with which the bytes begin, in place, and lets go of it if the connection stays open.
+/// Answers the head with which the bytes begin, in place, as `deliver` does. Lets go of it if the connection stays.
 fn answer_head<C: Conn>(
     alloc: Global,
     conn: &mut C,
@@ -95,7 +86,7 @@ fn answer_head<C: Conn>(
     bytes: &mut Buffer,
     len: usize,
     last: bool,
-) -> Turn
+) -> Option<Served>
     requires current { (C.state conn.old).is_open ≡ true }
     requires room { room_for resolver.now.links ≤ length room.old }
     requires within { len ≤ length bytes.old }
@@ -105,18 +96,18 @@ fn answer_head<C: Conn>(
 {
     let head = &bytes.as_slice()[..len];
     let Ok(reply) = reply_with(alloc, resolver, room, head, last) else {
-        return Turn::Over(Served::Memory);
+        return Some(Served::Memory);
     };
     match deliver(conn, &reply) {
-        Turn::Over(served) => Turn::Over(served),
-        Turn::Stays => {
+        Some(served) => Some(served),
+        None => {
             bytes.let_go(len);
-            Turn::Stays
+            None
         }
     }
 }
 
-/// Reads up to the end of a head and replies to it.
+/// Reads up to the end of a head and replies to it, as `deliver` does.
 fn answer_next<C: Conn>(
     alloc: Global,
     conn: &mut C,
@@ -124,7 +115,7 @@ fn answer_next<C: Conn>(
     room: &mut [u32],
     bytes: &mut Buffer,
     last: bool,
-) -> Turn
+) -> Option<Served>
     requires current { (C.state conn.old).is_open ≡ true }
     requires room { room_for resolver.now.links ≤ length room.old }
     requires few { length bytes.old ≤ 12287 }
@@ -132,15 +123,16 @@ fn answer_next<C: Conn>(
         bytes.old bytes.new (C.state conn.old) (C.state conn.new) }
 {
     match fill(conn, bytes) {
-        Filled::Ended => Turn::Over(Served::Done),
-        Filled::Failed => Turn::Over(Served::ReadFault),
-        Filled::Memory => Turn::Over(Served::Memory),
+        Filled::Ended => Some(Served::Done),
+        Filled::Failed => Some(Served::ReadFault),
+        Filled::Memory => Some(Served::Memory),
         Filled::Headless => reject(alloc, conn),
         Filled::Head(len) => answer_head(alloc, conn, resolver, room, bytes, len, last),
     }
 }
 
 /// Returns whether the reply of a turn is the last that may come.
+#[tactic(auto, using(crate::proofs::Connections::last_turn))]
 fn is_last(turn: usize) -> bool
     requires { turn < 1000 }
     ensures { result ≡ (1000 - turn == 1) }
@@ -165,8 +157,8 @@ pub fn serve_with<C: Conn>(
     let mut bytes = Buffer::new(alloc);
     for turn in 0..MOST {
         match answer_next(alloc, conn, resolver, room, &mut bytes, is_last(turn)) {
-            Turn::Stays => {}
-            Turn::Over(served) => return served,
+            None => {}
+            Some(served) => return served,
         }
     }
     // the last reply that may come ends the connection
@@ -177,6 +169,7 @@ pub fn serve_with<C: Conn>(
 /// 1,000th reply does. Bytes without a head within 8,192 bytes or before the end of the stream get one such reply. The
 /// connection stays open. `Done`: all replies were written, and nothing else. After the other results a prefix of them was
 /// written. Returns `ReadFault` or `WriteFault` only if a read or a write failed and was counted.
+#[tactic(auto, using(crate::proofs::Connections::nothing_done))]
 pub fn serve_one<C: Conn>(
     alloc: Global,
     conn: &mut C,

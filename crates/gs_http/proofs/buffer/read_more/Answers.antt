@@ -7,27 +7,17 @@ use Rattle.gs_http.proofs.Readings.{fetches_none}
 use Rattle.gs_http.proofs.buffer.read_more.Goals as goal
 
 -- a read that moved nothing left nothing
-none_left : (n : ℕ) (buf : List ℕ) (before after : Option (List ℕ)) → before ≡ prepend_known (take n buf) after → IfSome before (λ bytes. (n ≡ 0) ↔ (bytes ≡ [])) → n ≡ 0 → NothingLeft after
+none_left : (n : ℕ) (buf : List ℕ) (before after : Option (List ℕ)) → before ≡ prepend_known (take n buf) after
+    → IfSome before (λ bytes. (n ≡ 0) ↔ (bytes ≡ [])) → n ≡ 0 → NothingLeft after
 none_left n buf before None e h z = tt
 none_left n buf before (Some rest) e h z =
     let some = rw (e, z) at h in
     some.0 refl
 
-pub returns-in_default-clause-fetches : goal.returns-in_default-clause-fetches
-returns-in_default-clause-fetches g c = fetches_none _ _ _ _ _ c.in_default.ensures.items refl
-
 pub returns-in-Failed-clause-fetches : goal.returns-in-Failed-clause-fetches
 returns-in-Failed-clause-fetches g c =
     let same : c.truncate.new.self.items ≡ c.args.bytes.now.items = grind (arith, common_steps) in
     fetches_none _ _ _ _ _ same (rw c.in-Failed.ensures.read at c.in-Failed.ensures.rest)
-
-pub returns-in-Failed-clause-comes : goal.returns-in-Failed-clause-comes
-returns-in-Failed-clause-comes g c = grind (arith, common_steps)
-
-pub returns-in-Failed-clause-few : goal.returns-in-Failed-clause-few
-returns-in-Failed-clause-few g c =
-    let same : c.truncate.new.self.items ≡ c.args.bytes.now.items = grind (arith, common_steps) in
-    rw same (omega arith)
 
 pub returns-then-moved-eq0-clause-fetches : goal.returns-then-moved-eq0-clause-fetches
 returns-then-moved-eq0-clause-fetches g c =
@@ -38,11 +28,6 @@ pub returns-then-moved-eq0-clause-comes : goal.returns-then-moved-eq0-clause-com
 returns-then-moved-eq0-clause-comes g c =
     let grown : c.truncate-in-Got.new.self.items ≡ c.args.bytes.now.items ++ take c.in-Got.moved c.read.new.buf = grind (arith, common_steps, take-append-add) in
     (grown ∙ rw c.if-moved-eq0.true (append-nil c.args.bytes.now.items), none_left c.in-Got.moved c.read.new.buf _ _ c.in-Got.ensures.read.moved c.in-Got.ensures.read.end c.if-moved-eq0.true)
-
-pub returns-then-moved-eq0-clause-few : goal.returns-then-moved-eq0-clause-few
-returns-then-moved-eq0-clause-few g c =
-    let grown : c.truncate-in-Got.new.self.items ≡ c.args.bytes.now.items ++ take c.in-Got.moved c.read.new.buf = grind (arith, common_steps, take-append-add) in
-    rw (grown, c.if-moved-eq0.true, append-nil c.args.bytes.now.items) (omega arith)
 
 pub returns-else-moved-eq0-clause-fetches : goal.returns-else-moved-eq0-clause-fetches
 returns-else-moved-eq0-clause-fetches g c =
