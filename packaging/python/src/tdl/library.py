@@ -57,8 +57,8 @@ class Library:
         keys_only: bool,
         stem: Optional[str],
     ) -> None:
-        numbers = (FORMS.index(source), TARGETS.index(target), ANY_FILTER if filter is None else filter, gcp or 0, keys_only)
-        self._numbers = tuple(map(int, numbers))
+        self._forms = FORMS.index(source), TARGETS.index(target)
+        self._numbers = ANY_FILTER if filter is None else int(filter), int(gcp or 0), int(keys_only)
         self._names = (bytes_of(encoding or ""), bytes_of(stem or STEM))
         self._files = (tables, prefixes)
         self._rejected = functools.partial(_rejected, source, tables)
@@ -78,7 +78,7 @@ class Library:
 
     def _open(self) -> "_library.Session":
         tables, prefixes = (_content(which, path) for which, path in zip(LIMITS, self._files))
-        return _library.Session(*self._numbers, *self._names, tables, prefixes, bytes_of, self._rejected, FilesRejected)
+        return _library.Session(*self._forms, *self._numbers, *self._names, tables, prefixes, bytes_of, self._rejected, FilesRejected)
 
     def one(self) -> Callable[[Text], str]:
         """Returns the call that answers a text, or raises `Rejected`."""
