@@ -1,5 +1,5 @@
 -- The first fault of arguments.
-use Rattle.std.proofs.Common.{◌≡◌, ℕ, zero, suc, ◌+◌, ◌<◌, List, [], ◌∷◌, ◌++◌, Option, None, Some, drop, get_or, length, map, take, refl, sym, ◌∙◌, ap, arith, length-append}
+use Rattle.std.proofs.Common.{◌≡◌, ℕ, zero, suc, ◌+◌, ◌<◌, List, [], ◌∷◌, ◌++◌, Option, None, Some, drop, get_or, length, map, take, refl, sym, ◌∙◌, ap, subst, arith, length-append}
 use Rattle.std.proofs.lemmas.List.{drop-map, drop_all, drop_more, take-map, take_all}
 use Rattle.tdl_arguments.specs.declared.command.Command.{Command}
 use Rattle.tdl_arguments.specs.declared.name.NameRow.{NameRow}
@@ -69,7 +69,7 @@ both_here : {S : Type 0} (bytes : S → List ℕ) (options : List S) (place : �
 both_here bytes options place x y word value more here next is is' =
     let two : place + 1 + 1 ≡ place + 2 = omega arith in
     option_here bytes options place x word (omega (arith, more)) here is ∙
-    ap (λ ws. word ∷ ws) (rw two at (option_here bytes options (place + 1) y value more next is'))
+    ap (λ ws. word ∷ ws) (option_here bytes options (place + 1) y value more next is' ∙ ap (λ k. value ∷ map bytes (drop k options)) two)
 
 -- the fault of a value
 pub at_value : {S : Type 0} (bytes : S → List ℕ) (rows : List NameRow) (options : List S) (place n : ℕ) (earlier : NamedPairs) (x y : S)
@@ -96,7 +96,7 @@ two_more (w ∷ words) zero word value rest e =
     rw (first, others) refl
 two_more (w ∷ words) (suc n) word value rest e =
     let count : suc n + 2 ≡ suc (n + 2) = omega arith in
-    rw count (ap (λ ws. w ∷ ws) (two_more words n word value rest e))
+    ap (λ k. take k (w ∷ words)) count ∙ ap (λ ws. w ∷ ws) (two_more words n word value rest e)
 
 -- the fault of the options after a pair without one
 pub after_pair : {S : Type 0} (bytes : S → List ℕ) (rows : List NameRow) (options : List S) (place before : ℕ) (earlier : NamedPairs) (x y : S)
@@ -112,13 +112,16 @@ after_pair bytes rows options place before earlier x y word value wrong more her
         ap (λ ws. ws ++ (word ∷ value ∷ [])) (take-map bytes place options) in
     let later = faults (earlier ++ ((word, value) ∷ [])) (rw words (pairs_append (map bytes (take place options)) earlier word value are)) in
     rw both (none_here (before + place) (word_reason rows earlier word) _ _ (sym e)
-    (none_here (before + place + 1) (value_reason word value) _ _ (sym f) (rw count at later)))
+    (none_here (before + place + 1) (value_reason word value) _ _ (sym f)
+    (subst (λ k. IsFirst (option_faults rows (earlier ++ ((word, value) ∷ [])) k (map bytes (drop (place + 2) options))) wrong) count later)))
 
 -- the fault of all options
 pub from_start : {S : Type 0} (bytes : S → List ℕ) (rows : List NameRow) (options : List S) (before : ℕ) (wrong : Wrong)
     → OfPairs (map bytes (take 0 options)) (λ later. IsFirst (option_faults rows later (before + 0) (map bytes (drop 0 options))) wrong)
     → IsFirst (option_faults rows [] before (map bytes options)) wrong
-from_start bytes rows options before wrong faults = let none : before + 0 ≡ before = omega arith in rw none at (faults [] no_pair)
+from_start bytes rows options before wrong faults =
+    let none : before + 0 ≡ before = omega arith in
+    subst (λ k. IsFirst (option_faults rows [] k (map bytes options)) wrong) none (faults [] no_pair)
 
 -- ---- the command
 
