@@ -1,5 +1,5 @@
 -- A whole run at a listener.
-use Rattle.std.proofs.Common.{◌≡◌, ℕ, ◌-◌, Bool, false, List, [], Option, length, take, drop, refl, sym, ap, ◌∙◌, subst, inl, inr, arith, take-append-drop}
+use Rattle.std.proofs.Common.{◌≡◌, ℕ, ◌-◌, Bool, false, List, [], Option, length, take, drop, refl, sym, ap, ◌∙◌, subst, inl, arith, take-append-drop}
 use Rattle.std.proofs.lemmas.List.Folds.{list_any-append}
 use Rattle.gs_chars.proofs.TruthsAndLists.{or_first}
 use Rattle.gs_http.specs.Sites.{SiteData}

@@ -1,5 +1,5 @@
 -- The turns at a listener.
-use Rattle.std.proofs.Common.{◌≡◌, ◌<◌, ℕ, ◌+◌, ◌≤◌, Bool, true, false, List, [], ◌∷◌, ◌++◌, Ok, Err, length, refl, sym, ap, ◌∙◌, inl, inr, arith}
+use Rattle.std.proofs.Common.{◌≡◌, ◌⊎◌, ◌<◌, ℕ, ◌+◌, ◌-◌, ◌≤◌, Bool, true, false, List, [], ◌∷◌, ◌++◌, Ok, Err, length, refl, sym, ap, ◌∙◌, inl, inr, arith}
 use Rattle.gs_chars.specs.declared.memory.Memory.{Memory as Want}
 use Rattle.gs_http.specs.Sites.{SiteData}
 use Rattle.gs_port.specs.Connections.{after_accept}

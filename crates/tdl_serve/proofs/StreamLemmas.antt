@@ -10,7 +10,7 @@ use Rattle.gs_http.specs.Sites.{SiteData}
 use Rattle.gs_http.specs.Streams.{replies_of}
 use Rattle.gs_port.specs.Contents.{append_known, prepend_known}
 use Rattle.gs_port.specs.Counts.{count_if}
-use Rattle.gs_port.specs.Outputs.{Writes}
+use Rattle.gs_port.specs.Outputs.{Writes, written_to}
 use Rattle.gs_port.specs.States.{ConnState, SinkState}
 use Rattle.tdl_lines.specs.declared.status.Status.TheVariants.{Done, ReadFault, WriteFault}
 use Rattle.tdl_lines.specs.Inputs.{IsKnown}
@@ -82,7 +82,6 @@ done_when served.ReadFault = tt
 done_when served.WriteFault = tt
 done_when served.Memory = tt
 
-
 read_counted : (served : Served) (count : ℕ) → reads_when served count ≡ count_if (is_status (status_of served) ReadFault) count
 read_counted served.Done count = refl
 read_counted served.ReadFault count = refl
@@ -113,6 +112,16 @@ module _ (site : SiteData) (served : Served) (before now : ConnState)
           replied = subst (λ whole. Replied site (is.read ++ is.rest) whole is.written) (same_when served) (replied site served before now is);
           done = done_when served;
         },
+      )
+
+  -- the same, for an input and a sink that are these ends of the connection
+  pub resolved_to : (left : Option (List ℕ)) (output output' : SinkState) → before.left ≡ left → sink_of before ≡ output → sink_of now ≡ output'
+      → Writes (is_status (status_of served) WriteFault) output output' (λ out. Resolved site left out (status_of served))
+  resolved_to left output output' of_input of_output of_output' =
+      let w = resolved in (
+        w.0,
+        sym of_output' ∙ w.1 ∙ ap (λ sink. written_to sink w.0 (is_status (status_of served) WriteFault)) of_output,
+        subst (λ known. Resolved site known w.0 (status_of served)) of_input w.2,
       )
 
   -- the errors of the input

@@ -1,5 +1,5 @@
 -- One connection at a listener.
-use Rattle.std.proofs.Common.{◌≡◌, ◌≢◌, ℕ, ◌-◌, List, [], ◌∷◌, ◌++◌, Option, Some, None, Result, Bool, false, refl, sym, ap, ◌∙◌, subst}
+use Rattle.std.proofs.Common.{◌≡◌, ◌≢◌, ℕ, ◌-◌, List, [], ◌∷◌, ◌++◌, Option, Some, None, Result, Bool, false, refl, sym, ap, ◌∙◌}
 use Rattle.std.specs.Prelude.{is_some, option_map}
 use Rattle.gs_chars.specs.declared.memory.Memory.{Memory}
 use Rattle.gs_http.specs.ServedStreams.{after_serving, reads_when, writes_when}

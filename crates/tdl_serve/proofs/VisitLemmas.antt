@@ -10,7 +10,7 @@ use Rattle.gs_port.specs.Asides.{Finished}
 use Rattle.gs_port.specs.States.{ConnState}
 use Rattle.gs_http.specs.Sites.{SiteData}
 use Rattle.tdl_serve.specs.Turns.{error_number}
-use Rattle.tdl_serve.specs.Visits.{AreVisits, ConnState, Visit, Visited, entries_of, errors_of, inputs_of, is_error, is_want, no_visit, one_visit, wants_memory}
+use Rattle.tdl_serve.specs.Visits.{AreVisits, Visit, Visited, entries_of, errors_of, inputs_of, is_error, is_want, no_visit, one_visit, wants_memory}
 
 -- ---- lists of connections
 
