@@ -4,7 +4,8 @@ import io
 import tarfile
 from pathlib import Path
 
-FOLDER_MODE, FILE_MODE, PROGRAM_MODE = 0o755, 0o644, 0o755
+# (a link has the path that it leads to as its bytes)
+FOLDER_MODE, FILE_MODE, PROGRAM_MODE, LINK_MODE = 0o755, 0o644, 0o755, 0o777
 
 
 def packed(content):
@@ -30,6 +31,11 @@ def tar_of(files, when):
             archive.addfile(entry)
         for path, (content, mode) in files.items():
             entry = tarfile.TarInfo(path)
-            entry.size, entry.mode, entry.mtime = len(content), mode, when
+            entry.mode, entry.mtime = mode, when
+            if mode == LINK_MODE:
+                entry.type, entry.linkname = tarfile.SYMTYPE, content.decode()
+                archive.addfile(entry)
+                continue
+            entry.size = len(content)
             archive.addfile(entry, io.BytesIO(content))
     return plain.getvalue()

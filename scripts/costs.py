@@ -44,7 +44,7 @@ def costs(order, top=TOP):
 def write(measured, top=TOP):
     """Writes the rows anew, with these seconds and MB of the crates that were proved now."""
     known = {**rows(), **{crate: (round(seconds), round(megabytes), lines_of(crate, top)) for crate, (seconds, megabytes) in measured.items()}}
-    text = "".join(f"{crate} {' '.join(map(str, known[crate]))}\n" for crate in repository.program_crates(top) if crate in known)
+    text = "".join(f"{crate} {' '.join(map(str, known[crate]))}\n" for crate in repository.built_crates(top) if crate in known)
     FILE.write_text(HEAD + text, "ascii")
 
 
@@ -92,6 +92,6 @@ def run_unproved():
 
 def whole_build():
     """Returns the range of the seconds that bin/build takes here, from nothing."""
-    order, uses, processors = repository.program_crates(), repository.crates(), pace.processors()
+    order, uses, processors = repository.built_crates(), repository.crates(), pace.processors()
     seconds = laid_out({crate: cost for crate, (cost, _) in costs(order).items()}, uses, processors) * pace.clock(processors)
     return [seconds * factor for factor in RANGE]

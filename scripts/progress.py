@@ -21,7 +21,7 @@ class Progress:
 
     def __init__(self, top):
         self.top, self.uses, self.began = top, repository.crates(top), monotonic()
-        self.order, self.processors = repository.below("tdl", self.uses), pace.processors()
+        self.order, self.processors = repository.built_crates(top), pace.processors()
         self.costs = {crate: seconds for crate, (seconds, _) in costs.costs(self.order, top).items()}
         self.done, self.kept, self.begun, self.took, self.used = set(), set(), {}, {}, {}
         self.pace = pace.clock(self.processors)

@@ -63,16 +63,22 @@ def program_crates(top=TOP):
     return below("tdl", crates(top))
 
 
+def built_crates(top=TOP):
+    """The crates that the program and the library are made of, the lowest first."""
+    uses = crates(top)
+    return list(dict.fromkeys(crate for name in ("tdl", "tdl_c") if name in uses for crate in below(name, uses)))
+
+
 def checksum(path):
     """The checksum of a file's bytes."""
     return hashlib.sha256(path.read_bytes()).hexdigest()
 
 
-def checksum_of_sources(top=TOP):
-    """The checksum of all that the program is proved from."""
+def checksum_of_sources(top=TOP, name="tdl"):
+    """The checksum of all that the program, or another crate, is proved from."""
     uses = crates(top)
     total = hashlib.sha256()
-    for crate in below("tdl", uses):
+    for crate in below(name, uses):
         total.update(f"{crate}: {' '.join(uses[crate])}\n".encode())
         for path in files_of(crate, top):
             content = path.read_bytes()

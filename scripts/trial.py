@@ -1,9 +1,11 @@
 """What the checks have in common: the program that they try, the count of what passed, failed and was left out, and a free port."""
 import argparse
+import os
 import socket
 import sys
 from pathlib import Path
 
+import library
 import repository
 from repository import PROGRAM
 from tools import is_gate, lack
@@ -64,6 +66,18 @@ def arguments(described, *flags, **numbers):
     if not repository.is_program(given.program):
         asked.exit(2, f"{Path(sys.argv[0]).name}: there is no program {given.program}\n")
     return given
+
+
+def library_of(results):
+    """Returns the folder of the library: $TDL_LIBRARY, or that of the repository, where it is built if `rt ci` has left what it takes. Without
+    one it returns nothing, which fails in the gate."""
+    named = os.environ.get("TDL_LIBRARY")
+    try:
+        return Path(named).resolve() if named else library.current()
+    except library.Unbuilt as why:
+        results.failed, results.left_out = results.failed + is_gate(), results.left_out + (not is_gate())
+        print(f"{results.name}: {'failed' if is_gate() else 'left out'} what needs libtdl: {why}", flush=True)
+        return None
 
 
 def free_port():

@@ -12,6 +12,7 @@ Target = Literal["hex", "tag", "pure", "raw", "bracketed", "link", "canon"]
 File = Union[str, "os.PathLike[str]"]
 FORMS = ("hex", "tag", "pure", "raw", "bracketed", "link")
 TARGETS = (*FORMS, "canon")
+ENGINES = ("library", "pipe")
 STEM = re.compile(r"https?://[!\"$-.0->@-~][!\"$->@-~]*(?<!/)")
 MOST_OF_STEM = 1_024
 

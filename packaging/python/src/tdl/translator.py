@@ -1,11 +1,13 @@
 """Translations from one form to another, class URIs, and dumps of tags."""
 from __future__ import annotations
 
+import os
 from typing import Literal, Optional
 
-from . import options
-from .lines import Lines, Text
-from .options import FORMS, TARGETS, File, Form, Target, choice, path_of
+from . import library, options
+from .lines import Lines
+from .options import ENGINES, FORMS, TARGETS, File, Form, Target, choice, path_of
+from .texts import Text
 
 
 class Translator(Lines):
@@ -16,7 +18,10 @@ class Translator(Lines):
 
     `source` is `hex`, `tag`, `pure`, `raw`, `bracketed` or `link`, and `target` one of these or `canon`. `tables` and `prefixes` are
     files; `filter` is 0 to 7, `gcp` 1 to 12 digits, `encoding` the name of a tag's encoding, `stem` that of a link; `keys_only` keeps only
-    the key and its serial. `program` is the path of the program. A wrong option raises `ValueError`, a missing file `FileNotFoundError`.
+    the key and its serial. A wrong option raises `ValueError`, a missing file `FileNotFoundError`.
+
+    `engine` is `library`, which answers in this process, or `pipe`, which asks the program, whose path is `program`; both give the same
+    answers and exceptions. Unless it is named, the library answers if the module has it, and neither `program` nor `$TDL` names a program.
     """
 
     def __init__(
@@ -32,12 +37,28 @@ class Translator(Lines):
         keys_only: bool = False,
         stem: Optional[str] = None,
         program: Optional[str] = None,
+        engine: Optional[Literal["library", "pipe"]] = None,
     ) -> None:
         command = ["translate", choice("source", source, FORMS), choice("target", target, TARGETS)]
         words = options.words(
             filter=filter, gcp=gcp, encoding=encoding, keys_only=keys_only, stem=stem, tables=tables, prefixes=prefixes
         )
-        super().__init__(command + words, source, path_of(tables), program)
+        super().__init__(command + words, source, path_of(tables), program, None if _is_pipe(engine, program) else library.Library(
+            source, target, tables=path_of(tables), prefixes=path_of(prefixes), filter=filter, gcp=gcp, encoding=encoding, keys_only=keys_only, stem=stem
+        ))
+
+
+def _is_pipe(engine: Optional[str], program: Optional[str]) -> bool:
+    """Returns whether the program is asked."""
+    if engine is None:
+        return not library.IS_THERE or bool(program or os.environ.get("TDL"))
+    if choice("engine", engine, ENGINES) == "pipe":
+        return True
+    if program:
+        raise ValueError(f"program is an option of the engine pipe, not {program!r} of library")
+    if not library.IS_THERE:
+        raise ValueError("engine is library only if the module was installed with it, not 'library' here")
+    return False
 
 
 class Classes(Lines):

@@ -33,7 +33,7 @@ class Forms:
         self._elements = elements
         self._runs = [Translator(job.source, target, **job.options) for target in job.targets]
         self._codes = [code.encode("ascii") for code in job.split]
-        known = ("tables", "keys_only", "program")
+        known = ("tables", "keys_only", "program", "engine")
         options = {name: value for name, value in job.options.items() if name in known}
         self._canon = [Translator(job.source, "canon", **options)] if job.split else []
 
