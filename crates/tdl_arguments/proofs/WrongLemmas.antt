@@ -108,8 +108,8 @@ after_pair bytes rows options place before earlier x y word value wrong more her
     let both = both_here bytes options place x y word value more here next is is' in
     let count : before + (place + 2) ≡ before + place + 2 = omega arith in
     let words : map bytes (take (place + 2) options) ≡ map bytes (take place options) ++ (word ∷ value ∷ []) =
-        sym (take-map bytes (place + 2) options) ∙ two_more (map bytes options) place word value (map bytes (drop (place + 2) options)) (drop-map bytes place options ∙ both) ∙
-        ap (λ ws. ws ++ (word ∷ value ∷ [])) (take-map bytes place options) in
+    sym (take-map bytes (place + 2) options) ∙ two_more (map bytes options) place word value (map bytes (drop (place + 2) options)) (drop-map bytes place options ∙ both) ∙
+    ap (λ ws. ws ++ (word ∷ value ∷ [])) (take-map bytes place options) in
     let later = faults (earlier ++ ((word, value) ∷ [])) (rw words (pairs_append (map bytes (take place options)) earlier word value are)) in
     rw both (none_here (before + place) (word_reason rows earlier word) _ _ (sym e)
     (none_here (before + place + 1) (value_reason word value) _ _ (sym f)

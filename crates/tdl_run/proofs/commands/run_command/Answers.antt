@@ -73,6 +73,9 @@ returns-in-Serve g c =
 pub returns-in-Gen : goal.returns-in-Gen
 returns-in-Gen g c =
     let w = c.generate.ensures in
-    rw c.in-Gen.is (left_door refl (λ heads. absurd (false≢true heads)) (λ none. refl) refl
-    (w.0, w.1, gen_ran c.args.loaded.now (known_values c.args.values) c.in-Gen.lines (g.S.Source.state c.args.input.now) (g.K.Sink.state c.args.output.now)
-        (g.K.Sink.state c.generate.new.output) (g.D.Conn.state c.args.door.now) w.0 c.generate.result w.2))
+    rw c.in-Gen.is (left_door refl (λ heads. absurd (false≢true heads)) (λ none. refl) refl (
+      w.0,
+      w.1,
+      gen_ran c.args.loaded.now (known_values c.args.values) c.in-Gen.lines (g.S.Source.state c.args.input.now) (g.K.Sink.state c.args.output.now)
+          (g.K.Sink.state c.generate.new.output) (g.D.Conn.state c.args.door.now) w.0 c.generate.result w.2,
+    ))
