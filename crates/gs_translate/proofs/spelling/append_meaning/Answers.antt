@@ -2,7 +2,7 @@ use Rattle.std.proofs.Common.{refl}
 use Rattle.std.proofs.lemmas.Result.{err_from_is_err_and}
 use Rattle.gs_epc.specs.declared.epc.Epc.{Epc}
 use Rattle.gs_translate.specs.Steps.{rejects}
-use Rattle.gs_translate.proofs.StepLaws.{then_appended, unless_rejected}
+use Rattle.gs_translate.proofs.StepLaws.{then_appended, unappended, unless_rejected}
 use Rattle.gs_translate.proofs.spelling.append_meaning.Goals as goal
 
 pub returns-in_err-epc-clause-written : goal.returns-in_err-epc-clause-written
@@ -12,3 +12,6 @@ returns-in_err-epc-clause-written c =
 
 pub returns-clause-written : goal.returns-clause-written
 returns-clause-written c = then_appended _ _ c.in_ok-epc.epc _ _ c.append_epc.result c.in_ok-epc.ensures.epc c.append_epc.ensures.written
+
+pub returns-in_err-epc-clause-begun : goal.returns-in_err-epc-clause-begun
+returns-in_err-epc-clause-begun c = unappended c.from_residual.result c.args.out.now.items
