@@ -1,26 +1,18 @@
 -- A whole run at a listener.
-use Rattle.std.proofs.Common.{◌≡◌, ℕ, ◌-◌, Bool, false, List, [], Option, length, take, drop, refl, sym, ap, ◌∙◌, subst, inl, arith, take-append-drop}
+use Rattle.std.proofs.Common.{◌≡◌, ℕ, ◌-◌, false, List, [], length, take, drop, refl, sym, ap, ◌∙◌, subst, inl, arith, take-append-drop}
 use Rattle.std.proofs.lemmas.List.Folds.{list_any-append}
 use Rattle.gs_chars.proofs.TruthsAndLists.{or_first}
 use Rattle.gs_http.specs.Sites.{SiteData}
 use Rattle.gs_port.specs.Connections.{Listens, aside_opened}
-use Rattle.gs_port.specs.Files.{AddsNames}
 use Rattle.gs_port.specs.States.{ConnState}
 use Rattle.gs_port.specs.declared.files.OpenAnswer.TheVariants as opening
-use Rattle.gs_port.proofs.Names.{surely_added}
 use Rattle.tdl_lines.specs.declared.status.Status.{Status}
 use Rattle.tdl_lines.specs.declared.status.Status.TheVariants.{Done, SomeRefused, Usage, Refused, ReadFault, WriteFault, InputLong, Memory}
 use Rattle.tdl_lines.specs.Printers.{PrintedAs}
-use Rattle.tdl_lines.specs.Statuses.{is_status}
 use Rattle.tdl_serve.specs.declared.sessions.Tally.{Tally}
 use Rattle.tdl_serve.specs.Doors.{IsOver, ServePrints, ServeRan, line_of, served_line}
 use Rattle.tdl_serve.specs.Turns.{Tallies}
 use Rattle.tdl_serve.specs.Visits.{Visit, Visited, is_want, wants_memory}
-
--- addresses that an open added without a loss of memory, and that stayed
-pub stays_added : (lost : Bool) (before opened now : Option (List (List ℕ))) (more : List (List ℕ)) → AddsNames false before more opened
-    → now ≡ opened → AddsNames lost before more now
-stays_added lost before opened now more adds same = inl (same ∙ surely_added before opened more adds)
 
 -- nothing was served
 pub nothing_served : (site : SiteData) (count : ℕ) (a b : ConnState) (status : Status) → Visited site a b []
@@ -72,14 +64,3 @@ run_over site count a b tally output status s printed =
       last = still_served (length s.visits - 1) s.visits over.served;
       prints = prints_line status count b s.visits output over same;
     }
-
--- a line that is printed with `Done` is not an error of a read
-pub printed_errorless : (line output : List ℕ) (status : Status) → PrintedAs Done line output status → is_status status ReadFault ≡ false
-printed_errorless line output Done p = refl
-printed_errorless line output SomeRefused p = refl
-printed_errorless line output Usage p = refl
-printed_errorless line output Refused p = refl
-printed_errorless line output ReadFault p = ap (λ (s : Status). is_status s ReadFault) p.0
-printed_errorless line output WriteFault p = refl
-printed_errorless line output InputLong p = refl
-printed_errorless line output Memory p = refl

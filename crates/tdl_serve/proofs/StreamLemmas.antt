@@ -5,18 +5,18 @@ use Rattle.std.specs.Bool.{OnTrue}
 use Rattle.std.proofs.Math.Seq.{take-append_seam}
 use Rattle.gs_http.specs.declared.connection.Served.{Served}
 use Rattle.gs_http.specs.declared.connection.Served.TheVariants as served
-use Rattle.gs_http.specs.ServedStreams.{IsServed, OnDone, after_serving, reads_when, writes_when}
+use Rattle.gs_http.specs.ServedStreams.{IsServed, OnDone, after_serving, writes_when}
 use Rattle.gs_http.specs.Sites.{SiteData}
 use Rattle.gs_http.specs.Streams.{replies_of}
 use Rattle.gs_port.specs.Contents.{append_known, prepend_known}
 use Rattle.gs_port.specs.Counts.{count_if}
 use Rattle.gs_port.specs.Outputs.{Writes, written_to}
 use Rattle.gs_port.specs.States.{ConnState, SinkState}
-use Rattle.tdl_lines.specs.declared.status.Status.TheVariants.{Done, ReadFault, WriteFault}
+use Rattle.tdl_lines.specs.declared.status.Status.TheVariants.{Done, WriteFault}
 use Rattle.tdl_lines.specs.Inputs.{IsKnown}
 use Rattle.tdl_lines.specs.Printers.{IsInitialPart}
 use Rattle.tdl_lines.specs.Statuses.{is_status, is_written}
-use Rattle.tdl_serve.specs.Resolutions.{Resolved, StreamServed, status_of, stream_of}
+use Rattle.tdl_serve.specs.Resolutions.{Resolved, status_of}
 use Rattle.tdl_serve.specs.Sites.{Replied}
 use Rattle.tdl_serve.specs.Visits.{ReadsAsAnswered, is_done}
 
@@ -82,12 +82,6 @@ done_when served.ReadFault = tt
 done_when served.WriteFault = tt
 done_when served.Memory = tt
 
-read_counted : (served : Served) (count : ℕ) → reads_when served count ≡ count_if (is_status (status_of served) ReadFault) count
-read_counted served.Done count = refl
-read_counted served.ReadFault count = refl
-read_counted served.WriteFault count = refl
-read_counted served.Memory count = refl
-
 write_counted : (served : Served) (count : ℕ) → writes_when served count ≡ count_if (is_status (status_of served) WriteFault) count
 write_counted served.Done count = refl
 write_counted served.ReadFault count = refl
@@ -123,30 +117,3 @@ module _ (site : SiteData) (served : Served) (before now : ConnState)
         sym of_output' ∙ w.1 ∙ ap (λ sink. written_to sink w.0 (is_status (status_of served) WriteFault)) of_output,
         subst (λ known. Resolved site known w.0 (status_of served)) of_input w.2,
       )
-
-  -- the errors of the input
-  pub input_counted : now.reads ≡ count_if (is_status (status_of served) ReadFault) before.reads
-  input_counted = ap (λ (c : ConnState). c.reads) rest ∙ read_counted served before.reads
-
-  -- the stream without the connection that it was served as
-  pub streamed : StreamServed site (status_of served) (stream_of before.left before.held) (stream_of now.left now.held)
-  streamed = record {
-    served = served;
-    has_status = refl;
-    is_served = record {
-      read = is.read;
-      written = is.written;
-      rest = is.rest;
-      replies = is.replies;
-      answered = is.answered;
-      moved = is.moved;
-      took = refl;
-      wrote = is.wrote;
-      is_rest = is.is_rest;
-      are_replies = is.are_replies;
-      begun = is.begun;
-      whole = is.whole;
-      front = is.front;
-      few = is.few;
-    };
-  }
