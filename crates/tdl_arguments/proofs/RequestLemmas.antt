@@ -143,7 +143,7 @@ translation_spelled (word ∷ []) parts e = absurd (let f : None ≡ Some parts 
 translation_spelled (from ∷ to ∷ words) parts e = by (form_named from) refl (target_named to) refl e
   where
     by : (o : Option Form) → form_named from ≡ o → (p : Option Target) → target_named to ≡ p → option_and_then
-        (λ (f : Form). option_map (λ (t : Target). let p : Parts = (Translate f t, words) in p) p) o ≡ Some parts → AreOf
+        (λ (f : Form). option_map (λ (t : Target). let p : Parts = (Translate f t, words) in p) p) o ≡ Some parts → BeginWith
         (codes "translate" ∷ from ∷ to ∷ words) parts
     by None n p m f = absurd (let g : None ≡ Some parts = f in cc)
     by (Some form) n None m f = absurd (let g : None ≡ Some parts = f in cc)

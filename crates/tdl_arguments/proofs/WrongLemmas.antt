@@ -1,6 +1,6 @@
 -- The first fault of arguments.
-use Rattle.std.proofs.Common.{◌≡◌, ℕ, zero, suc, ◌+◌, ◌<◌, List, [], ◌∷◌, ◌++◌, Option, None, Some, drop, get_or, length, map, take, refl, sym, ◌∙◌, ap, subst, arith, length-append}
-use Rattle.std.proofs.lemmas.List.{drop-map, drop_all, drop_more, take-map, take_all}
+use Rattle.std.proofs.Common.{◌≡◌, ℕ, zero, suc, ◌+◌, ◌-◌, ◌<◌, ◌≤◌, List, [], ◌∷◌, ◌++◌, Option, None, Some, drop, get_or, length, map, take, refl, sym, ◌∙◌, ap, subst, arith, length-append}
+use Rattle.std.proofs.lemmas.List.{drop-map, drop_all, drop_more, length-map, take-map, take_all}
 use Rattle.tdl_arguments.specs.declared.command.Command.{Command}
 use Rattle.tdl_arguments.specs.declared.name.NameRow.{NameRow}
 use Rattle.tdl_arguments.specs.declared.wrong.Why.{Why}
@@ -141,3 +141,23 @@ wrong_of_options words parts before wrong e count first =
     let counted = count_after words parts e in
     let same : before ≡ length (command_words parts.0) = omega (arith, count, counted) in
     in_options parts (command_spelled words parts e) (rw same at first)
+
+-- the arguments after a command are not more than all
+pub fewer_after : {S : Type 0} (bytes : S → List ℕ) (words behind : List S) (command : Command)
+    → command_of (map bytes words) ≡ Some (command, map bytes behind) → length behind ≤ length words
+fewer_after bytes words behind command e =
+    let counted = count_after (map bytes words) (command, map bytes behind) e in
+    let all = length-map words bytes in
+    let some = length-map behind bytes in
+    omega (arith, counted, all, some)
+
+-- the first fault of the options after a command
+pub wrong_behind : {S : Type 0} (bytes : S → List ℕ) (words behind : List S) (command : Command) (rows : List NameRow) (wrong : Wrong)
+    → command_of (map bytes words) ≡ Some (command, map bytes behind) → rows ≡ names_of command
+    → IsFirst (option_faults rows [] (length words - length behind) (map bytes behind)) wrong → IsWrong (map bytes words) wrong
+wrong_behind bytes words behind command rows wrong e same first =
+    let fewer = fewer_after bytes words behind command e in
+    let all = length-map words bytes in
+    let some = length-map behind bytes in
+    wrong_of_options (map bytes words) (command, map bytes behind) (length words - length behind) wrong e
+    (omega (arith, fewer, all, some)) (rw same at first)
