@@ -4,7 +4,7 @@
      by one for all, as `tdl` prints them; files are named `-` for none. A session that is not opened gives `refused WHICH REASON`.
    calls: calls with buffers of each length around the answer's, handles without a session, numbers out of range, and bytes of all kinds.
    faults STEP: denies each STEPth request for memory in turn (linked with --wrap=malloc, --wrap=realloc).
-   threads: eight threads with a handle each, then with one behind a lock.
+   threads: eight threads with a handle each, then with handles over the same tables, then with one behind a lock.
    churn COUNT FILE: opens and closes COUNT sessions of the tables of a file (`-`: the built-in ones); the bytes that are held have to be
      the same after the first and the last. (Blocks that glibc keeps for each thread count as held, so it is told to keep none.)
 
@@ -188,6 +188,7 @@ static void try_shut(void) {
         CHECK(ask(&handle, asked, out, &len) == TDL_SHUT);
         CHECK(tdl_translate_lines(&handle, asked.at, asked.length, out.at, 64, &len) == TDL_SHUT);
         CHECK(tdl_retarget(&handle, &choice, TDL_NONE, TDL_STEM) == TDL_SHUT);
+        CHECK(len == 0);
         for (size_t n = 0; n < 64; n++)
             CHECK(out.at[n] == 0xA5);
         tdl_close(&handle);
@@ -272,6 +273,30 @@ static void try_retarget(tdl_handle *handle) {
     free(out.at);
 }
 
+static void try_share(tdl_handle *handle) {
+    tdl_choice back = { TDL_LINK, TDL_HEX, 3, 7, 0 }, wrong = { 9, 9, 9, 99, 9 };
+    bytes hex = text(HEX), link = text(LINK), out = block(256);
+    tdl_handle none = TDL_CLOSED, others[3] = { TDL_CLOSED, TDL_CLOSED, TDL_CLOSED };
+    size_t len = 0;
+    CHECK(tdl_share(&others[0], &none, &back, TDL_NONE, TDL_STEM) == TDL_SHUT);
+    CHECK(tdl_share(&others[0], handle, &wrong, TDL_NONE, TDL_STEM) == TDL_ARGUMENT);
+    CHECK(ask(&others[0], link, out, &len) == TDL_SHUT);
+    for (int again = 0; again < 2; again++)
+        for (int n = 0; n < 3; n++) {
+            CHECK(tdl_share(&others[n], n ? &others[n - 1] : handle, &back, TDL_NONE, TDL_STEM) == TDL_OK);
+            CHECK(ask(&others[n], link, out, &len) == TDL_OK && len == strlen(HEX) && !memcmp(out.at, HEX, len));
+            CHECK(ask(handle, hex, out, &len) == TDL_OK && len == strlen(LINK) && !memcmp(out.at, LINK, len));
+        }
+    tdl_close(&others[0]);
+    for (int n = 1; n < 3; n++) {
+        CHECK(ask(&others[n], link, out, &len) == TDL_OK && len == strlen(HEX) && !memcmp(out.at, HEX, len));
+        tdl_close(&others[n]);
+    }
+    free(hex.at);
+    free(link.at);
+    free(out.at);
+}
+
 /* Bytes of all kinds in each form, by one call and by all. */
 static void try_bytes(void) {
     uint64_t seed = 88172645463325252u;
@@ -311,6 +336,7 @@ static void calls(void) {
     try_documents(&handle);
     try_lengths(&handle, HEX, TDL_OK);
     try_retarget(&handle);
+    try_share(&handle);
     CHECK(open_plain(&handle, TDL_LINK, TDL_CANON) == TDL_OK);
     try_lengths(&handle, "https://shop.example/01/80614141123458/21/%25%26?17=261231", TDL_OK);
     try_bytes();
@@ -352,6 +378,14 @@ static uint32_t call_retarget(void) {
     return tdl_retarget(&faulted, &choice, (const uint8_t *)"sgtin-96", 8, TDL_STEM);
 }
 
+static uint32_t call_share(void) {
+    tdl_choice choice = { TDL_HEX, TDL_LINK, TDL_ANY_FILTER, TDL_ANY_GCP, 0 };
+    tdl_handle other = TDL_CLOSED;
+    uint32_t status = tdl_share(&other, &faulted, &choice, (const uint8_t *)"sgtin-96", 8, TDL_STEM);
+    tdl_close(&other);
+    return status;
+}
+
 static uint32_t call_translate(void) {
     return tdl_translate(&faulted, (const uint8_t *)LINK, strlen(LINK), answer_out, sizeof answer_out, &answer_len);
 }
@@ -391,6 +425,7 @@ static void faults(long step) {
     deny("tdl_translate, rejected", call_no, TDL_NO, 1);
     deny("tdl_translate_lines", call_lines, TDL_NO, 1);
     deny("tdl_retarget", call_retarget, TDL_OK, 1);
+    deny("tdl_share", call_share, TDL_OK, 1);
     deny("tdl_open, rejected", call_rejected, TDL_TABLES, 1);
     deny("tdl_open", call_open, TDL_OK, step);
     tdl_close(&faulted);
@@ -404,30 +439,41 @@ enum { THREADS = 8, EACH = 20000 };
 static pthread_mutex_t lock = PTHREAD_MUTEX_INITIALIZER;
 static tdl_handle shared = TDL_CLOSED;
 
-static void *work(void *is_shared) {
-    tdl_handle own = TDL_CLOSED, *handle = is_shared ? &shared : &own;
+enum { OWN, SAME_TABLES, SHARED };
+static int how;
+
+static void *work(void *given) {
+    tdl_handle *handle = how == SHARED ? &shared : given;
     uint8_t out[64];
     size_t len;
-    if (!is_shared)
-        CHECK(open_plain(&own, TDL_HEX, TDL_LINK) == TDL_OK);
+    if (how == OWN)
+        CHECK(open_plain(handle, TDL_HEX, TDL_LINK) == TDL_OK);
     for (int n = 0; n < EACH; n++) {
-        if (is_shared)
+        if (how == SHARED)
             pthread_mutex_lock(&lock);
         CHECK(tdl_translate(handle, (const uint8_t *)HEX, strlen(HEX), out, sizeof out, &len) == TDL_OK);
         CHECK(len == strlen(LINK) && !memcmp(out, LINK, len));
-        if (is_shared)
+        if (how == SHARED)
             pthread_mutex_unlock(&lock);
     }
-    tdl_close(&own);
+    if (how != SHARED)
+        tdl_close(handle);
     return NULL;
 }
 
 static void threads(void) {
+    tdl_choice choice = { TDL_HEX, TDL_LINK, TDL_ANY_FILTER, TDL_ANY_GCP, 0 };
     CHECK(open_plain(&shared, TDL_HEX, TDL_LINK) == TDL_OK);
-    for (int is_shared = 0; is_shared < 2; is_shared++) {
+    for (how = OWN; how <= SHARED; how++) {
         pthread_t started[THREADS];
+        tdl_handle handles[THREADS];
+        for (int n = 0; n < THREADS; n++) {
+            handles[n] = (tdl_handle)TDL_CLOSED;
+            if (how == SAME_TABLES)
+                CHECK(tdl_share(&handles[n], &shared, &choice, TDL_NONE, TDL_STEM) == TDL_OK);
+        }
         for (int n = 0; n < THREADS; n++)
-            CHECK(!pthread_create(&started[n], NULL, work, is_shared ? &shared : NULL));
+            CHECK(!pthread_create(&started[n], NULL, work, &handles[n]));
         for (int n = 0; n < THREADS; n++)
             CHECK(!pthread_join(started[n], NULL));
     }

@@ -23,6 +23,7 @@ PACKAGES = {
     "ip": "iproute2",
     "javac": "default-jdk-headless",
     "lintian": "lintian",
+    "make": "make",
     "mandoc": "mandoc",
     "mkdocs": "mkdocs",
     "mypy": "mypy",

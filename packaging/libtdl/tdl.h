@@ -89,6 +89,15 @@ uint32_t tdl_retarget(tdl_handle *handle, const tdl_choice *choice,
                       const uint8_t *encoding, size_t encoding_len,
                       const uint8_t *stem, size_t stem_len);
 
+/* Puts into a handle a session of other forms and options over the tables and company prefix lengths of another handle, which keeps its own. It
+   takes no load, and some hundred bytes; the tables go with the last session that has them. A session that the handle had is closed. Each
+   handle may then be used by a thread of its own, and be closed in any order.
+
+   Returns TDL_OK, TDL_ARGUMENT, TDL_MEMORY, or TDL_SHUT if the other handle has no session; after another than TDL_OK both are as they were. */
+uint32_t tdl_share(tdl_handle *handle, tdl_handle *other, const tdl_choice *choice,
+                   const uint8_t *encoding, size_t encoding_len,
+                   const uint8_t *stem, size_t stem_len);
+
 /* Translates a text. The buffer gets its translation (TDL_OK) or the reason why it has none (TDL_NO), and *len the length; no byte of 0
    ends it. The text may have any bytes.
 

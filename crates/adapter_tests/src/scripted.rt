@@ -151,7 +151,7 @@ pub fn the_first_error_and_the_last_name_are_kept(alloc: Global) -> bool {
     }
     let is_named = files
         .last_name()
-        .is_some_and(|name| name.as_bytes() == b"two");
+        .is_some_and(|name| name.as_bytes() == b"two".as_slice());
     is_named
         && is_interrupted(source.first_error())
         && is_interrupted(sink.first_error())

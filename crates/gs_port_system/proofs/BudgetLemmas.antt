@@ -1,12 +1,12 @@
 -- The budget of a connection over its calls.
-use Rattle.std.proofs.Common.{◌≡◌, ◌≤◌, ◌⊎◌, ℕ, zero, suc, ◌+◌, ◌*◌, ◌-◌, ◌/◌, ◌^◌, if◌then◌else◌, min, List, [], ◌∷◌, ◌++◌, map, fold, All, Result, Ok, Err, refl, sym, ap, ◌∙◌, subst, inl, inr, arith}
+use Rattle.std.proofs.Common.{◌≡◌, ◌≤◌, ℕ, zero, suc, ◌+◌, ◌-◌, ◌^◌, if◌then◌else◌, min, List, [], ◌∷◌, ◌++◌, map, fold, All, Result, Ok, Err, refl, sym, ap, ◌∙◌, inl, inr, arith}
 use Rattle.std.proofs.Math.Nat.{min-le_right}
 use Rattle.std.proofs.lemmas.List.Elements.{All-head, All-tail}
 use Rattle.std.proofs.lemmas.Grind.{fold-append}
 use Rattle.std.specs.declared.io.Error.{Error as SystemError}
 use Rattle.gs_port_system.specs.declared.budget.Budget.{Budget}
 use Rattle.gs_port_system.specs.declared.budget.Budget.TheVariants as budget
-use Rattle.gs_port_system.specs.Budgets.{Call, EndsBy, Move, after_read, after_write, all_moved, budget_after, budget_of, first_time, has_moved, head_limit, later, moved, read, read_at, read_until, reply_limit, reply_until, ten_seconds, time_of, write, write_at, write_until}
+use Rattle.gs_port_system.specs.Budgets.{Call, EndsBy, Move, after_read, after_write, all_moved, budget_after, budget_of, first_time, has_moved, head_limit, later, moved, read, read_at, read_until, reply_limit, ten_seconds, time_of, write, write_until}
 
 abbrev after_all : Budget → List Move → Budget
 after_all before moves = fold budget_after before moves

@@ -1,6 +1,6 @@
 -- The first fault of arguments.
-use Rattle.std.proofs.Common.{◌≡◌, ℕ, zero, suc, ◌+◌, ◌<◌, List, [], ◌∷◌, ◌++◌, Option, None, Some, drop, get_or, length, map, take, refl, sym, ◌∙◌, ap, arith, length-append}
-use Rattle.std.proofs.lemmas.List.{drop-map, drop_all, drop_more, take-map, take_all}
+use Rattle.std.proofs.Common.{◌≡◌, ℕ, zero, suc, ◌+◌, ◌-◌, ◌<◌, ◌≤◌, List, [], ◌∷◌, ◌++◌, Option, None, Some, drop, get_or, length, map, take, refl, sym, ◌∙◌, ap, subst, arith, length-append}
+use Rattle.std.proofs.lemmas.List.{drop-map, drop_all, drop_more, length-map, take-map, take_all}
 use Rattle.tdl_arguments.specs.declared.command.Command.{Command}
 use Rattle.tdl_arguments.specs.declared.name.NameRow.{NameRow}
 use Rattle.tdl_arguments.specs.declared.wrong.Why.{Why}
@@ -69,7 +69,7 @@ both_here : {S : Type 0} (bytes : S → List ℕ) (options : List S) (place : �
 both_here bytes options place x y word value more here next is is' =
     let two : place + 1 + 1 ≡ place + 2 = omega arith in
     option_here bytes options place x word (omega (arith, more)) here is ∙
-    ap (λ ws. word ∷ ws) (rw two at (option_here bytes options (place + 1) y value more next is'))
+    ap (λ ws. word ∷ ws) (option_here bytes options (place + 1) y value more next is' ∙ ap (λ k. value ∷ map bytes (drop k options)) two)
 
 -- the fault of a value
 pub at_value : {S : Type 0} (bytes : S → List ℕ) (rows : List NameRow) (options : List S) (place n : ℕ) (earlier : NamedPairs) (x y : S)
@@ -96,7 +96,7 @@ two_more (w ∷ words) zero word value rest e =
     rw (first, others) refl
 two_more (w ∷ words) (suc n) word value rest e =
     let count : suc n + 2 ≡ suc (n + 2) = omega arith in
-    rw count (ap (λ ws. w ∷ ws) (two_more words n word value rest e))
+    ap (λ k. take k (w ∷ words)) count ∙ ap (λ ws. w ∷ ws) (two_more words n word value rest e)
 
 -- the fault of the options after a pair without one
 pub after_pair : {S : Type 0} (bytes : S → List ℕ) (rows : List NameRow) (options : List S) (place before : ℕ) (earlier : NamedPairs) (x y : S)
@@ -108,17 +108,20 @@ after_pair bytes rows options place before earlier x y word value wrong more her
     let both = both_here bytes options place x y word value more here next is is' in
     let count : before + (place + 2) ≡ before + place + 2 = omega arith in
     let words : map bytes (take (place + 2) options) ≡ map bytes (take place options) ++ (word ∷ value ∷ []) =
-        sym (take-map bytes (place + 2) options) ∙ two_more (map bytes options) place word value (map bytes (drop (place + 2) options)) (drop-map bytes place options ∙ both) ∙
-        ap (λ ws. ws ++ (word ∷ value ∷ [])) (take-map bytes place options) in
+    sym (take-map bytes (place + 2) options) ∙ two_more (map bytes options) place word value (map bytes (drop (place + 2) options)) (drop-map bytes place options ∙ both) ∙
+    ap (λ ws. ws ++ (word ∷ value ∷ [])) (take-map bytes place options) in
     let later = faults (earlier ++ ((word, value) ∷ [])) (rw words (pairs_append (map bytes (take place options)) earlier word value are)) in
     rw both (none_here (before + place) (word_reason rows earlier word) _ _ (sym e)
-    (none_here (before + place + 1) (value_reason word value) _ _ (sym f) (rw count at later)))
+    (none_here (before + place + 1) (value_reason word value) _ _ (sym f)
+    (subst (λ k. IsFirst (option_faults rows (earlier ++ ((word, value) ∷ [])) k (map bytes (drop (place + 2) options))) wrong) count later)))
 
 -- the fault of all options
 pub from_start : {S : Type 0} (bytes : S → List ℕ) (rows : List NameRow) (options : List S) (before : ℕ) (wrong : Wrong)
     → OfPairs (map bytes (take 0 options)) (λ later. IsFirst (option_faults rows later (before + 0) (map bytes (drop 0 options))) wrong)
     → IsFirst (option_faults rows [] before (map bytes options)) wrong
-from_start bytes rows options before wrong faults = let none : before + 0 ≡ before = omega arith in rw none at (faults [] no_pair)
+from_start bytes rows options before wrong faults =
+    let none : before + 0 ≡ before = omega arith in
+    subst (λ k. IsFirst (option_faults rows [] k (map bytes options)) wrong) none (faults [] no_pair)
 
 -- ---- the command
 
@@ -138,3 +141,23 @@ wrong_of_options words parts before wrong e count first =
     let counted = count_after words parts e in
     let same : before ≡ length (command_words parts.0) = omega (arith, count, counted) in
     in_options parts (command_spelled words parts e) (rw same at first)
+
+-- the arguments after a command are not more than all
+pub fewer_after : {S : Type 0} (bytes : S → List ℕ) (words behind : List S) (command : Command)
+    → command_of (map bytes words) ≡ Some (command, map bytes behind) → length behind ≤ length words
+fewer_after bytes words behind command e =
+    let counted = count_after (map bytes words) (command, map bytes behind) e in
+    let all = length-map words bytes in
+    let some = length-map behind bytes in
+    omega (arith, counted, all, some)
+
+-- the first fault of the options after a command
+pub wrong_behind : {S : Type 0} (bytes : S → List ℕ) (words behind : List S) (command : Command) (rows : List NameRow) (wrong : Wrong)
+    → command_of (map bytes words) ≡ Some (command, map bytes behind) → rows ≡ names_of command
+    → IsFirst (option_faults rows [] (length words - length behind) (map bytes behind)) wrong → IsWrong (map bytes words) wrong
+wrong_behind bytes words behind command rows wrong e same first =
+    let fewer = fewer_after bytes words behind command e in
+    let all = length-map words bytes in
+    let some = length-map behind bytes in
+    wrong_of_options (map bytes words) (command, map bytes behind) (length words - length behind) wrong e
+    (omega (arith, fewer, all, some)) (rw same at first)

@@ -222,7 +222,7 @@ fn wrong_from(rows: &[NameRow], options: &[String], place: usize, before: usize)
     requires fits { before + length options.now < 2 ^ 63 }
     ensures { OfPairs (known_words (take place options.now)) (λ earlier.
         IsFirst (option_faults rows.now earlier (before + place) (known_words (drop place options.now)))
-            result) }
+        result) }
 {
     if place == options.len() {
         return wrong_pairs(rows, options);

@@ -1,8 +1,6 @@
 -- The load of a file of a kind, by how it was read and judged.
-use Rattle.std.proofs.Common.{ℕ, ◌≤◌, List, Option, length, refl, sym, ap, inl, inr, arith}
-use Rattle.std.proofs.lemmas.Grind.{common_steps}
-use Rattle.std.specs.Prelude.{Result, Ok, Err}
-use Rattle.gs_port.specs.Counts.{Rises}
+use Rattle.std.proofs.Common.{ℕ, ◌≤◌, List, Option, length, refl, sym, ap, inl, inr}
+use Rattle.std.specs.Prelude.{Bool, Result, Ok, Err}
 use Rattle.gs_port.specs.Files.{IsFile}
 use Rattle.gs_translate.specs.Steps.{Then, goes_on, rejects}
 use Rattle.tdl_messages.specs.declared.file_kind.FileKind.{FileKind}
@@ -10,9 +8,9 @@ use Rattle.tdl_messages.specs.declared.rejection.FileFault.{FileFault}
 use Rattle.tdl_messages.specs.Rejections.{file_limit}
 use Rattle.tdl_loads.specs.declared.loads.Unloaded.{Unloaded}
 use Rattle.tdl_loads.specs.declared.loads.Unloaded.TheVariants as unloaded
-use Rattle.tdl_loads.specs.Loads.{FileGives, StandsFor, Stop, absent, judged, missing, of_verdict, rejected, too_large}
+use Rattle.tdl_loads.specs.Loads.{FileGives, StandsFor, Stop, judged, missing, of_verdict, rejected}
 use Rattle.tdl_loads.specs.LoadsSupport.{LoadedBy}
-use Rattle.tdl_loads.specs.Reads.{JudgedAs, JudgedBy, ReadBy}
+use Rattle.tdl_loads.specs.Reads.{JudgedAs, JudgedBy}
 
 -- a file that was judged
 pub file_judged : {A : Type 0} (files : Option (List (List ℕ × List ℕ))) (kind : FileKind) (Judges : List ℕ → Result A FileFault → Type 0) (name bytes : List ℕ) (errored : Bool) (verdict : Result A FileFault) (result : Result A Unloaded)

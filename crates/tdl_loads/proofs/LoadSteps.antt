@@ -92,9 +92,13 @@ error_free : {A : Type 0} (a : A) (errored : Bool) → (errored ≡ true → Ok 
 error_free a false only = refl
 error_free {A = A} a true only = absurd (let given : Result A Unloaded = Ok a in let f : given ≡ Err unloaded.ReadFault = only refl in cc)
 
+-- an answer without a value
+abbrev failed : (A : Type 0) → Unloaded → Result A Unloaded
+failed A u = Err u
+
 -- an error is the same error of another load
-same_error : {A B : Type 0} (u v : Unloaded) → Err {A} u ≡ Err v → Err {B} u ≡ Err v
-same_error {A = A} u v e = let f : u ≡ v = (let g : Err {A} u ≡ Err v = e in cc) in ap Err f
+same_error : {A B : Type 0} (u v : Unloaded) → failed A u ≡ failed A v → failed B u ≡ failed B v
+same_error {A = A} {B = B} u v e = let f : u ≡ v = cc in ap (failed B) f
 
 all_by : {A : Type 0} (names : List (List ℕ)) (before now : Option (List (List ℕ))) (answer : Result A Unloaded)
     → AddsNames (is_load_short answer) before names now → Opens names before now answer
@@ -253,7 +257,7 @@ module _ {A B : Type 0} {First : Option FilesInMemory → Result A Stop → Type
     unopened = λ none. l.unopened (no_name one other none).0;
   }
     where
-      to_rejected : (rejection : Rejection) → Err {B} u ≡ Err (unloaded.Refused rejection) → now.opened ≡ with_names before.opened (up rejection.kind)
+      to_rejected : (rejection : Rejection) → failed B u ≡ failed B (unloaded.Refused rejection) → now.opened ≡ with_names before.opened (up rejection.kind)
       to_rejected rejection is =
           let same : u ≡ unloaded.Refused rejection = cc in
           let gives : First before.files (Err (rejected rejection)) = subst (λ (v : Unloaded). LoadedBy (First before.files) l.errored (Err v)) same l.loaded in

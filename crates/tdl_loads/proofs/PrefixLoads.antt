@@ -1,6 +1,6 @@
 -- The load of a list of company prefix lengths, by how its file was read.
 use Rattle.std.proofs.Common.{◌≡◌, ℕ, ◌≤◌, List, Option, Some, length, refl, sym, ◌∙◌, ap, inl, inr}
-use Rattle.std.specs.Prelude.{Result, Ok, Err}
+use Rattle.std.specs.Prelude.{Bool, Result, Ok, Err}
 use Rattle.gs_port.specs.Files.{IsFile}
 use Rattle.gs_prefix.specs.Answers.{OrMemory, load_answer}
 use Rattle.gs_prefix.specs.declared.entry.PrefixEntry.{PrefixEntry}

@@ -15,7 +15,8 @@ from contextlib import redirect_stdout
 from datetime import date
 from pathlib import Path
 
-sys.path.insert(0, str(Path(__file__).resolve().parent.parent / "src"))
+# (an installed module goes before the sources)
+sys.path.append(str(Path(__file__).resolve().parent.parent / "src"))
 
 from tdl.__main__ import arguments  # noqa: E402
 from tdl.inspector import Inspector, Question, datamatrix, qr  # noqa: E402

@@ -9,9 +9,11 @@ import threading
 import unittest
 from pathlib import Path
 
-sys.path.insert(0, str(Path(__file__).resolve().parent.parent / "src"))
+# (an installed module goes before the sources)
+sys.path.append(str(Path(__file__).resolve().parent.parent / "src"))
 
 import tdl  # noqa: E402
+from tdl import library  # noqa: E402
 from tdl.inspector.reasons import TARGETS  # noqa: E402
 from tdl.program import find_program  # noqa: E402
 
@@ -33,19 +35,26 @@ def printed(text):
     return f"no {text.reason}" if isinstance(text, tdl.Rejected) else f"ok {text}"
 
 
-class Answers(unittest.TestCase):
+class OfEngine(unittest.TestCase):
+    engine = "pipe"
+
+    def make(self, *forms, **options):
+        return tdl.Translator(*forms, engine=self.engine, **options)
+
+
+class Answers(OfEngine):
     def test_one_text(self):
         self.assertEqual(tdl.canon("pure", PURE), LINK)
         self.assertEqual(tdl.canon("pure", PURE.encode()), LINK)
 
     def test_options(self):
-        with tdl.Translator("link", "hex", filter=3, gcp=7) as bits:
+        with self.make("link", "hex", filter=3, gcp=7) as bits:
             self.assertEqual(bits.translate(LINK), "3074257BF7194E4000001A85")
-        with tdl.Translator("bracketed", "link", stem="https://r.example/g") as links:
+        with self.make("bracketed", "link", stem="https://r.example/g") as links:
             self.assertEqual(links.translate("(01)09506000134352(21)A\\(B"), "https://r.example/g/01/09506000134352/21/A%28B")
 
     def test_reasons(self):
-        with tdl.Translator("link") as links:
+        with self.make("link") as links:
             for text, kind, place, character, code in (
                 ("https://id.gs1.org/01/09506000134353", "check", 19, None, None),
                 ("https://x/01/09506000134352/21/%4", "escape", 28, None, None),
@@ -56,17 +65,17 @@ class Answers(unittest.TestCase):
                 found = caught.exception
                 self.assertEqual((found.kind, found.place, found.character, found.code), (kind, place, character, code))
                 self.assertEqual(found.text, text.encode())
-        with tdl.Translator("bracketed") as labels, self.assertRaises(tdl.Rejected) as caught:
+        with self.make("bracketed") as labels, self.assertRaises(tdl.Rejected) as caught:
             labels.translate("(414)0614141000012(254)4(254)5")
         self.assertEqual((caught.exception.reason, caught.exception.code), ("repeat 254", "254"))
         self.assertNotIsInstance(caught.exception, ValueError)
 
     def test_sentences(self):
         for translator, text, sentence in (
-            (tdl.Translator("link"), "https://id.gs1.org/01/09506000134353", "At byte 35: the check digit of (01) GTIN must be 2, not 3."),
-            (tdl.Translator("link", "hex"), LINK, TARGETS["missing gcp"]),
-            (tdl.Translator("bracketed", "pure", gcp=7), "(01)80614141123458(21)1(17)261231", "An EPC has no place for (17) USE BY or EXPIRY."),
-            (tdl.Translator("bracketed", tables=tdl.GS1), "(01)80614141123458(7003)26", "the value of (7003) EXPIRY TIME"),
+            (self.make("link"), "https://id.gs1.org/01/09506000134353", "At byte 35: the check digit of (01) GTIN must be 2, not 3."),
+            (self.make("link", "hex"), LINK, TARGETS["missing gcp"]),
+            (self.make("bracketed", "pure", gcp=7), "(01)80614141123458(21)1(17)261231", "An EPC has no place for (17) USE BY or EXPIRY."),
+            (self.make("bracketed", tables=tdl.GS1), "(01)80614141123458(7003)26", "the value of (7003) EXPIRY TIME"),
             (tdl.Classes("uri"), LINK, "No element of this link makes a class."),
             (tdl.Dumps("read"), "30003074257BF7194E40", "announces 6 words of 16 bits, but 64 bits follow"),
         ):
@@ -78,7 +87,7 @@ class Answers(unittest.TestCase):
 
     def test_each_reason_has_a_sentence(self):
         for form in FORMS:
-            with tdl.Translator(form, "hex") as translator:
+            with self.make(form, "hex") as translator:
                 for text in ("", "x", "0" * 129, "a" * 3_000, "(01)8", "(99)", "https://x/01/%4", "https://x/01/09506000134352?17=261331", "0109506000134352"):
                     try:
                         translator.translate(text)
@@ -97,12 +106,12 @@ class Answers(unittest.TestCase):
         for form, make in FORMS.items():
             texts = [make(number) for number in range(COUNT)] + ["", "x", make(1) + "\r", "a" * 3_000]
             ran = subprocess.run([find_program(), "canon", form], input="".join(f"{it}\r\n" for it in texts).encode(), stdout=subprocess.PIPE)
-            with tdl.Translator(form) as translator:
+            with self.make(form) as translator:
                 self.assertEqual([printed(it) for it in translator.translate_all(texts)], ran.stdout.decode().splitlines(), form)
 
     def test_batches(self):
         texts = [FORMS["pure"](number) for number in range(100)]
-        with tdl.Translator("pure") as translator:
+        with self.make("pure") as translator:
             wanted = [translator.translate(text) for text in texts]
             for batch in (1, 2, 3, 99, 100, 101):
                 self.assertEqual(list(translator.translate_all(texts, batch=batch)), wanted)
@@ -118,27 +127,27 @@ class Answers(unittest.TestCase):
                 taken.append(number)
                 yield FORMS["pure"](number)
 
-        with tdl.Translator("pure") as translator:
+        with self.make("pure") as translator:
             for number, _ in enumerate(translator.translate_all(source(), batch=1)):
                 self.assertEqual(len(taken), number + 1)
 
 
-class Hostile(unittest.TestCase):
+class Hostile(OfEngine):
     def test_line_feed(self):
-        with tdl.Translator("pure") as translator:
+        with self.make("pure") as translator:
             for text in ("a\nb", b"\n"):
                 self.assertRaises(ValueError, translator.translate, text)
             self.assertEqual(translator.translate(PURE), LINK)
 
     def test_long_text(self):
-        with tdl.Translator("pure") as translator:
+        with self.make("pure") as translator:
             with self.assertRaises(tdl.Rejected) as caught:
                 translator.translate("a" * 10_000_000)
             self.assertEqual(caught.exception.reason, "long")
             self.assertEqual(translator.translate(PURE), LINK)
 
     def test_texts_that_are_no_utf8(self):
-        with tdl.Translator("pure") as translator:
+        with self.make("pure") as translator:
             self.assertRaises(tdl.Rejected, translator.translate, bytes(set(range(256)) - {10}))
             self.assertRaises(tdl.Rejected, translator.translate, "\udc80")
 
@@ -149,20 +158,20 @@ class Hostile(unittest.TestCase):
             ({"tables": 3}, "tables"), ({"target": "pdf"}, "target"),
         ):
             with self.assertRaisesRegex(ValueError, rf"^{name} is .*, not "):
-                tdl.Translator("pure", **named)
-        self.assertRaisesRegex(ValueError, "^source is ", tdl.Translator, "canon")
+                self.make("pure", **named)
+        self.assertRaisesRegex(ValueError, "^source is ", self.make, "canon")
         self.assertRaisesRegex(ValueError, "^target is ", tdl.Classes, "url")
         self.assertRaisesRegex(ValueError, "options of `uri`", tdl.Classes, "canon", gcp=7)
         self.assertRaisesRegex(ValueError, "^action is ", tdl.Dumps, "show")
-        self.assertRaisesRegex(FileNotFoundError, "/not/there", tdl.Translator, "pure", tables="/not/there")
+        self.assertRaisesRegex(FileNotFoundError, "/not/there", self.make, "pure", tables="/not/there")
 
     def test_options_that_are_right(self):
         for named in ({"gcp": 1}, {"gcp": 12}, {"filter": 0}, {"filter": 7}, {"stem": "http://a"}, {"tables": Path(tdl.GS1)}, {"keys_only": True}, {"encoding": "x"}):
-            with tdl.Translator("pure", **named) as translator:
+            with self.make("pure", **named) as translator:
                 self.assertEqual(translator.translate(PURE), LINK)
 
     def test_texts_that_are_none(self):
-        with tdl.Translator("pure") as translator:
+        with self.make("pure") as translator:
             for texts in ("text", b"text"):
                 self.assertRaises(TypeError, translator.translate_all, texts)
                 self.assertRaises(TypeError, translator.translate_list, texts)
@@ -187,11 +196,11 @@ class Hostile(unittest.TestCase):
             with self.assertRaises(tdl.FilesRejected) as caught:
                 tdl.check(file.name)
             self.assertEqual((caught.exception.which, caught.exception.reason), ("tables", "json syntax"))
-            with tdl.Translator("pure", tables=file.name) as translator:
+            with self.make("pure", tables=file.name) as translator:
                 self.assertRaises(tdl.FilesRejected, translator.translate, PURE)
 
     def test_closed(self):
-        translator = tdl.Translator("pure")
+        translator = self.make("pure")
         translator.translate(PURE)
         translator.close()
         translator.close()
@@ -202,16 +211,16 @@ class Hostile(unittest.TestCase):
             yield PURE
             raise KeyError("none")
 
-        with tdl.Translator("pure") as translator:
+        with self.make("pure") as translator:
             self.assertRaises(KeyError, list, translator.translate_all(source()))
 
 
 class Processes(unittest.TestCase):
     def process_of(self, translator):
-        return translator._run._process
+        return translator._engine.run._process
 
     def test_started_once_more_where_it_was_killed(self):
-        with tdl.Translator("pure") as translator:
+        with tdl.Translator("pure", engine="pipe") as translator:
             translator.translate(PURE)
             first = self.process_of(translator)
             os.kill(first.pid, signal.SIGKILL)
@@ -223,7 +232,7 @@ class Processes(unittest.TestCase):
         def interrupt(*_):
             raise KeyboardInterrupt
 
-        with tdl.Translator("pure") as translator:
+        with tdl.Translator("pure", engine="pipe") as translator:
             translator.translate(PURE)
             os.kill(self.process_of(translator).pid, signal.SIGSTOP)
             before = signal.signal(signal.SIGALRM, interrupt)
@@ -248,7 +257,7 @@ class Processes(unittest.TestCase):
             os.unlink(file.name)
 
     def test_threads(self):
-        with tdl.Translator("pure") as translator:
+        with tdl.Translator("pure", engine="pipe") as translator:
             wrong = []
 
             def work(first):
@@ -264,7 +273,7 @@ class Processes(unittest.TestCase):
             self.assertEqual(wrong, [])
 
     def test_fork(self):
-        translator = tdl.Translator("pure")
+        translator = tdl.Translator("pure", engine="pipe")
         translator.translate(PURE)
         child = os.fork()
         if child == 0:
@@ -281,12 +290,12 @@ class Processes(unittest.TestCase):
         self.assertEqual(process.returncode, 0)
 
     def test_no_run_is_left(self):
-        translator = tdl.Translator("pure")
+        translator = tdl.Translator("pure", engine="pipe")
         translator.translate(PURE)
         process = self.process_of(translator)
         del translator
         self.assertEqual(process.returncode, 0)
-        generator = tdl.Translator("pure").translate_all(FORMS["pure"](number) for number in range(10_000))
+        generator = tdl.Translator("pure", engine="pipe").translate_all(FORMS["pure"](number) for number in range(10_000))
         next(generator)
         generator.close()
 
@@ -294,6 +303,161 @@ class Processes(unittest.TestCase):
         counts = tdl.check()
         self.assertGreater(counts.ais, 50)
         self.assertEqual(counts.links, 0)
+
+
+@unittest.skipUnless(library.IS_THERE, "the module has no library")
+class AnswersOfTheLibrary(Answers):
+    engine = "library"
+
+
+@unittest.skipUnless(library.IS_THERE, "the module has no library")
+class HostileToTheLibrary(Hostile):
+    engine = "library"
+
+
+@unittest.skipUnless(library.IS_THERE, "the module has no library")
+class Sessions(unittest.TestCase):
+    def test_who_answers(self):
+        before = os.environ.pop("TDL", None)
+        try:
+            self.assertIsInstance(tdl.Translator("pure")._engine, library.Library)
+            self.assertNotIsInstance(tdl.Translator("pure", program="/bin/true")._engine, library.Library)
+            os.environ["TDL"] = find_program()
+            self.assertNotIsInstance(tdl.Translator("pure")._engine, library.Library)
+            self.assertIsInstance(tdl.Translator("pure", engine="library")._engine, library.Library)
+        finally:
+            os.environ.pop("TDL", None)
+            if before:
+                os.environ["TDL"] = before
+        self.assertRaisesRegex(ValueError, "^program is an option of ", tdl.Translator, "pure", engine="library", program="/bin/true")
+        self.assertRaisesRegex(ValueError, "^engine is library or pipe, not ", tdl.Translator, "pure", engine="socket")
+
+    def test_files(self):
+        texts = {"{": "json syntax", "": "json syntax", "{}": "json lacks ", " " * 2_097_153: "over"}
+        for which in ("tables", "prefixes"):
+            for text, reason in texts.items():
+                with tempfile.NamedTemporaryFile("w", suffix=".json") as file:
+                    file.write(text if which == "tables" or reason != "over" else 2 * text)
+                    file.flush()
+                    said = []
+                    for engine in ("library", "pipe"):
+                        with tdl.Translator("hex", engine=engine, **{which: file.name}) as translator, self.assertRaises(tdl.FilesRejected) as caught:
+                            translator.translate("30")
+                        said.append((str(caught.exception), caught.exception.which, caught.exception.reason))
+                self.assertEqual(said[0], said[1])
+                self.assertTrue(said[0][2].startswith(reason), said)
+        file = tempfile.NamedTemporaryFile(suffix=".json", delete=False)
+        file.close()
+        translator = tdl.Translator("hex", tables=file.name, engine="library")
+        os.unlink(file.name)
+        self.assertRaises(FileNotFoundError, translator.translate, "30")
+
+    def test_documents(self):
+        with tdl.Translator("bracketed", "hex", tables=tdl.GS1, gcp=7, filter=3, engine="library") as bits:
+            self.assertEqual(bits.translate("(01)80614141123458(21)6789"), "3074257BF7194E4000001A85")
+
+    def test_the_bytes_of_others(self):
+        class Name(str):
+            pass
+
+        class Long(bytes):
+            pass
+
+        with tdl.Translator("pure", engine="library") as translator:
+            for text in (Name(PURE), Long(PURE.encode()), bytearray(PURE.encode())):
+                self.assertEqual((translator.translate(text), translator.translate_list([text])), (LINK, [LINK]))
+            with self.assertRaises(tdl.Rejected) as caught:
+                translator.translate("\u20ac")
+            self.assertEqual((caught.exception.text, caught.exception.source), ("\u20ac".encode(), "pure"))
+
+    def test_lines(self):
+        lines = f"{PURE}\r\nx\r\n".encode()
+        for engine in ("library", "pipe"):
+            with tdl.Translator("pure", engine=engine) as translator:
+                self.assertEqual(translator.print_answers(lines, 2), f"ok {LINK}\nno reading\n".encode())
+                self.assertEqual(translator.print_answers(b"x\r\n" * 30_000, 30_000), b"no reading\n" * 30_000)
+
+    def test_closed_while_it_answers(self):
+        translator = tdl.Translator("pure", engine="library")
+        answers = translator.translate_all([PURE] * 2_000, batch=100)
+        self.assertEqual(next(answers), LINK)
+        translator.close()
+        self.assertRaises(ValueError, translator.translate, PURE)
+        self.assertRaises(ValueError, translator.translate_list, [PURE])
+        self.assertEqual(list(answers), [LINK] * 1_999)
+
+    def test_threads_and_batches(self):
+        with tdl.Translator("pure", engine="library") as translator:
+            wrong = []
+
+            def work(first):
+                texts = [FORMS["pure"](number) for number in range(first, first + 300)]
+                wanted = [f"https://id.gs1.org/01/80614141123458/21/{number}" for number in range(first, first + 300)]
+                for _ in range(5):
+                    if translator.translate_list(texts) != wanted or [translator.translate(text) for text in texts] != wanted:
+                        wrong.append(first)
+
+            threads = [threading.Thread(target=work, args=(1_000 * it,)) for it in range(8)]
+            for thread in threads:
+                thread.start()
+            for thread in threads:
+                thread.join()
+            self.assertEqual(wrong, [])
+
+    def test_a_batch_lets_other_threads_run(self):
+        with tdl.Translator("pure", engine="library") as translator:
+            translator.translate(PURE)
+            texts, counted, is_over = [PURE] * 200_000, [0], threading.Event()
+
+            def count():
+                while not is_over.wait(0.001):
+                    counted[0] += 1
+
+            thread = threading.Thread(target=count)
+            thread.start()
+            translator.translate_list(texts)
+            is_over.set()
+            thread.join()
+            self.assertGreater(counted[0], 3)
+
+    def test_fork_while_another_thread_asks(self):
+        with tdl.Translator("pure", engine="library") as translator:
+            translator.translate(PURE)
+            is_over = threading.Event()
+
+            def ask():
+                while not is_over.is_set():
+                    translator.translate_list([PURE] * 2_000)
+
+            thread = threading.Thread(target=ask)
+            thread.start()
+            try:
+                for _ in range(10):
+                    child = os.fork()
+                    if child == 0:
+                        try:
+                            right = translator.translate(PURE) == LINK and translator.translate_list([PURE]) == [LINK]
+                            os._exit(0 if right else 1)
+                        except BaseException:
+                            os._exit(2)
+                    self.assertEqual(os.waitpid(child, 0)[1], 0)
+            finally:
+                is_over.set()
+                thread.join()
+
+    def test_not_pickled(self):
+        with tdl.Translator("pure", engine="library") as translator:
+            translator.translate(PURE)
+            self.assertRaises(TypeError, pickle.dumps, translator)
+            self.assertRaises(TypeError, pickle.dumps, translator._engine._session)
+
+    def test_subclasses(self):
+        class Loud(tdl.Translator):
+            def translate(self, text):
+                return super().translate(text).upper()
+
+        with Loud("pure", engine="library") as loud:
+            self.assertEqual([loud.translate(PURE), loud.translate(PURE)], [LINK.upper()] * 2)
 
 
 if __name__ == "__main__":

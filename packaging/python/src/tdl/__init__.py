@@ -1,4 +1,4 @@
-"""GS1 identities, translated by the program `tdl`.
+"""GS1 identities, translated by the library libtdl or by the program `tdl`.
 
     >>> import tdl
     >>> tdl.canon("pure", "urn:epc:id:sgtin:0614141.812345.6789")

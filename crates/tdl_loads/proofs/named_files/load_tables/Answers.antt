@@ -15,7 +15,7 @@ returns-in-Ok-Some g c =
 
 pub returns-in-Ok-None : goal.returns-in-Ok-None
 returns-in-Ok-None g c = unnamed_loads kind.Tables (λ bytes. JudgesTables bytes (LoadAnswer bytes)) (JudgesTables [] BuiltInAnswer) (known_name c.args.name) c.load_builtin.result
-    (rw c.in-Ok-None.field-0-is at c.in-Ok-None.ensures) (λ errored. c.load_builtin.ensures _ errored)
+    (rw c.in-Ok-None.field-0-is at c.in-Ok-None.ensures) (λ errored. c.load_builtin.ensures (g.F.Files.state c.args.files.now).files errored)
 
 pub returns-in-Err : goal.returns-in-Err
 returns-in-Err g c =
