@@ -42,7 +42,7 @@ def is_current(folder=OUT):
     try:
         *files, sources = (folder / RECORD).read_text("ascii").split()
         return files == [repository.checksum(folder / name) for name in (SONAME, ARCHIVE)] and sources == checksum_of_sources()
-    except (OSError, ValueError):
+    except (OSError, ValueError, KeyError):
         return False
 
 
