@@ -67,7 +67,7 @@ class Definition:
     def uses(self):
         """The names that it speaks of: of a function with a law, only those of its type."""
         lines = [line for line in self.formula if not (self.law and line.startswith(f"{self.name} "))]
-        return {name for line in lines for name in NAMES.findall(MEMBER.sub("  ", re.sub(r"--.*", "", line)))}
+        return {name for line in lines for name in NAMES.findall(MEMBER.sub("  ", re.sub(r"(?:^|\s)--\s.*", "", line)))}
 
 
 class Specs:

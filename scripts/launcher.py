@@ -27,16 +27,12 @@ import recorded
 import repository
 from pace import between
 from repository import CRATES, GIGABYTE, PROGRAM
+from texts import asked_text, commands, usage_line
 
 # the commands that read standard input
 READ_INPUT = {"canon", "translate", "resolve", "class", "dump"}
 # the names whose value is the name of a file
 FILE_NAMES = {"--tables", "--prefixes", "--links", "--link-text", "--second", "--third", "--describe", "--classes"}
-# the sources of the texts: of the help and the version, and of the usage line
-TEXTS = CRATES / "tdl_help" / "src" / "text.rt"
-TEXT = re.compile(r'^pub\(crate\) const (\w+): &str = "([^"]*)";$', re.MULTILINE)
-USAGE = CRATES / "tdl_run" / "src" / "runner.rt"
-USAGE_LINE = re.compile(r'b"(usage: tdl [^"]*)\\n"')
 INPUT = 3
 USAGE_STATUS, CANNOT, INPUT_FAILED, OUTPUT_FAILED, INTERRUPTED = 2, 70, 4, 5, 130
 MOST_INPUT, MOST_SECONDS = 64 << 20, 3_600
@@ -64,29 +60,6 @@ def say_as_program(text):
 def system_words(error):
     """An error as the program writes it."""
     return f"{error.strerror} (os error {error.errno})"
-
-
-def asked_text(arguments):
-    """Returns the text that --help, --version, or a command and --help ask for, or nothing if there are other arguments."""
-    pieces = dict(TEXT.findall(TEXTS.read_text("utf-8")))
-    version = pieces.pop("VERSION")
-    if arguments == ["--version"]:
-        return version
-    if arguments == ["--help"]:
-        return "".join(pieces.values())
-    if len(arguments) == 2 and arguments[1] == "--help" and arguments[0] in commands():
-        return pieces[arguments[0].upper()] + (pieces["FORMS"] if arguments[0] in ("canon", "translate") else "")
-    return ""
-
-
-def usage_line():
-    """The usage line of the program."""
-    return USAGE_LINE.search(USAGE.read_text("utf-8"))[1]
-
-
-def commands():
-    """The first words of the commands."""
-    return {row.split()[0] for row in re.fullmatch("usage: tdl (.*), then .*", usage_line())[1].split(" | ")}
 
 
 def fault_of_command(arguments):

@@ -20,8 +20,8 @@ pub fn outcome<F: Files>(alloc: Global, files: &mut F, name: &str, max: usize) -
 
 /// Accepts a connection, replies with the bytes of one read, and finishes it.
 pub fn echo_once<D: Door>(door: &mut D) -> AcceptAnswer
-    requires none_open { D.is_open door.old ≡ false }
-    requires listening { (D.aside door.old).opened ≡ true }
+    requires none_open { (D.state door.old).is_open ≡ false }
+    requires listening { (D.state door.old).aside.opened ≡ true }
 {
     let answer = door.accept();
     let mut block = [0; 16];
@@ -38,8 +38,9 @@ pub fn echo_once<D: Door>(door: &mut D) -> AcceptAnswer
 
 /// Reads until a read gives nothing, at most `most` times. Returns how often one gave bytes.
 fn reads_given<C: Conn>(conn: &mut C, most: usize) -> usize
-    requires { C.is_open conn.old ≡ true }
-    ensures { C.is_open conn.new ≡ true }
+    requires { (C.state conn.old).is_open ≡ true }
+    ensures open { (C.state conn.new).is_open ≡ true }
+    ensures aside { (C.state conn.new).aside ≡ (C.state conn.old).aside }
 {
     if most == 0 {
         return 0;
@@ -53,8 +54,9 @@ fn reads_given<C: Conn>(conn: &mut C, most: usize) -> usize
 
 /// Writes until a write fails, at most `most` times. Returns how often one took bytes.
 fn writes_taken<C: Conn>(conn: &mut C, most: usize) -> usize
-    requires { C.is_open conn.old ≡ true }
-    ensures { C.is_open conn.new ≡ true }
+    requires { (C.state conn.old).is_open ≡ true }
+    ensures open { (C.state conn.new).is_open ≡ true }
+    ensures aside { (C.state conn.new).aside ≡ (C.state conn.old).aside }
 {
     if most == 0 {
         return 0;
@@ -67,8 +69,10 @@ fn writes_taken<C: Conn>(conn: &mut C, most: usize) -> usize
 
 /// Accepts a connection, reads and writes it that often, and finishes it. Returns how often a read and a write moved bytes.
 pub fn moves_of<D: Door>(door: &mut D, reads: usize, writes: usize) -> (usize, usize)
-    requires none_open { D.is_open door.old ≡ false }
-    requires listening { (D.aside door.old).opened ≡ true }
+    requires none_open { (D.state door.old).is_open ≡ false }
+    requires listening { (D.state door.old).aside.opened ≡ true }
+    ensures none_open { (D.state door.new).is_open ≡ false }
+    ensures listening { (D.state door.new).aside.opened ≡ true }
 {
     match door.accept() {
         AcceptAnswer::Accepted => {}

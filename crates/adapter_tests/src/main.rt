@@ -8,8 +8,10 @@ mod system;
 
 use scripted::{
     a_connection_has_a_budget_of_time, a_scripted_door_answers_by_its_script,
-    an_accept_waits_for_what_the_system_lacks, interrupted_calls_of_a_connection_are_made_again,
+    an_accept_goes_on_after_errors_of_the_network, an_accept_waits_for_what_the_system_lacks,
+    each_connection_has_a_budget_of_its_own, interrupted_calls_of_a_connection_are_made_again,
     scripted_files_answer_by_their_script, scripted_streams_answer_by_their_script,
+    the_first_error_and_the_last_name_are_kept,
 };
 use std::io;
 use system::{
@@ -63,12 +65,24 @@ fn try_scripted(rt: HostRuntime) -> io::Result<()> {
             a_connection_has_a_budget_of_time(),
         ),
         (
+            "each connection has a budget of its own",
+            each_connection_has_a_budget_of_its_own(),
+        ),
+        (
             "an accept waits for what the system lacks",
             an_accept_waits_for_what_the_system_lacks(),
         ),
         (
+            "an accept goes on after errors of the network",
+            an_accept_goes_on_after_errors_of_the_network(),
+        ),
+        (
             "a scripted door answers by its script",
             a_scripted_door_answers_by_its_script(),
+        ),
+        (
+            "the first error and the last name are kept",
+            the_first_error_and_the_last_name_are_kept(rt.alloc()),
         ),
     ];
     for (name, passed) in tests {

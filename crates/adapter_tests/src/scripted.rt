@@ -4,7 +4,7 @@ use crate::exchanges::{echo_once, moves_of, outcome};
 use gs_port::{AcceptAnswer, Door, Files, OpenAnswer, ReadAnswer, Sink, Source, WriteAnswer};
 use gs_port_system::{HostFiles, ScriptedAnswer, ScriptedCalls, StdinSource, StdoutSink, TcpDoor};
 use std::alloc::Global;
-use std::io::ErrorKind;
+use std::io::{Error, ErrorKind};
 
 /// Returns a script of these first answers, which then fails for ever.
 fn script(first: ScriptedAnswer, second: ScriptedAnswer, third: ScriptedAnswer) -> ScriptedCalls {
@@ -96,13 +96,71 @@ pub fn a_connection_has_a_budget_of_time() -> bool {
         && first_moves(giving.with_step(11_000), 1, 1) == (1, 1)
 }
 
-/// Tests that an accept waits while the system has no file descriptor left, and not for ever.
+/// Tests that the second connection of a listener has a budget of its own, whatever the first one left.
+pub fn each_connection_has_a_budget_of_its_own() -> bool {
+    let mut door = TcpDoor::new(ScriptedCalls::new([GIVES; 8]).with_step(4_000));
+    match door.open("here") {
+        OpenAnswer::Opened => {}
+        _ => return false,
+    }
+    // (the first head is late with its fifth read; the clock is far beyond its end as the second begins)
+    let first = moves_of(&mut door, 9, 0);
+    let second = moves_of(&mut door, 9, 0);
+    first == (4, 0) && second == (9, 0)
+}
+
+/// Returns whether an accept that fails once by the error is made again.
+fn is_accepted_after(number: i32) -> bool {
+    let again = script(GIVES, ScriptedAnswer::FailsBy(number), GIVES);
+    matches!(first_accept(again), AcceptAnswer::Accepted)
+}
+
+/// Tests that an accept waits while the system has no file descriptor left, or forbids the connection, and not for ever.
 pub fn an_accept_waits_for_what_the_system_lacks() -> bool {
     let lack = ScriptedAnswer::FailsBy(24);
-    let again = script(GIVES, lack, GIVES);
     let for_ever = ScriptedCalls::new([GIVES, lack, lack, lack, lack, lack, lack, lack]);
-    matches!(first_accept(again), AcceptAnswer::Accepted)
+    is_accepted_after(1)
+        && is_accepted_after(12)
+        && is_accepted_after(23)
+        && is_accepted_after(24)
+        && is_accepted_after(105)
         && matches!(first_accept(for_ever), AcceptAnswer::Failed)
+}
+
+/// Tests that an accept that fails by the network is made again: ENONET, EPROTO, ENOPROTOOPT, EOPNOTSUPP, ENETDOWN, ENETUNREACH,
+/// ECONNABORTED, EHOSTDOWN and EHOSTUNREACH. Any other error ends it, such as EBADF.
+pub fn an_accept_goes_on_after_errors_of_the_network() -> bool {
+    let mut goes_on = true;
+    for number in [64, 71, 92, 95, 100, 101, 103, 112, 113] {
+        goes_on = is_accepted_after(number) && goes_on;
+    }
+    goes_on && !is_accepted_after(9)
+}
+
+/// Tests that the first of two errors is kept, and the name of the last open.
+pub fn the_first_error_and_the_last_name_are_kept(alloc: Global) -> bool {
+    let calls = script(INTERRUPTED, OUT_OF_MEMORY, OUT_OF_MEMORY);
+    let mut source = StdinSource::new(calls);
+    let mut sink = StdoutSink::new(calls);
+    let mut files = HostFiles::new(alloc, calls);
+    let mut block = [0; 16];
+    for name in ["one", "two"] {
+        source.read(&mut block);
+        sink.write(b"ten");
+        files.open(name);
+    }
+    let is_named = files
+        .last_name()
+        .is_some_and(|name| name.as_bytes() == b"two".as_slice());
+    is_named
+        && is_interrupted(source.first_error())
+        && is_interrupted(sink.first_error())
+        && is_interrupted(files.first_error())
+}
+
+/// Returns whether the error is that of an interrupted call.
+fn is_interrupted(error: Option<Error>) -> bool {
+    error.is_some_and(|error| error.kind() == ErrorKind::Interrupted)
 }
 
 /// Tests the answers of a listener: an interrupted accept, a failed one, and an open without memory.

@@ -1,6 +1,7 @@
-ghost use Rattle.std.specs.Prelude.{◌≡◌, ◌≤◌, ◌++◌, ℕ, IfOk, List, length, Some, slice_get};
+ghost use Rattle.std.specs.Prelude.{◌≡◌, ◌≤◌, ◌++◌, ℕ, IfOk, List, OnErr, length, Some, slice_get};
 ghost use Rattle.std.specs.List.{flat_map};
 ghost use Rattle.std.specs.Option.{option_copied};
+ghost use Rattle.gs_chars.specs.Answers.{BeginsWith};
 ghost use Rattle.gs_ident.specs.Identities.{IsMadeWith, stands_for_none};
 ghost use Rattle.gs_ident.specs.Links.{path_step, spelled};
 ghost use Rattle.gs_ident.specs.QualifiedKeys.{pairs_in};
@@ -242,8 +243,9 @@ fn append_serial(
     out: &mut Vec<u8>,
 ) -> Result<(), Memory>
     requires { slice_get set.now.kinds epc.now.kind ≡ Some kind.now }
-    ensures { IfOk result (λ _. out.new.items
+    ensures written { IfOk result (λ _. out.new.items
         ≡ out.old.items ++ flat_map path_step (serial_elements set.now.ais kind.now.serial epc.now.serial)) }
+    ensures begun { OnErr result (BeginsWith out.new.items out.old.items) }
 {
     match serial_code(set, kind, epc) {
         Some(code) => append_element(out, b'/', code, epc.serial, b'/'),
@@ -262,8 +264,9 @@ pub(crate) fn append_laid_out(
 ) -> Result<(), Memory>
     requires named { slice_get set.now.kinds epc.now.kind ≡ Some kind.now }
     requires fit { FitKind set.now.ais kind.now (fields_in epc.now) }
-    ensures { IfOk result (λ _. out.new.items
+    ensures written { IfOk result (λ _. out.new.items
         ≡ out.old.items ++ spelled stem.now (lay set.now.ais kind.now (fields_in epc.now))) }
+    ensures begun { OnErr result (BeginsWith out.new.items out.old.items) }
 {
     let value = key_value(alloc, set, kind, epc)?;
     out.extend_from_slice(stem)?;

@@ -1,4 +1,5 @@
-ghost use Rattle.std.specs.Prelude.{◌≡◌, ◌∷◌, ◌++◌, All, IfOk, IfSome, List, ℕ, length};
+ghost use Rattle.std.specs.Prelude.{◌≡◌, ◌∷◌, ◌++◌, All, IfOk, IfSome, List, OnErr, ℕ, length};
+ghost use Rattle.gs_chars.specs.Answers.{BeginsWith};
 ghost use Rattle.gs_grammar.specs.Limits.{most_symbols};
 ghost use Rattle.gs_grammar_level.specs.Readings.{Reads};
 ghost use Rattle.gs_ident.specs.Elements.{Elements, pairs_of};
@@ -21,7 +22,7 @@ use crate::layout::{KeyAndSerial, append_laid_out, key_and_serial, kind_at, lay_
 use gs_bits::BitBuf;
 use gs_chars::{CowText, List, Memory};
 use gs_grammar::MOST_SYMBOLS;
-use gs_grammar_level::{Reading, read_bits, read_text};
+use gs_grammar_level::{Reading, read_bits_within, read_text};
 use gs_ident::Identity;
 use gs_tables::{LevelName, OptInfo, TableSet};
 use std::alloc::Global;
@@ -83,7 +84,7 @@ impl EpcReading<'_> {
     }
 
     /// Appends the link, under the stem, of the identity that the EPC names, as `append_link` of gs_ident does. The identity is
-    /// not made for it. Fails only with `Memory`. The EPC is one of the set.
+    /// not made for it. Fails only with `Memory`; `out` then begins with its old contents. The EPC is one of the set.
     pub fn append_link(
         &self,
         alloc: Global,
@@ -92,8 +93,9 @@ impl EpcReading<'_> {
         out: &mut Vec<u8>,
     ) -> Result<(), Memory>
         requires { IsOfSet set.now self.now }
-        ensures { (identity : Elements) → IsLaidOut set.now self.now identity → IfOk result (λ _.
+        ensures written { (identity : Elements) → IsLaidOut set.now self.now identity → IfOk result (λ _.
             out.new.items ≡ out.old.items ++ spelled stem.now identity) }
+        ensures begun { OnErr result (BeginsWith out.new.items out.old.items) }
     {
         let kind = kind_at(set, self.info.kind);
         let lent = self.epc();
@@ -139,7 +141,10 @@ fn reading_of_digits<'a>(
 {
     let level = LevelName::Binary;
     match BitBuf::<64>::from_hex(text) {
-        Ok(bits) => answer(set, level, read_bits(alloc, set.level(level), &bits, room)),
+        Ok(bits) => {
+            let reading = read_bits_within(alloc, set.level(level), &bits, room);
+            answer(set, level, reading)
+        }
         Err(error) => Err(EpcFault::Hex(error)),
     }
 }

@@ -1,4 +1,5 @@
-ghost use Rattle.std.specs.Prelude.{◌≡◌, ◌%◌, length, false, true};
+ghost use Rattle.std.specs.Prelude.{◌≡◌, ◌%◌, OnErr, length, false, true};
+ghost use Rattle.gs_chars.specs.Answers.{BeginsWith};
 ghost use Rattle.gs_tables_document.specs.Documents.{is_bits};
 ghost use Rattle.gs_grammar.specs.Items.{size_of_all};
 ghost use Rattle.gs_epc.specs.Candidates.{Candidate, HasFilter, HasFilterOn};
@@ -24,7 +25,8 @@ fn append_digits(
     requires bit_level { option.now.bit_level ≡ true }
     requires one_each { length values.now ≡ length option.now.items }
     requires whole_bytes { size_of_all option.now.items % 8 ≡ 0 }
-    ensures { AppendsOption LevelName.Binary option.now.items values.now out.old.items out.new.items result }
+    ensures written { AppendsOption LevelName.Binary option.now.items values.now out.old.items out.new.items result }
+    ensures begun { OnErr result (BeginsWith out.new.items out.old.items) }
 {
     // only for the proof: the items are within their bounds
     let _ = option.items();
@@ -50,8 +52,9 @@ fn append_uri(
 ) -> Result<(), WriteFault>
     requires text_level { option.now.bit_level ≡ false }
     requires one_each { length values.now ≡ length option.now.items }
-    ensures { is_bits level ≡ false
+    ensures written { is_bits level ≡ false
         → AppendsOption level option.now.items values.now out.old.items out.new.items result }
+    ensures begun { OnErr result (BeginsWith out.new.items out.old.items) }
 {
     append_text(option, values, out)
 }
@@ -67,7 +70,8 @@ fn append_option(
     requires of_level { option.now.bit_level ≡ is_bits level }
     requires one_each { length values.now ≡ length option.now.items }
     requires whole_bytes { level ≡ LevelName.Binary → size_of_all option.now.items % 8 ≡ 0 }
-    ensures { AppendsOption level option.now.items values.now out.old.items out.new.items result }
+    ensures written { AppendsOption level option.now.items values.now out.old.items out.new.items result }
+    ensures begun { OnErr result (BeginsWith out.new.items out.old.items) }
 {
     match level {
         LevelName::Binary => append_digits(alloc, option, values, out),
@@ -116,8 +120,9 @@ fn try_candidate(
 ) -> Result<(), Rejection>
     requires filter { HasFilterOn level epc.now.filter }
     requires candidate { Candidate set.now level epc.now i }
-    ensures { (candidate : Candidate set.now level epc.now i)
+    ensures tried { (candidate : Candidate set.now level epc.now i)
         → IsTried set.now level epc.now candidate out.old.items out.new.items result }
+    ensures begun { OnErr result (BeginsWith out.new.items out.old.items) }
 {
     let fields = set.info(level)[i].fields.items();
     let values = values_for(alloc, level, epc, fields)?;
@@ -139,7 +144,8 @@ fn try_candidate(
 
 /// Appends the text of an EPC by the options of a level, with the errors of `write_hex`, `write_tag` or `write_pure`. For bits
 /// it appends the hexadecimal digits of `write_hex`, otherwise the URI of one of the others. After a rejection nothing is
-/// appended, unless memory ran out. The EPC has a filter value of at most 7, except for the level of pure identities.
+/// appended; after out of memory `out` begins with its old contents. The EPC has a filter value of at most 7, except for the
+/// level of pure identities.
 pub fn append_lent(
     alloc: Global,
     set: &TableSet,
@@ -148,7 +154,8 @@ pub fn append_lent(
     out: &mut Vec<u8>,
 ) -> Result<(), EpcWriteFault>
     requires { HasFilterOn level epc.now.filter }
-    ensures { AppendsAs set.now level epc.now out.old.items out.new.items result }
+    ensures written { AppendsAs set.now level epc.now out.old.items out.new.items result }
+    ensures begun { OnErr result (BeginsWith out.new.items out.old.items) }
 {
     let info = set.info(level);
     let numbers = set.candidates(level, epc.kind, epc.gcp);

@@ -1,11 +1,14 @@
 -- The written values of an option, word by word.
-use Rattle.std.proofs.Common.{◌≡◌, ℕ, ◌↔◌, ◌<◌, ◌≤◌, ◌+◌, ◌-◌, ◌*◌, ◌^◌, zero, suc, Bool, true, false, IsTrue, List, [], ◌∷◌, ◌++◌, length, get_or, take, drop, replicate, Some, None, refl, sym, ◌∙◌, ap, arith, All, inl, inr, length-append}
+use Rattle.std.proofs.Common.{◌≡◌, ℕ, ◌↔◌, ◌<◌, ◌≤◌, ◌+◌, ◌-◌, ◌*◌, ◌^◌, zero, suc, Bool, true, false, IsTrue, List, [], ◌∷◌, ◌++◌, length, get_or, take, drop, replicate, Some, None, refl, sym, ◌∙◌, ap, arith, All, inl, inr, length-append, Result, Ok, Err, OnErr}
 use Rattle.std.specs.Int.{from_bool}
 use Rattle.std.specs.List.{flat_map, list_all, position, slice_get}
+use Rattle.std.specs.Result.{is_err}
 use Rattle.std.proofs.Math.Pow.{pow_mono}
 use Rattle.std.proofs.lemmas.Bool.{cases_eq, ltb-true, and_parts}
-use Rattle.std.proofs.lemmas.List.{drop_more, drop_all, take_more, take-append-le, length-take-le, length-take, append_assoc, append-nil, length-drop, length-replicate}
+use Rattle.std.proofs.lemmas.List.{drop_more, drop_all, take_more, take-append-le, length-take-le, length-take, take-append-drop, append_assoc, append-nil, length-drop, length-replicate}
 use Rattle.std.proofs.lemmas.List.Elements.{All-cons, All-nil, All-head, All-tail}
+use Rattle.gs_chars.specs.Answers.{BeginsWith}
+use Rattle.gs_chars.specs.declared.memory.Memory.{Memory}
 use Rattle.gs_chars.specs.Characters.{are_in_set82, is_in_set82}
 use Rattle.gs_chars.proofs.TruthsAndLists.{read_at}
 use Rattle.gs_bits.specs.Bits.{AreBits, bits_of, number_of}
@@ -25,6 +28,19 @@ use Rattle.gs_grammar.proofs.Packs.{set82_bounds}
 use Rattle.gs_grammar.proofs.WordLaws.{none_bad, of_level, word_length, greatest_small, numpad_bounds, num_bounds}
 use Rattle.gs_grammar.proofs.ItemTests.{IsNumber, bits_width}
 use Rattle.gs_grammar.proofs.Numbers.{value_decimal}
+
+-- ---- texts that begin with another
+
+pub begins_more : (first t w new : List ℕ) → new ≡ t ++ w → BeginsWith t first → BeginsWith new first
+begins_more first t w new e b = (b.0 ++ w, e ∙ ap (λ (x : List ℕ). x ++ w) b.1 ∙ append_assoc first b.0 w)
+
+-- after a piece that was not written, the text begins with what had this front
+pub begins_by_front : (r : Result (Unit {0}) Memory) (first t new : List ℕ) → true ≡ is_err r → OnErr r (BeginsWith new t)
+    → take (length first) t ≡ first → BeginsWith new first
+begins_by_front (Ok done) first t new e b f = absurd (let h : true ≡ false = e in cc)
+begins_by_front (Err memory) first t new e b f =
+    let whole : t ≡ first ++ drop (length first) t = sym (take-append-drop (length first) t) ∙ ap (λ (x : List ℕ). x ++ drop (length first) t) f in
+    (drop (length first) t ++ b.0, b.1 ∙ ap (λ (x : List ℕ). x ++ b.0) whole ∙ append_assoc first (drop (length first) t) b.0)
 
 -- one more piece of a text
 pub flat_step : (f : ℕ → List ℕ) (t all value : List ℕ) (i : ℕ) → i < length value → t ++ flat_map f (drop i value) ≡ all

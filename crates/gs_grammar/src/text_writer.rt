@@ -1,4 +1,5 @@
-ghost use Rattle.std.specs.Prelude.{◌≡◌, ◌++◌, IsTrue, IsOk, IfOk, IfErr, OnOk, None, true, false, length, flat_map};
+ghost use Rattle.std.specs.Prelude.{◌≡◌, ◌++◌, IsTrue, IsOk, IfOk, IfErr, OnErr, OnOk, None, true, false, length, flat_map};
+ghost use Rattle.gs_chars.specs.Answers.{BeginsWith};
 ghost use Rattle.gs_chars.specs.Characters.{are_in_set82};
 ghost use Rattle.gs_chars.specs.Escapes.{written_spelling};
 ghost use Rattle.gs_grammar.specs.Items.{is_in_bounds};
@@ -15,7 +16,8 @@ use std::alloc::Global;
 /// Appends the written spelling of each character.
 fn push_spellings(value: &[u8], text: &mut Vec<u8>) -> Result<(), Memory>
     requires { IsTrue (are_in_set82 value.now) }
-    ensures { OnOk result (text.new.items ≡ text.old.items ++ flat_map written_spelling value.now) }
+    ensures written { OnOk result (text.new.items ≡ text.old.items ++ flat_map written_spelling value.now) }
+    ensures begun { OnErr result (BeginsWith text.new.items text.old.items) }
 {
     for character in value {
         let mut spelling = [0; 3];
@@ -29,7 +31,8 @@ fn push_spellings(value: &[u8], text: &mut Vec<u8>) -> Result<(), Memory>
 fn push_word(item: &Item, value: &[u8], text: &mut Vec<u8>) -> Result<(), Memory>
     requires item { is_in_bounds false item.now ≡ true }
     requires held { why_not item.now value.now ≡ None }
-    ensures { OnOk result (text.new.items ≡ text.old.items ++ written_word item.now value.now) }
+    ensures written { OnOk result (text.new.items ≡ text.old.items ++ written_word item.now value.now) }
+    ensures begun { OnErr result (BeginsWith text.new.items text.old.items) }
 {
     match item {
         Item::Lit(literal) => text.extend_from_slice(literal.as_bytes())?,
@@ -41,8 +44,8 @@ fn push_word(item: &Item, value: &[u8], text: &mut Vec<u8>) -> Result<(), Memory
 }
 
 /// Appends the written words of the values: one value for each item of an option of a text level. `CannotHold` is returned if and
-/// only if an item does not hold its value, and names the first; then the text is unchanged. The option is one of text, and there
-/// are as many values as items.
+/// only if an item does not hold its value, and names the first; then the text is unchanged. After `Memory` it begins with its old
+/// contents. The option is one of text, and there are as many values as items.
 pub fn append_text(
     option: &Opt,
     values: &[CowText<'_>],
@@ -54,6 +57,7 @@ pub fn append_text(
     ensures held { IsOk result → AreHeld option.now.items values.now }
     ensures rejected { IfErr result (λ error. IsWriteFault option.now.items values.now error) }
     ensures unchanged { IfErr result (LeavesUnlessMemory text.old.items text.new.items) }
+    ensures begun { OnErr result (BeginsWith text.new.items text.old.items) }
 {
     let before = text.len();
     for (number, item) in option.items().iter().enumerate() {

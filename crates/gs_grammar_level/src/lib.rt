@@ -6,6 +6,7 @@
 //! - `Level::new` compiles the machine of each option, once, and `Level::machines` lends the machines.
 //! - `read_text` and `read_bits` find the option that reads a text or bits, and the value of each of its items. If each item
 //!   before the last has words of one length, these lengths give the words. Otherwise the option's machine finds them.
+//!   `read_bits_within` reads bits into room of the caller's, from which the values are lent.
 //! - `Level::first_share` gives the first two options of the level that share a list of symbols, and a text that shows it. It gives
 //!   `None` if and only if no list of symbols has two readings by the level.
 //!
@@ -40,5 +41,5 @@ pub use laws::{
     ambiguous_exactly_where_options_share, each_level_has_an_answer, no_list_has_two_readings,
 };
 pub use level::Level;
-pub use read::{Reading, read_bits, read_text};
+pub use read::{Reading, read_bits, read_bits_within, read_text};
 pub use share::Shared;

@@ -1,8 +1,9 @@
 ghost use Rattle.gs_grammar.specs.Levels.{item_lists};
 ghost use Rattle.gs_grammar.specs.Ambiguity.{IsUnambiguous};
 ghost use Rattle.gs_grammar_level.specs.Readings.{Reads};
-ghost use Rattle.std.specs.Prelude.{◌≡◌, All, IfOk, IfSome, IfNone, length};
+ghost use Rattle.std.specs.Prelude.{◌≡◌, ℕ, All, IfOk, IfSome, IfNone, List, length};
 ghost use Rattle.gs_grammar.specs.Limits.{most_symbols};
+ghost use Rattle.gs_grammar.specs.declared.item.Item.{Item};
 ghost use Rattle.gs_grammar.specs.Items.{IsItem};
 ghost use Rattle.gs_grammar.specs.Derivations.{IsDerived};
 ghost use Rattle.gs_grammar.specs.DerivationsSupport.{HasValues};
@@ -16,8 +17,8 @@ use crate::level::Level;
 use crate::trail::{Entry, follow};
 use gs_ambig::Auto;
 use gs_bits::BitBuf;
-use gs_chars::{CowText, List, Memory};
-use gs_grammar::{Item, unpack, value_of};
+use gs_chars::{CowText, List, Memory, Text};
+use gs_grammar::{Item, MOST_SYMBOLS, unpack, value_of};
 use std::alloc::Global;
 
 /// Reads the symbols by the options.
@@ -46,7 +47,7 @@ pub fn read_text<'a>(alloc: Global, level: &Level, text: &'a [u8]) -> Reading<'a
 
 /// Reads bits in a level of bits that is not ambiguous, as `read_text` reads a text. They are unpacked to the room, which has
 /// 512 symbols.
-pub fn read_bits<'a, const N: usize>(
+pub fn read_bits_within<'a, const N: usize>(
     alloc: Global,
     level: &Level,
     bits: &BitBuf<N>,
@@ -58,6 +59,40 @@ pub fn read_bits<'a, const N: usize>(
 {
     let count = unpack(bits, room);
     read_symbols(alloc, level, &room[..count])
+}
+
+/// Returns the values in texts of their own.
+fn copied(alloc: Global, values: &[CowText<'_>]) -> Result<List<CowText<'static>>, Memory>
+    ensures { IfOk result (λ copies. copies ≡ values.now) }
+{
+    let mut copies = Vec::with_capacity(alloc, values.len())?;
+    for value in values {
+        copies.push(CowText::from(Text::from_bytes(alloc, value.as_bytes())?))?;
+    }
+    Ok(List::from_vec(copies))
+}
+
+/// Returns the reading with its values in texts of their own, or `Memory`.
+fn owned(alloc: Global, reading: Reading<'_>) -> Reading<'static>
+    ensures { (level : List (List Item)) (w : List ℕ) → Reads level w reading.entry → Reads level w result }
+{
+    match reading {
+        Reading::One { option, values } => match copied(alloc, values.items()) {
+            Ok(values) => Reading::One { option, values },
+            Err(_) => Reading::Memory,
+        },
+        Reading::Nothing => Reading::Nothing,
+        Reading::Memory => Reading::Memory,
+    }
+}
+
+/// Reads bits in a level of bits that is not ambiguous, as `read_text` reads a text. The values own their texts.
+pub fn read_bits<const N: usize>(alloc: Global, level: &Level, bits: &BitBuf<N>) -> Reading<'static>
+    requires { IsUnambiguous (item_lists level.now.options) }
+    ensures { Reads (item_lists level.now.options) bits.now result }
+{
+    let mut room = [0; MOST_SYMBOLS];
+    owned(alloc, read_bits_within(alloc, level, bits, &mut room))
 }
 
 /// The meaning of a list of symbols in a level that is not ambiguous.

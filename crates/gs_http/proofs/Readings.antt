@@ -1,41 +1,41 @@
--- Sequences of reads.
-use Rattle.std.proofs.Common.{◌≡◌, ℕ, Bool, List, [], ◌++◌, Option, ap, sym, ◌∙◌, append-nil, append_assoc}
+-- Sequences of reads and writes.
+use Rattle.std.proofs.Common.{◌≡◌, ◌-◌, ◌+◌, ℕ, Bool, false, List, [], ◌++◌, ap, sym, ◌∙◌, append-nil, append_assoc, length, take, drop}
+use Rattle.std.proofs.Math.Seq.{take-add}
+use Rattle.std.proofs.lemmas.List.{take_rest}
 use Rattle.gs_port.specs.Contents.{append_known, append_nothing, append_twice, prepend_known, prepend_nothing, prepend_twice}
-use Rattle.std.specs.Borrow.{GName}
-use Rattle.gs_port.specs.Connections.{Aside}
-use Rattle.gs_http.specs.ConnectedSupport.{Reads}
-use Rattle.gs_http.specs.Untouched.{IsUnread, IsUnwritten, StaysOpen}
+use Rattle.gs_port.specs.Counts.{count_if}
+use Rattle.gs_port.specs.States.{ConnState}
+use Rattle.gs_http.specs.ConnectedSupport.{Fetches, sent_to}
 
-pub reads_none : (held held' : List ℕ) (left left' taken taken' : Option (List ℕ)) → held' ≡ held → left' ≡ left → taken' ≡ taken
-    → Reads held held' left left' taken taken'
-reads_none held held' left left' taken taken' h l t = record {
+-- nothing was read
+pub fetches_none : (held held' : List ℕ) (errored : Bool) (before now : ConnState) → held' ≡ held
+    → now ≡ record before { reads = count_if errored before.reads } → Fetches held held' errored before now
+fetches_none held held' errored before now h e = record {
   bytes = [];
   grown = h ∙ sym (append-nil held);
-  moved = sym (prepend_nothing left' ∙ l);
-  took = t ∙ sym (append_nothing taken);
+  moved = sym (prepend_nothing now.left ∙ ap (λ (c : ConnState). c.left) e);
+  rest = rw e (ap (λ taken. record before { taken = taken; reads = count_if errored before.reads }) (sym (append_nothing before.taken)));
 }
 
-pub reads_some : (held held' bytes : List ℕ) (left left' taken taken' : Option (List ℕ)) → held' ≡ held ++ bytes
-    → left ≡ prepend_known bytes left' → taken' ≡ append_known taken bytes → Reads held held' left left' taken taken'
-reads_some held held' bytes left left' taken taken' h l t = record { bytes = bytes; grown = h; moved = l; took = t }
-
-pub reads_further : (a b c : List ℕ) (la lb lc ta tb tc : Option (List ℕ)) → Reads a b la lb ta tb → Reads b c lb lc tb tc → Reads a c la lc ta tc
-reads_further a b c la lb lc ta tb tc x y = record {
+-- a read after others without an error
+pub fetches_further : (a b c : List ℕ) (errored : Bool) (first mid last : ConnState) → Fetches a b false first mid
+    → Fetches b c errored mid last → Fetches a c errored first last
+fetches_further a b c errored first mid last x y = record {
   bytes = x.bytes ++ y.bytes;
   grown = y.grown ∙ ap (λ front. front ++ y.bytes) x.grown ∙ append_assoc a x.bytes y.bytes;
-  moved = x.moved ∙ ap (prepend_known x.bytes) y.moved ∙ prepend_twice x.bytes y.bytes lc;
-  took = y.took ∙ ap (λ known. append_known known y.bytes) x.took ∙ append_twice ta x.bytes y.bytes;
+  moved = x.moved ∙ ap (prepend_known x.bytes) y.moved ∙ prepend_twice x.bytes y.bytes last.left;
+  rest =
+      y.rest ∙ ap (λ (s : ConnState). record s { left = last.left; taken = append_known s.taken y.bytes; reads = count_if errored s.reads }) x.rest
+      ∙ ap (λ taken. record first { left = last.left; taken = taken; reads = count_if errored first.reads }) (append_twice first.taken x.bytes y.bytes);
 }
 
--- ---- the state that two calls in a row preserve
+-- nothing was written
+pub sent_nothing : (conn : ConnState) → conn ≡ sent_to conn [] false
+sent_nothing conn = ap (λ held. record conn { held = held }) (sym (append_nothing conn.held))
 
-module _ {S : Type 0} (a b c : S) where
-  pub opens_on : (is_open : S → Bool) (aside : S → Aside) (ends : S → Option (GName × GName)) → StaysOpen is_open aside ends a b
-      → StaysOpen is_open aside ends b c → StaysOpen is_open aside ends a c
-  opens_on is_open aside ends x y = record { open_now = y.open_now; same_aside = y.same_aside ∙ x.same_aside; same_ends = y.same_ends ∙ x.same_ends }
-
-  pub unread_on : (left taken : S → Option (List ℕ)) → IsUnread left taken a b → IsUnread left taken b c → IsUnread left taken a c
-  unread_on left taken x y = record { same_left = y.same_left ∙ x.same_left; same_taken = y.same_taken ∙ x.same_taken }
-
-  pub unwritten_on : (held : S → Option (List ℕ)) (writes : S → ℕ) → IsUnwritten held writes a b → IsUnwritten held writes b c → IsUnwritten held writes a c
-  unwritten_on held writes x y = record { same_held = y.same_held ∙ x.same_held; same_writes = y.same_writes ∙ x.same_writes }
+-- writing after the first bytes of a list writes the next ones
+pub sent_further : (before now after : ConnState) (bytes : List ℕ) (done n : ℕ) → now ≡ sent_to before (take done bytes) false
+    → after ≡ sent_to now (take n (take (length bytes - done) (drop done bytes))) false → after ≡ sent_to before (take (done + n) bytes) false
+sent_further before now after bytes done n h k =
+    k ∙ ap (λ rest. sent_to now (take n rest) false) (take_rest bytes done) ∙ ap (λ s. sent_to s (take n (drop done bytes)) false) h
+    ∙ ap (λ held. record before { held = held }) (append_twice before.held (take done bytes) (take n (drop done bytes)) ∙ ap (append_known before.held) (sym (take-add done n bytes)))

@@ -1,21 +1,32 @@
--- Definitions for proofs and private functions, in addition to Connected.antt.
-use Rattle.std.specs.Prelude.{◌≡◌, ◌≢◌, ◌<◌, ◌≤◌, ◌⊎◌, ⊤, ℕ, List, [], ◌++◌, length, take, Option, Some, None, IfSome}
+-- Definitions for proofs and private functions, in addition to ServedStreams.antt.
+use Rattle.std.specs.Prelude.{◌≡◌, ◌≢◌, ◌<◌, ◌≤◌, ◌⊎◌, ⊤, ℕ, Bool, true, false, List, [], ◌++◌, length, take, Option, Some, None, IfSome}
 use Rattle.gs_port.specs.Contents.{append_known, prepend_known}
+use Rattle.gs_port.specs.Counts.{count_if}
+use Rattle.gs_port.specs.States.{ConnState}
+use Rattle.gs_port.specs.declared.sink.Whole.{Whole}
+use Rattle.gs_port.specs.declared.sink.Whole.TheVariants as whole
 use Rattle.gs_http.specs.declared.buffer.Filled.{Filled}
 use Rattle.gs_http.specs.declared.buffer.Filled.TheVariants.{Ended, Head, Headless, Failed, Memory}
 use Rattle.gs_http.specs.declared.buffer.More.{More}
 use Rattle.gs_http.specs.declared.buffer.More.TheVariants.{Got, End, NotRead, NoRoom}
-use Rattle.gs_http.specs.declared.connection.Sent.{Sent}
-use Rattle.gs_http.specs.declared.connection.Sent.TheVariants as sent
 use Rattle.gs_http.specs.Streams.{head_end}
-use Rattle.gs_port.specs.Counts.{counted}
 
--- holds if bytes were read and follow those that were held
-pub record Reads (held held' : List ℕ) (left left' taken taken' : Option (List ℕ)) : Type 0 where
+-- the connection with these bytes after those written to it, and one more failed write if one was counted
+abbrev pub sent_to : ConnState → List ℕ → Bool → ConnState
+sent_to conn bytes errored = record conn { held = append_known conn.held bytes; writes = count_if errored conn.writes }
+
+-- holds if all of these bytes were written with `Done`, and otherwise a prefix of them; only `SinkFault` counted an error
+abbrev pub Sends : Whole → List ℕ → ConnState → ConnState → Type 0
+Sends whole.Done bytes before now = now ≡ sent_to before bytes false
+Sends whole.SinkFault bytes before now = (n : ℕ) × (now ≡ sent_to before (take n bytes) true)
+Sends whole.Memory bytes before now = (n : ℕ) × (now ≡ sent_to before (take n bytes) false)
+
+-- holds if bytes were read and follow those that were held, and a failed read was counted or none
+pub record Fetches (held held' : List ℕ) (errored : Bool) (before now : ConnState) : Type 0 where
   pub bytes : List ℕ
   pub grown : held' ≡ held ++ bytes
-  pub moved : left ≡ prepend_known bytes left'
-  pub took : taken' ≡ append_known taken bytes
+  pub moved : before.left ≡ prepend_known bytes now.left
+  pub rest : now ≡ record before { left = now.left; taken = append_known before.taken bytes; reads = count_if errored before.reads }
 
 -- holds if nothing is left, if that is known
 abbrev pub NothingLeft : Option (List ℕ) → Type 0
@@ -28,12 +39,12 @@ Comes End held held' left = (held' ≡ held) × NothingLeft left
 Comes NotRead held held' left = held' ≡ held
 Comes NoRoom held held' left = held' ≡ held
 
--- the count of the reads that failed
-abbrev pub reads_with : More → ℕ → ℕ
-reads_with Got count = count
-reads_with End count = count
-reads_with NotRead count = counted count
-reads_with NoRoom count = count
+-- whether a read failed
+abbrev pub is_not_read : More → Bool
+is_not_read Got = false
+is_not_read End = false
+is_not_read NotRead = true
+is_not_read NoRoom = false
 
 -- holds if this is the start of the held bytes
 abbrev pub Begins : Filled → List ℕ → Option (List ℕ) → Type 0
@@ -43,16 +54,10 @@ Begins Headless held left = (head_end (take 8192 held) ≡ None) × ((8192 ≤ l
 Begins Failed held left = ⊤
 Begins Memory held left = ⊤
 
--- the count of the reads that failed
-abbrev pub reads_after : Filled → ℕ → ℕ
-reads_after Ended count = count
-reads_after (Head len) count = count
-reads_after Headless count = count
-reads_after Failed count = counted count
-reads_after Memory count = count
-
--- the count of the writes that failed
-abbrev pub writes_after : Sent → ℕ → ℕ
-writes_after sent.Done count = count
-writes_after sent.Failed count = counted count
-writes_after sent.Memory count = count
+-- whether a read failed
+abbrev pub is_failed : Filled → Bool
+is_failed Ended = false
+is_failed (Head len) = false
+is_failed Headless = false
+is_failed Failed = true
+is_failed Memory = false

@@ -9,10 +9,8 @@ pub mod LanguageRanges
 pub mod Answers
 pub mod Replies
 pub mod Streams
-pub mod ConnectionReads
 pub mod ConnectedSupport
 pub mod ServedStreams
-pub mod Untouched
 pub mod SaidFields
 pub mod LentValues
 pub mod Lookups

@@ -1,9 +1,10 @@
 -- How a connection is served: the bytes read from it and written to it, turn by turn and in all.
-use Rattle.std.specs.Prelude.{◌≡◌, ◌⊎◌, ◌≤◌, ⊤, ℕ, ◌+◌, true, List, [], ◌++◌, length, take, Option, IfSome}
+use Rattle.std.specs.Prelude.{◌≡◌, ◌⊎◌, ◌≤◌, ⊤, ℕ, ◌+◌, true, List, [], ◌++◌, length, take, IfSome}
 use Rattle.gs_ai.specs.declared.row.AiRow.{AiRow}
 use Rattle.gs_links.specs.declared.link.Link.{Link}
 use Rattle.gs_port.specs.Contents.{append_known, prepend_known}
 use Rattle.gs_port.specs.Counts.{counted}
+use Rattle.gs_port.specs.States.{ConnState}
 use Rattle.gs_http.specs.declared.connection.Served.{Served}
 use Rattle.gs_http.specs.declared.connection.Served.TheVariants.{Done, ReadFault, WriteFault, Memory}
 use Rattle.gs_http.specs.declared.replies.Reply.{Reply}
@@ -27,6 +28,17 @@ writes_when ReadFault count = count
 writes_when WriteFault count = counted count
 writes_when Memory count = count
 
+-- trusted, own: the connection after it was served: the bytes left, read and written are those now, and a failed read or write
+-- is counted
+abbrev pub after_serving : Served → ConnState → ConnState → ConnState
+after_serving served now before = record before {
+  left = now.left;
+  taken = now.taken;
+  held = now.held;
+  reads = reads_when served before.reads;
+  writes = writes_when served before.writes;
+}
+
 -- ---- a whole connection
 
 -- trusted, own: holds if the connection was not served whole, or `fact` holds
@@ -38,16 +50,16 @@ OnDone Memory fact = ⊤
 
 -- trusted, own: Holds if serving a connection with at most `most` replies read and wrote these bytes. `rest` is the bytes left to
 -- read, if they are known.
-pub record IsServed (most : ℕ) (table : List AiRow) (links : List Link) (settings : Settings) (served : Served) (left left' taken taken' held held' : Option (List ℕ)) : Type 0 where
+pub record IsServed (most : ℕ) (table : List AiRow) (links : List Link) (settings : Settings) (served : Served) (before now : ConnState) : Type 0 where
   pub read : List ℕ
   pub written : List ℕ
   pub rest : List ℕ
   pub replies : List Reply
   pub answered : ℕ
-  pub moved : left ≡ prepend_known read left'
-  pub took : taken' ≡ append_known taken read
-  pub wrote : held' ≡ append_known held written
-  pub is_rest : IfSome left' (λ bytes. bytes ≡ rest)
+  pub moved : before.left ≡ prepend_known read now.left
+  pub took : now.taken ≡ append_known before.taken read
+  pub wrote : now.held ≡ append_known before.held written
+  pub is_rest : IfSome now.left (λ bytes. bytes ≡ rest)
   -- the replies are those of the stream, however it was cut
   pub are_replies : AreReplies table links settings most (heads_of most (read ++ rest)) replies
   -- The written bytes are a prefix of the replies up to the first that ends the connection. If the call is done, they are all,

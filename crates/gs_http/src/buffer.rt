@@ -1,7 +1,6 @@
-ghost use Rattle.std.specs.Prelude.{◌≡◌, ◌≤◌, ◌<◌, ◌+◌, [], true, drop, length, ℕ, List, None, Option, take};
+ghost use Rattle.std.specs.Prelude.{◌≡◌, ◌≤◌, ◌<◌, ◌+◌, [], true, false, drop, length, ℕ, List, None, Option, take};
 ghost use Rattle.std.specs.Prelude.{IfSome};
-ghost use Rattle.gs_http.specs.ConnectedSupport.{Comes, Reads, reads_with, Begins, NothingLeft, reads_after};
-ghost use Rattle.gs_http.specs.Untouched.{IsUnwritten, StaysOpen};
+ghost use Rattle.gs_http.specs.ConnectedSupport.{Begins, Comes, Fetches, NothingLeft, is_failed, is_not_read};
 ghost use Rattle.gs_http.specs.Streams.{head_end};
 
 use gs_port::{Conn, ReadAnswer};
@@ -29,17 +28,14 @@ enum More {
 }
 
 /// Moves the next bytes of the connection after those that were read, at most 4,096 of them.
+#[tactic(auto, using(crate::proofs::Readings::fetches_none))]
 fn read_more<C: Conn>(conn: &mut C, bytes: &mut Vec<u8>) -> More
-    requires current { C.is_open conn.old ≡ true }
+    requires current { (C.state conn.old).is_open ≡ true }
     requires few { length bytes.old.items < 8192 }
-    ensures reads { Reads bytes.old.items bytes.new.items (C.left conn.old) (C.left conn.new)
-        (C.taken conn.old) (C.taken conn.new) }
-    ensures comes { Comes result bytes.old.items bytes.new.items (C.left conn.new) }
+    ensures fetches { Fetches bytes.old.items bytes.new.items (is_not_read result) (C.state conn.old)
+        (C.state conn.new) }
+    ensures comes { Comes result bytes.old.items bytes.new.items (C.state conn.new).left }
     ensures few { length bytes.new.items ≤ length bytes.old.items + 4096 }
-    ensures count { C.reads conn.new ≡ reads_with result (C.reads conn.old) }
-    ensures counts { C.reads conn.old ≤ C.reads conn.new }
-    ensures unwritten { IsUnwritten C.held C.writes conn.old conn.new }
-    ensures stays_open { StaysOpen C.is_open C.aside C.ends conn.old conn.new }
 {
     let len = bytes.len();
     let Ok(()) = bytes.extend_from_slice(&BLOCK) else {
@@ -121,16 +117,11 @@ impl Buffer {
 
     /// Moves the next bytes of a connection after these, at most 4,096 of them.
     fn read_more<C: Conn>(&mut self, conn: &mut C) -> More
-        requires current { C.is_open conn.old ≡ true }
+        requires current { (C.state conn.old).is_open ≡ true }
         requires few { length self.old < 8192 }
-        ensures reads { Reads self.old self.new (C.left conn.old) (C.left conn.new)
-            (C.taken conn.old) (C.taken conn.new) }
-        ensures comes { Comes result self.old self.new (C.left conn.new) }
+        ensures fetches { Fetches self.old self.new (is_not_read result) (C.state conn.old) (C.state conn.new) }
+        ensures comes { Comes result self.old self.new (C.state conn.new).left }
         ensures few { length self.new ≤ length self.old + 4096 }
-        ensures count { C.reads conn.new ≡ reads_with result (C.reads conn.old) }
-        ensures counts { C.reads conn.old ≤ C.reads conn.new }
-        ensures unwritten { IsUnwritten C.held C.writes conn.old conn.new }
-        ensures stays_open { StaysOpen C.is_open C.aside C.ends conn.old conn.new }
     {
         drop_front(&mut self.bytes, self.gone);
         self.gone = 0;
@@ -177,7 +168,7 @@ fn head_len(bytes: &[u8]) -> Option<usize>
 fn at_end(bytes: &[u8]) -> Filled
     requires { head_end (take 8192 bytes.now) ≡ None }
     ensures begins { (left : Option (List ℕ)) → NothingLeft left → Begins result bytes.now left }
-    ensures count { (count : ℕ) → reads_after result count ≡ count }
+    ensures count { is_failed result ≡ false }
 {
     if bytes.is_empty() {
         Filled::Ended
@@ -187,17 +178,13 @@ fn at_end(bytes: &[u8]) -> Filled
 }
 
 /// Reads until the bytes begin with a head, or none can follow. Reads nothing if they already begin with one.
+#[tactic(auto, using(crate::proofs::Readings::fetches_further))]
 pub(crate) fn fill<C: Conn>(conn: &mut C, bytes: &mut Buffer) -> Filled
-    requires current { C.is_open conn.old ≡ true }
+    requires current { (C.state conn.old).is_open ≡ true }
     requires few { length bytes.old ≤ 12287 }
-    ensures reads { Reads bytes.old bytes.new (C.left conn.old) (C.left conn.new)
-        (C.taken conn.old) (C.taken conn.new) }
-    ensures begins { Begins result bytes.new (C.left conn.new) }
+    ensures fetches { Fetches bytes.old bytes.new (is_failed result) (C.state conn.old) (C.state conn.new) }
+    ensures begins { Begins result bytes.new (C.state conn.new).left }
     ensures few { length bytes.new ≤ 12287 }
-    ensures count { C.reads conn.new ≡ reads_after result (C.reads conn.old) }
-    ensures counts { C.reads conn.old ≤ C.reads conn.new }
-    ensures unwritten { IsUnwritten C.held C.writes conn.old conn.new }
-    ensures stays_open { StaysOpen C.is_open C.aside C.ends conn.old conn.new }
 {
     'filling: loop {
         if let Some(len) = head_len(bytes.as_slice()) {

@@ -1,13 +1,11 @@
 ghost use Rattle.std.specs.Prelude.{◌≡◌, ◌-◌, ◌<◌, ◌≤◌, ◌==◌, length, true, Bool, List, None, Some, take};
-ghost use Rattle.gs_http.specs.ServedStreams.{IsServed, reads_when, writes_when};
+ghost use Rattle.gs_http.specs.ServedStreams.{IsServed, after_serving};
 ghost use Rattle.gs_http.specs.Sites.{room_for};
 ghost use Rattle.gs_ai.specs.declared.row.AiRow.{AiRow};
 ghost use Rattle.gs_links.specs.declared.link.Link.{Link};
 ghost use Rattle.gs_http.specs.declared.resolver.Settings.{Settings as How};
 ghost use Rattle.gs_http.specs.Turns.{Answered, Delivers, LetsGo, Turned};
-ghost use Rattle.gs_http.specs.Untouched.{CountsTurn, IsUnread, StaysOpen};
-ghost use Rattle.gs_http.specs.ConnectionReads.{Writes};
-ghost use Rattle.gs_http.specs.ConnectedSupport.{writes_after};
+ghost use Rattle.gs_http.specs.ConnectedSupport.{Sends};
 
 use crate::buffer::{Buffer, Filled, fill};
 use crate::head_reply::{rejection, reply_with};
@@ -15,7 +13,7 @@ use crate::replies::Reply;
 use crate::resolver::{Resolver, Settings, Site};
 use gs_ai::AiTable;
 use gs_links::Store;
-use gs_port::{Conn, WriteAnswer};
+use gs_port::{Conn, Whole, WriteAnswer};
 use std::alloc::Global;
 
 /// The most replies that are made of a connection.
@@ -34,83 +32,52 @@ pub enum Served {
     Memory,
 }
 
-/// How a turn of serving a connection ended.
-#[derive(Clone, Copy)]
-enum Turn {
-    /// A head was answered, and the connection stays.
-    Stays,
-    /// Nothing more is done with the connection.
-    Over(Served),
-}
-
-/// How writing bytes whole ended.
-#[derive(Clone, Copy)]
-enum Sent {
-    /// All bytes were written.
-    Done,
-    /// A write failed. A prefix of the bytes was written.
-    Failed,
-    /// Out of memory. A prefix of the bytes was written.
-    Memory,
-}
-
 /// Writes all the bytes, in as many pieces as the connection takes.
-fn send<C: Conn>(conn: &mut C, bytes: &[u8]) -> Sent
-    requires current { C.is_open conn.old ≡ true }
-    ensures writes { Writes result bytes.now (C.held conn.old) (C.held conn.new) }
-    ensures count { C.writes conn.new ≡ writes_after result (C.writes conn.old) }
-    ensures counts { C.writes conn.old ≤ C.writes conn.new }
-    ensures unread { IsUnread C.left C.taken conn.old conn.new }
-    ensures same_reads { C.reads conn.new ≡ C.reads conn.old }
-    ensures stays_open { StaysOpen C.is_open C.aside C.ends conn.old conn.new }
+fn send<C: Conn>(conn: &mut C, bytes: &[u8]) -> Whole
+    requires current { (C.state conn.old).is_open ≡ true }
+    ensures { Sends result bytes.now (C.state conn.old) (C.state conn.new) }
 {
     let mut done = 0;
     while done < bytes.len() {
         match conn.write(&bytes[done..]) {
             WriteAnswer::Took(taken) => done += taken,
-            WriteAnswer::Failed => return Sent::Failed,
-            WriteAnswer::Memory => return Sent::Memory,
+            WriteAnswer::Failed => return Whole::SinkFault,
+            WriteAnswer::Memory => return Whole::Memory,
         }
     }
-    Sent::Done
+    Whole::Done
 }
 
-/// Writes a reply.
-fn deliver<C: Conn>(conn: &mut C, reply: &Reply) -> Turn
-    requires current { C.is_open conn.old ≡ true }
-    ensures delivers { Delivers result reply.now (C.held conn.old) (C.held conn.new) }
-    ensures counts { CountsTurn result C.reads C.writes conn.old conn.new }
-    ensures unread { IsUnread C.left C.taken conn.old conn.new }
-    ensures stays_open { StaysOpen C.is_open C.aside C.ends conn.old conn.new }
+/// Writes a reply. Returns how serving ended, or `None` if the connection stays.
+fn deliver<C: Conn>(conn: &mut C, reply: &Reply) -> Option<Served>
+    requires current { (C.state conn.old).is_open ≡ true }
+    ensures { Delivers result reply.now (C.state conn.old) (C.state conn.new) }
 {
     match send(conn, reply.bytes.as_bytes()) {
-        Sent::Failed => return Turn::Over(Served::WriteFault),
-        Sent::Memory => return Turn::Over(Served::Memory),
-        Sent::Done => {}
+        Whole::SinkFault => return Some(Served::WriteFault),
+        Whole::Memory => return Some(Served::Memory),
+        Whole::Done => {}
     }
     if reply.close {
-        Turn::Over(Served::Done)
+        Some(Served::Done)
     } else {
-        Turn::Stays
+        None
     }
 }
 
-/// Answers bytes that are not a head, whatever follows.
-fn reject<C: Conn>(alloc: Global, conn: &mut C) -> Turn
-    requires current { C.is_open conn.old ≡ true }
-    ensures answered { (table : List AiRow) (links : List Link) (settings : How) (last : Bool)
-        → Answered table links settings result None last (C.held conn.old) (C.held conn.new) }
-    ensures counts { CountsTurn result C.reads C.writes conn.old conn.new }
-    ensures unread { IsUnread C.left C.taken conn.old conn.new }
-    ensures stays_open { StaysOpen C.is_open C.aside C.ends conn.old conn.new }
+/// Answers bytes that are not a head, whatever follows, as `deliver` does.
+fn reject<C: Conn>(alloc: Global, conn: &mut C) -> Option<Served>
+    requires current { (C.state conn.old).is_open ≡ true }
+    ensures { (table : List AiRow) (links : List Link) (settings : How) (last : Bool)
+        → Answered table links settings result None last (C.state conn.old) (C.state conn.new) }
 {
     match rejection(alloc) {
         Ok(reply) => deliver(conn, &reply),
-        Err(_) => Turn::Over(Served::Memory),
+        Err(_) => Some(Served::Memory),
     }
 }
 
-/// Answers the head with which the bytes begin, in place, and lets go of it if the connection stays open.
+/// Answers the head with which the bytes begin, in place, as `deliver` does. Lets go of it if the connection stays.
 fn answer_head<C: Conn>(
     alloc: Global,
     conn: &mut C,
@@ -119,31 +86,28 @@ fn answer_head<C: Conn>(
     bytes: &mut Buffer,
     len: usize,
     last: bool,
-) -> Turn
-    requires current { C.is_open conn.old ≡ true }
+) -> Option<Served>
+    requires current { (C.state conn.old).is_open ≡ true }
     requires room { room_for resolver.now.links ≤ length room.old }
     requires within { len ≤ length bytes.old }
     ensures answered { Answered resolver.now.table resolver.now.links resolver.now.settings result
-        (Some (take len bytes.old)) last (C.held conn.old) (C.held conn.new) }
+        (Some (take len bytes.old)) last (C.state conn.old) (C.state conn.new) }
     ensures lets_go { LetsGo result len bytes.old bytes.new }
-    ensures counts { CountsTurn result C.reads C.writes conn.old conn.new }
-    ensures unread { IsUnread C.left C.taken conn.old conn.new }
-    ensures stays_open { StaysOpen C.is_open C.aside C.ends conn.old conn.new }
 {
     let head = &bytes.as_slice()[..len];
     let Ok(reply) = reply_with(alloc, resolver, room, head, last) else {
-        return Turn::Over(Served::Memory);
+        return Some(Served::Memory);
     };
     match deliver(conn, &reply) {
-        Turn::Over(served) => Turn::Over(served),
-        Turn::Stays => {
+        Some(served) => Some(served),
+        None => {
             bytes.let_go(len);
-            Turn::Stays
+            None
         }
     }
 }
 
-/// Reads up to the end of a head and replies to it.
+/// Reads up to the end of a head and replies to it, as `deliver` does.
 fn answer_next<C: Conn>(
     alloc: Global,
     conn: &mut C,
@@ -151,26 +115,24 @@ fn answer_next<C: Conn>(
     room: &mut [u32],
     bytes: &mut Buffer,
     last: bool,
-) -> Turn
-    requires current { C.is_open conn.old ≡ true }
+) -> Option<Served>
+    requires current { (C.state conn.old).is_open ≡ true }
     requires room { room_for resolver.now.links ≤ length room.old }
     requires few { length bytes.old ≤ 12287 }
-    ensures turned { Turned resolver.now.table resolver.now.links resolver.now.settings result last
-        bytes.old bytes.new (C.left conn.old) (C.left conn.new) (C.taken conn.old) (C.taken conn.new)
-        (C.held conn.old) (C.held conn.new) }
-    ensures counts { CountsTurn result C.reads C.writes conn.old conn.new }
-    ensures stays_open { StaysOpen C.is_open C.aside C.ends conn.old conn.new }
+    ensures { Turned resolver.now.table resolver.now.links resolver.now.settings result last
+        bytes.old bytes.new (C.state conn.old) (C.state conn.new) }
 {
     match fill(conn, bytes) {
-        Filled::Ended => Turn::Over(Served::Done),
-        Filled::Failed => Turn::Over(Served::ReadFault),
-        Filled::Memory => Turn::Over(Served::Memory),
+        Filled::Ended => Some(Served::Done),
+        Filled::Failed => Some(Served::ReadFault),
+        Filled::Memory => Some(Served::Memory),
         Filled::Headless => reject(alloc, conn),
         Filled::Head(len) => answer_head(alloc, conn, resolver, room, bytes, len, last),
     }
 }
 
 /// Returns whether the reply of a turn is the last that may come.
+#[tactic(auto, using(crate::proofs::Connections::last_turn))]
 fn is_last(turn: usize) -> bool
     requires { turn < 1000 }
     ensures { result ≡ (1000 - turn == 1) }
@@ -186,24 +148,17 @@ pub fn serve_with<C: Conn>(
     resolver: &Resolver<'_>,
     room: &mut [u32],
 ) -> Served
-    requires current { C.is_open conn.old ≡ true }
+    requires current { (C.state conn.old).is_open ≡ true }
     requires room { room_for resolver.now.links ≤ length room.old }
     ensures served { IsServed 1000 resolver.now.table resolver.now.links resolver.now.settings result
-        (C.left conn.old) (C.left conn.new) (C.taken conn.old) (C.taken conn.new)
-        (C.held conn.old) (C.held conn.new) }
-    ensures reads { C.reads conn.new ≡ reads_when result (C.reads conn.old) }
-    ensures writes { C.writes conn.new ≡ writes_when result (C.writes conn.old) }
-    ensures read_counts { C.reads conn.old ≤ C.reads conn.new }
-    ensures write_counts { C.writes conn.old ≤ C.writes conn.new }
-    ensures stays_open { C.is_open conn.new ≡ true }
-    ensures same_aside { C.aside conn.new ≡ C.aside conn.old }
-    ensures same_ends { C.ends conn.new ≡ C.ends conn.old }
+        (C.state conn.old) (C.state conn.new) }
+    ensures rest { C.state conn.new ≡ after_serving result (C.state conn.new) (C.state conn.old) }
 {
     let mut bytes = Buffer::new(alloc);
     for turn in 0..MOST {
         match answer_next(alloc, conn, resolver, room, &mut bytes, is_last(turn)) {
-            Turn::Stays => {}
-            Turn::Over(served) => return served,
+            None => {}
+            Some(served) => return served,
         }
     }
     // the last reply that may come ends the connection
@@ -214,6 +169,7 @@ pub fn serve_with<C: Conn>(
 /// 1,000th reply does. Bytes without a head within 8,192 bytes or before the end of the stream get one such reply. The
 /// connection stays open. `Done`: all replies were written, and nothing else. After the other results a prefix of them was
 /// written. Returns `ReadFault` or `WriteFault` only if a read or a write failed and was counted.
+#[tactic(auto, using(crate::proofs::Connections::nothing_done))]
 pub fn serve_one<C: Conn>(
     alloc: Global,
     conn: &mut C,
@@ -221,16 +177,10 @@ pub fn serve_one<C: Conn>(
     store: &Store,
     settings: &Settings,
 ) -> Served
-    requires { C.is_open conn.old ≡ true }
-    ensures served { IsServed 1000 table.now store.now settings.now result (C.left conn.old) (C.left conn.new)
-        (C.taken conn.old) (C.taken conn.new) (C.held conn.old) (C.held conn.new) }
-    ensures reads { C.reads conn.new ≡ reads_when result (C.reads conn.old) }
-    ensures writes { C.writes conn.new ≡ writes_when result (C.writes conn.old) }
-    ensures read_counts { C.reads conn.old ≤ C.reads conn.new }
-    ensures write_counts { C.writes conn.old ≤ C.writes conn.new }
-    ensures stays_open { C.is_open conn.new ≡ true }
-    ensures same_aside { C.aside conn.new ≡ C.aside conn.old }
-    ensures same_ends { C.ends conn.new ≡ C.ends conn.old }
+    requires { (C.state conn.old).is_open ≡ true }
+    ensures served { IsServed 1000 table.now store.now settings.now result
+        (C.state conn.old) (C.state conn.new) }
+    ensures rest { C.state conn.new ≡ after_serving result (C.state conn.new) (C.state conn.old) }
 {
     let site = Site {
         table,

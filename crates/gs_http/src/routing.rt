@@ -2,8 +2,7 @@ ghost use Rattle.std.specs.Prelude.{◌≡◌, ◌≤◌, ◌<◌, ◌==◌, ◌
 ghost use Rattle.std.specs.Bool.{OnTrue};
 ghost use Rattle.gs_dlink.specs.Answers.{target_answer};
 ghost use Rattle.gs_http.specs.References.{reference_for};
-ghost use Rattle.gs_http.specs.Forms.{in_json, rendered_as};
-ghost use Rattle.gs_http.specs.declared.documents.LinksetForm.TheVariants.{Json};
+ghost use Rattle.gs_http.specs.Forms.{in_json, rendered_as, text_or_json};
 ghost use Rattle.gs_links.specs.Choices.{chosen as chosen_numbers};
 ghost use Rattle.gs_links.specs.Documents.{document_of, linked};
 ghost use Rattle.gs_links.specs.Languages.{narrowed};
@@ -29,6 +28,7 @@ use gs_chars::Memory;
 use gs_dlink::read_target;
 use gs_ident::{Identity, make};
 use gs_links::{Link, Want};
+use gs_linktext::LinkTextWriteFault;
 use std::alloc::Global;
 
 /// Returns whether the method requests only the head of the reply.
@@ -86,13 +86,6 @@ fn is_single(chosen: &[u32]) -> bool
     ensures { result ≡ (length chosen.now == 1) }
 {
     chosen.len() == 1
-}
-
-/// Returns whether a document is written from the links of the store: in JSON, with their own target URIs.
-fn is_lent(templates: bool, form: LinksetForm) -> bool
-    ensures { OnTrue result ((templates ≡ false) × (form ≡ Json)) }
-{
-    !templates && matches!(form, LinksetForm::Json)
 }
 
 /// What a request asks a resolver for: the links of an identity that fit its wish.
@@ -162,7 +155,7 @@ impl<'q, 'a, 't> Lookup<'q, 'a, 't> {
     }
 
     /// Returns the document of chosen links as JSON, with the links' own target URIs.
-    fn render_own(&self, alloc: Global, chosen: &[u32]) -> Result<Rendered, Memory>
+    fn own_json(&self, alloc: Global, chosen: &[u32]) -> Result<Rendered, Memory>
         requires chosen { (want : Wanted) × (ranges : List (List ℕ))
             × (chosen.now ≡ narrowed self.now.resolver.now.links
             (chosen_numbers self.now.resolver.now.links self.now.identity.now want) ranges) }
@@ -177,7 +170,51 @@ impl<'q, 'a, 't> Lookup<'q, 'a, 't> {
         })
     }
 
-    /// Returns the document of chosen links in a form. It copies the links only for a text or for templates.
+    /// Returns the document of chosen links as text if each of them can be spelled, otherwise as JSON, with the links' own target
+    /// URIs.
+    fn own_text(&self, alloc: Global, chosen: &[u32]) -> Result<Rendered, Memory>
+        requires chosen { (want : Wanted) × (ranges : List (List ℕ))
+            × (chosen.now ≡ narrowed self.now.resolver.now.links
+            (chosen_numbers self.now.resolver.now.links self.now.identity.now want) ranges) }
+        requires some { 0 < length chosen.now }
+        ensures { IfOk result (λ sent. sent
+            ≡ text_or_json (document_of (linked self.now.resolver.now.links chosen.now))) }
+    {
+        match self
+            .resolver
+            .store()
+            .write_text(alloc, self.identity, chosen)
+        {
+            Ok(text) => Ok(Rendered {
+                form: LinksetForm::Text,
+                text,
+            }),
+            Err(LinkTextWriteFault::CannotSpell(_)) => self.own_json(alloc, chosen),
+            Err(LinkTextWriteFault::Memory) => Err(Memory),
+        }
+    }
+
+    /// Returns the document of chosen links in a form, with the links' own target URIs.
+    fn render_own(
+        &self,
+        alloc: Global,
+        form: LinksetForm,
+        chosen: &[u32],
+    ) -> Result<Rendered, Memory>
+        requires chosen { (want : Wanted) × (ranges : List (List ℕ))
+            × (chosen.now ≡ narrowed self.now.resolver.now.links
+            (chosen_numbers self.now.resolver.now.links self.now.identity.now want) ranges) }
+        requires some { 0 < length chosen.now }
+        ensures { IfOk result (λ sent. sent
+            ≡ rendered_as form (document_of (linked self.now.resolver.now.links chosen.now))) }
+    {
+        match form {
+            LinksetForm::Json => self.own_json(alloc, chosen),
+            LinksetForm::Text => self.own_text(alloc, chosen),
+        }
+    }
+
+    /// Returns the document of chosen links in a form. It copies the links only for templates.
     fn render(&self, alloc: Global, form: LinksetForm, chosen: &[u32]) -> Result<Rendered, Memory>
         requires chosen { (want : Wanted) × (ranges : List (List ℕ))
             × (chosen.now ≡ narrowed self.now.resolver.now.links
@@ -188,8 +225,8 @@ impl<'q, 'a, 't> Lookup<'q, 'a, 't> {
             (linked self.now.resolver.now.links chosen.now))) }
     {
         let templates = self.resolver.settings().templates;
-        if is_lent(templates, form) {
-            return self.render_own(alloc, chosen);
+        if !templates {
+            return self.render_own(alloc, form, chosen);
         }
         let document = self
             .resolver

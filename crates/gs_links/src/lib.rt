@@ -5,7 +5,7 @@
 //! - `Store::choose` finds the links of an identity, of one relation or of all, at the longest of its prefixes that has one. A
 //!   link of a lot goes before one of the trade item.
 //! - `Store::narrow` keeps, of the chosen links, those in the first wished language that one of them has.
-//! - `Store::document` makes a linkset of the chosen links.
+//! - `Store::document` makes a linkset of the chosen links. `write_document` and `write_text` write it and copy none of them.
 //!
 //! # Example
 //!

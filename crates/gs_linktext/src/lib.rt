@@ -1,7 +1,7 @@
 //! Linksets as text (RFC 9264, section 4.1), read and written. They are documents of the type `application/linkset`, in the
 //! syntax of the `Link` field (RFC 8288, section 3).
 //!
-//! - `read` reads a linkset from a text, or gives its first error; `write` spells one.
+//! - `read` reads a linkset from a text, or gives its first error; `write` spells one, and `write_context` one that is lent.
 //! - A written document is read as the same links: `written_is_read`. A read one can be written: `read_is_spelled`.
 //! - `one_lexing`, `one_cut`, `one_reading`, `some_reading`, `spelled_is_read`: the other laws of reading and writing.
 //!
@@ -40,4 +40,4 @@ pub use laws::{
     one_cut, one_reading, read_is_spelled, some_reading, spelled_is_read, written_is_read,
 };
 pub use reader::read;
-pub use writer::{LinkTextWriteFault, write};
+pub use writer::{LinkTextWriteFault, write, write_context};

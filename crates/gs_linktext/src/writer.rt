@@ -1,5 +1,6 @@
-ghost use Rattle.std.specs.Prelude.{◌≡◌, ◌++◌, IfOk, IfErr, map, position, None};
+ghost use Rattle.std.specs.Prelude.{◌≡◌, ◌++◌, ◌∷◌, [], IfOk, IfErr, map, position, None};
 ghost use Rattle.std.specs.List.{flat_map};
+ghost use Rattle.gs_linkset.specs.LentLinks.{context_lent, relation_lent};
 ghost use Rattle.gs_linkset.specs.LinkShapes.{links_of_document, links_of_context, links_of_relation};
 ghost use Rattle.gs_linktext.specs.Lent.{seen};
 ghost use Rattle.gs_linktext.specs.Spelling.{cannot_spell, quoted, quoted_byte, spelled, spelled_attr, spelled_behind};
@@ -9,7 +10,7 @@ ghost use Rattle.gs_linktext.specs.WriteAnswers.{IsUnspellable};
 use crate::spellable::first_unspellable;
 use gs_chars::{Memory, Text};
 use gs_ident::append_escaped;
-use gs_linkset::{Attr, AttrValue, Context, LinkDoc, Relation, Target};
+use gs_linkset::{Attr, AttrValue, Context, ContextRef, LinkDoc, Relation, RelationRef, Target};
 use std::alloc::Global;
 use thiserror::Error;
 
@@ -176,6 +177,21 @@ fn write_links(out: &mut Vec<u8>, links: &[LentLink<'_>]) -> Result<(), Memory>
     write_behind(out, behind)
 }
 
+/// Returns the text of links, or the first that text cannot hold. It keeps no more memory than the text's.
+fn text_of(alloc: Global, links: &[LentLink<'_>]) -> Result<Text, LinkTextWriteFault>
+    ensures spelled { IfOk result (λ text. text ≡ spelled_links (map seen links.now)) }
+    ensures spellable { IfOk result (λ _. position cannot_spell (map seen links.now) ≡ None) }
+    ensures rejected { IfErr result (IsUnspellable (map seen links.now)) }
+{
+    if let Some(i) = first_unspellable(links) {
+        return Err(LinkTextWriteFault::CannotSpell(i));
+    }
+    let mut out = Vec::new(alloc);
+    write_links(&mut out, links)?;
+    out.shrink_to_fit();
+    Ok(Text::from_vec(out))
+}
+
 /// Returns the text of a linkset (RFC 9264, section 4.1). Each link has the target URI, the relation type, the anchor and the
 /// attributes, in the order of the document. A comma and a line break separate two links.
 ///
@@ -195,12 +211,18 @@ pub fn write(alloc: Global, doc: &LinkDoc) -> Result<Text, LinkTextWriteFault>
     ensures rejected { IfErr result (IsUnspellable (links_of_document doc.now)) }
 {
     let links = lent_links(alloc, doc.contexts())?;
-    if let Some(i) = first_unspellable(links.as_slice()) {
-        return Err(LinkTextWriteFault::CannotSpell(i));
-    }
-    let mut out = Vec::new(alloc);
-    write_links(&mut out, links.as_slice())?;
-    Ok(Text::from_vec(out))
+    text_of(alloc, links.as_slice())
+}
+
+/// Returns the text of the linkset of one context, as `write` does, and copies none of its links. May return `Memory` instead.
+pub fn write_context(alloc: Global, context: &ContextRef<'_>) -> Result<Text, LinkTextWriteFault>
+    ensures spelled { IfOk result (λ text. text ≡ spelled (context_lent context.now ∷ [])) }
+    ensures spellable { IfOk result
+        (λ _. position cannot_spell (links_of_document (context_lent context.now ∷ [])) ≡ None) }
+    ensures rejected { IfErr result (IsUnspellable (links_of_document (context_lent context.now ∷ []))) }
+{
+    let links = links_of_context(alloc, context)?;
+    text_of(alloc, links.as_slice())
 }
 
 /// A link of a document: its anchor, its relation type and its target.
@@ -250,6 +272,41 @@ fn lent_links(alloc: Global, contexts: &[Context]) -> Result<Vec<LentLink<'_>>, 
     let mut links = Vec::new(alloc);
     for context in contexts {
         push_context(&mut links, context)?;
+    }
+    Ok(links)
+}
+
+/// Adds the links of a relation that is lent.
+fn push_lent<'a>(
+    links: &mut Vec<LentLink<'a>>,
+    anchor: &'a [u8],
+    relation: &RelationRef<'a>,
+) -> Result<(), Memory>
+    ensures { IfOk result (λ _. map seen links.new.items
+        ≡ map seen links.old.items ++ links_of_relation anchor.now (relation_lent relation.now)) }
+{
+    let name = relation.name.as_bytes();
+    for target in relation.targets {
+        links.push(LentLink {
+            anchor,
+            relation: name,
+            target,
+        })?;
+    }
+    Ok(())
+}
+
+/// Returns the links of a context that is lent, in their order.
+fn links_of_context<'a>(
+    alloc: Global,
+    context: &ContextRef<'a>,
+) -> Result<Vec<LentLink<'a>>, Memory>
+    ensures { IfOk result (λ links. map seen links.items ≡ links_of_document (context_lent context.now ∷ [])) }
+{
+    let anchor = context.anchor.as_bytes();
+    let mut links = Vec::new(alloc);
+    for relation in context.relations {
+        push_lent(&mut links, anchor, relation)?;
     }
     Ok(links)
 }

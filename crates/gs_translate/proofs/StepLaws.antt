@@ -1,6 +1,9 @@
 -- Results that are found in steps are unique if the result of each step is.
 use Rattle.std.proofs.Common.{◌≡◌, ℕ, List, [], ◌++◌, refl, sym, ◌∙◌, ap, subst}
-use Rattle.std.specs.Prelude.{◌≢◌, Result, Ok, Err}
+use Rattle.std.proofs.lemmas.List.{append-nil}
+use Rattle.std.specs.Prelude.{◌≢◌, Result, Ok, Err, OnErr}
+use Rattle.gs_chars.specs.Answers.{BeginsWith}
+use Rattle.gs_ident.proofs.BeginLemmas.{begins_more, on_err}
 use Rattle.gs_translate.specs.declared.reason.Reason.{Reason}
 use Rattle.gs_translate.specs.declared.reason.Reason.TheVariants.{CannotHold, Element, Epc, Extra, Ident, Long, Memory, Missing, NoKeyPath, NoKind, NoOption, NotHttp}
 use Rattle.gs_translate.specs.Steps.{AppendsText, Reworded, Then, UnlessMemory, goes_on, rejects, reworded}
@@ -119,3 +122,7 @@ then_appended First Next a before now result first next =
 pub appended_alone : (Answer : Result (List ℕ) Reason → Type 0) (before now text whole : List ℕ) → before ≡ [] → now ≡ before ++ text
     → whole ≡ now → Answer (Ok text) → Answer (Ok whole)
 appended_alone Answer before now text whole none appended is answer = rw (is, appended, none) answer
+
+-- after an error a text that nothing was appended to begins with itself
+pub unappended : {X E : Type 0} (r : Result X E) (text : List ℕ) → OnErr r (BeginsWith text text)
+unappended r text = on_err r (BeginsWith text text) (begins_more text text [] (sym (append-nil text)))

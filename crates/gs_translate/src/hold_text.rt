@@ -1,4 +1,5 @@
-ghost use Rattle.std.specs.Prelude.{◌≡◌, ◌++◌, OnOk, codes};
+ghost use Rattle.std.specs.Prelude.{◌≡◌, ◌++◌, OnErr, OnOk, codes};
+ghost use Rattle.gs_chars.specs.Answers.{BeginsWith};
 ghost use Rattle.gs_translate.specs.Reasons.{field_text, held_text, hold_text, missing_text};
 
 use crate::form::FieldName;
@@ -9,7 +10,8 @@ use gs_tables_document::Field;
 
 /// Appends the name of the missing field.
 pub(crate) fn append_missing(out: &mut Vec<u8>, name: FieldName) -> Result<(), Memory>
-    ensures { OnOk result (out.new.items ≡ out.old.items ++ (codes "missing " ++ missing_text name)) }
+    ensures written { OnOk result (out.new.items ≡ out.old.items ++ (codes "missing " ++ missing_text name)) }
+    ensures begun { OnErr result (BeginsWith out.new.items out.old.items) }
 {
     match name {
         FieldName::Gcp => append_word(out, b"missing gcp"),
@@ -46,7 +48,8 @@ fn why_word(why: Why) -> &'static [u8]
 
 /// Appends which field is not held, and why.
 pub(crate) fn append_hold(out: &mut Vec<u8>, field: Field, why: Why) -> Result<(), Memory>
-    ensures { OnOk result (out.new.items ≡ out.old.items ++ hold_text field why) }
+    ensures written { OnOk result (out.new.items ≡ out.old.items ++ hold_text field why) }
+    ensures begun { OnErr result (BeginsWith out.new.items out.old.items) }
 {
     append_word(out, b"hold ")?;
     append_word(out, field_name(field))?;

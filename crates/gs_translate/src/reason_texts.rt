@@ -1,4 +1,5 @@
-ghost use Rattle.std.specs.Prelude.{◌≡◌, ◌++◌, IfOk, OnOk};
+ghost use Rattle.std.specs.Prelude.{◌≡◌, ◌++◌, IfOk, OnErr, OnOk};
+ghost use Rattle.gs_chars.specs.Answers.{BeginsWith};
 ghost use Rattle.gs_translate.specs.Reasons.{element_text, epc_text, hex_text, ident_text, reason_text, value_text};
 
 use crate::hold_text::{append_hold, append_missing};
@@ -20,9 +21,10 @@ pub fn reason_text(alloc: Global, reason: &Reason) -> Result<Text, Memory>
     Ok(Text::from_vec(text))
 }
 
-/// Appends the printed reason why a text is rejected.
+/// Appends the printed reason why a text is rejected. Fails only with `Memory`; `out` then begins with its old contents.
 pub fn append_reason(alloc: Global, out: &mut Vec<u8>, reason: &Reason) -> Result<(), Memory>
-    ensures { OnOk result (out.new.items ≡ out.old.items ++ reason_text reason.now) }
+    ensures written { OnOk result (out.new.items ≡ out.old.items ++ reason_text reason.now) }
+    ensures begun { OnErr result (BeginsWith out.new.items out.old.items) }
 {
     match reason {
         Reason::Long => append_word(out, b"long"),
@@ -42,7 +44,8 @@ pub fn append_reason(alloc: Global, out: &mut Vec<u8>, reason: &Reason) -> Resul
 
 /// Appends why a text says no EPC.
 fn append_epc(alloc: Global, out: &mut Vec<u8>, error: EpcFault) -> Result<(), Memory>
-    ensures { OnOk result (out.new.items ≡ out.old.items ++ epc_text error) }
+    ensures written { OnOk result (out.new.items ≡ out.old.items ++ epc_text error) }
+    ensures begun { OnErr result (BeginsWith out.new.items out.old.items) }
 {
     match error {
         EpcFault::Hex(error) => append_hex(alloc, out, error),
@@ -53,7 +56,8 @@ fn append_epc(alloc: Global, out: &mut Vec<u8>, error: EpcFault) -> Result<(), M
 
 /// Appends why a text is not a hexadecimal text.
 fn append_hex(alloc: Global, out: &mut Vec<u8>, error: HexFault) -> Result<(), Memory>
-    ensures { OnOk result (out.new.items ≡ out.old.items ++ hex_text error) }
+    ensures written { OnOk result (out.new.items ≡ out.old.items ++ hex_text error) }
+    ensures begun { OnErr result (BeginsWith out.new.items out.old.items) }
 {
     match error {
         HexFault::OddDigits => append_word(out, b"odd"),
@@ -64,7 +68,8 @@ fn append_hex(alloc: Global, out: &mut Vec<u8>, error: HexFault) -> Result<(), M
 
 /// Appends the error of an element, and its place.
 fn append_element(alloc: Global, out: &mut Vec<u8>, error: ElementFault) -> Result<(), Memory>
-    ensures { OnOk result (out.new.items ≡ out.old.items ++ element_text error) }
+    ensures written { OnOk result (out.new.items ≡ out.old.items ++ element_text error) }
+    ensures begun { OnErr result (BeginsWith out.new.items out.old.items) }
 {
     match error.why {
         ElementWhy::Value(why) => append_value(alloc, out, error.at, why),
@@ -75,7 +80,8 @@ fn append_element(alloc: Global, out: &mut Vec<u8>, error: ElementFault) -> Resu
 
 /// Appends that a value has a wrong character, the place of its code, and the place of the character in the value.
 fn append_char(alloc: Global, out: &mut Vec<u8>, at: usize, place: usize) -> Result<(), Memory>
-    ensures { OnOk result (out.new.items ≡ out.old.items ++ value_text at (ValueFault.Char place)) }
+    ensures written { OnOk result (out.new.items ≡ out.old.items ++ value_text at (ValueFault.Char place)) }
+    ensures begun { OnErr result (BeginsWith out.new.items out.old.items) }
 {
     append_numbered(alloc, out, b"char", at)?;
     append_number(alloc, out, place)
@@ -88,7 +94,8 @@ fn append_value(
     at: usize,
     error: ValueFault,
 ) -> Result<(), Memory>
-    ensures { OnOk result (out.new.items ≡ out.old.items ++ value_text at error) }
+    ensures written { OnOk result (out.new.items ≡ out.old.items ++ value_text at error) }
+    ensures begun { OnErr result (BeginsWith out.new.items out.old.items) }
 {
     match error {
         ValueFault::Unknown => append_numbered(alloc, out, b"unknown", at),
@@ -99,9 +106,10 @@ fn append_value(
     }
 }
 
-/// Appends the printed reason why elements have no identity.
+/// Appends the printed reason why elements have no identity. Fails as `append_reason` does.
 pub fn append_ident(out: &mut Vec<u8>, error: &IdentFault) -> Result<(), Memory>
-    ensures { OnOk result (out.new.items ≡ out.old.items ++ ident_text error.now) }
+    ensures written { OnOk result (out.new.items ≡ out.old.items ++ ident_text error.now) }
+    ensures begun { OnErr result (BeginsWith out.new.items out.old.items) }
 {
     match error {
         IdentFault::Repeat(code) => append_code(out, b"repeat ", code),
@@ -113,7 +121,8 @@ pub fn append_ident(out: &mut Vec<u8>, error: &IdentFault) -> Result<(), Memory>
 
 /// Appends a word and the code of an application identifier.
 fn append_code(out: &mut Vec<u8>, word: &[u8], code: &Text) -> Result<(), Memory>
-    ensures { OnOk result (out.new.items ≡ out.old.items ++ (word.now ++ code.now)) }
+    ensures written { OnOk result (out.new.items ≡ out.old.items ++ (word.now ++ code.now)) }
+    ensures begun { OnErr result (BeginsWith out.new.items out.old.items) }
 {
     append_word(out, word)?;
     append_word(out, code.as_bytes())

@@ -1,4 +1,5 @@
-ghost use Rattle.std.specs.Prelude.{◌≡◌, ◌++◌, IfOk, List};
+ghost use Rattle.std.specs.Prelude.{◌≡◌, ◌++◌, IfOk, List, OnErr};
+ghost use Rattle.gs_chars.specs.Answers.{BeginsWith};
 ghost use Rattle.gs_epc.specs.Epcs.{IsOfSet};
 ghost use Rattle.gs_epc.specs.Layout.{IsLaidOut};
 ghost use Rattle.gs_ident.specs.Elements.{Elements};
@@ -47,8 +48,9 @@ fn append_recoded(
 ) -> Result<(), Reason>
     requires options { FitsFilter options.now.filter }
     requires given { FitsFilter reading.now.filter }
-    ensures { (identity : Elements) → UnlessMemory result (AppendsText
+    ensures written { (identity : Elements) → UnlessMemory result (AppendsText
         (IsRecoded set.now options.now to reading.now identity) out.old.items out.new.items result) }
+    ensures begun { OnErr result (BeginsWith out.new.items out.old.items) }
 {
     let epc = retagged(options, to, reading.epc())?;
     append_epc(alloc, set, to, &epc, out)
@@ -65,8 +67,9 @@ fn append_laid_out(
 ) -> Result<(), Memory>
     requires options { AreInOrder options.now }
     requires of_set { IsOfSet set.now reading.now }
-    ensures { (identity : Elements) → IsLaidOut set.now reading.now identity → IfOk result (λ _.
+    ensures written { (identity : Elements) → IsLaidOut set.now reading.now identity → IfOk result (λ _.
         out.new.items ≡ out.old.items ++ pairs_text options.now to identity) }
+    ensures begun { OnErr result (BeginsWith out.new.items out.old.items) }
 {
     match to {
         PairsForm::Canon => reading.append_link(alloc, set, CANONICAL_STEM.as_bytes(), out),
@@ -95,10 +98,11 @@ fn append_reading(
     requires options { AreInOrder options.now }
     requires of_set { IsOfSet set.now reading.now }
     requires given { FitsFilter reading.now.filter }
-    ensures { (prefixes : List PrefixEntry) (identity : Elements)
+    ensures written { (prefixes : List PrefixEntry) (identity : Elements)
         → IsLaidOut set.now reading.now identity → UnlessMemory result (AppendsText
         (IsSpelling set.now prefixes options.now to (epc_meaning reading.now identity))
         out.old.items out.new.items result) }
+    ensures begun { OnErr result (BeginsWith out.new.items out.old.items) }
 {
     // only for the proof: the rows satisfy the rules of tables
     let _ = set.ais();
@@ -120,9 +124,10 @@ pub(crate) fn append_of_level(
     out: &mut Vec<u8>,
 ) -> Result<(), Reason>
     requires { AreInOrder options.now }
-    ensures { (prefixes : List PrefixEntry) → UnlessMemory result (AppendsText
+    ensures written { (prefixes : List PrefixEntry) → UnlessMemory result (AppendsText
         (IsTranslation set.now prefixes options.now (form_at from) to text.now)
         out.old.items out.new.items result) }
+    ensures begun { OnErr result (BeginsWith out.new.items out.old.items) }
 {
     // only for the proof: the rows satisfy the rules of tables
     let _ = set.ais();

@@ -1,4 +1,5 @@
-ghost use Rattle.std.specs.Prelude.{◌≡◌, ◌++◌, IfOk};
+ghost use Rattle.std.specs.Prelude.{◌≡◌, ◌++◌, IfOk, OnErr};
+ghost use Rattle.gs_chars.specs.Answers.{BeginsWith};
 ghost use Rattle.gs_epc.specs.declared.error.EpcWriteFault.TheVariants as write;
 ghost use Rattle.gs_epc.specs.Candidates.{HasFilterOn};
 ghost use Rattle.gs_epc.specs.Writes.{WritesAs};
@@ -31,9 +32,10 @@ pub(crate) fn append_epc(
     out: &mut Vec<u8>,
 ) -> Result<(), Reason>
     requires { HasFilterOn level epc.now.filter }
-    ensures { UnlessMemory result (AppendsText
+    ensures written { UnlessMemory result (AppendsText
         (Reworded write.Memory write_reason (WritesAs set.now level epc.now))
         out.old.items out.new.items result) }
+    ensures begun { OnErr result (BeginsWith out.new.items out.old.items) }
 {
     Ok(append_lent(alloc, set, level, epc, out)?)
 }
@@ -50,8 +52,9 @@ fn append_meaning(
 ) -> Result<(), Reason>
     requires options { FitsFilter options.now.filter }
     requires meaning { FitsFilter meaning.now.filter }
-    ensures { UnlessMemory result (AppendsText
+    ensures written { UnlessMemory result (AppendsText
         (IsOfLevel set.now prefixes.now options.now level meaning.now) out.old.items out.new.items result) }
+    ensures begun { OnErr result (BeginsWith out.new.items out.old.items) }
 {
     let epc = epc_for(alloc, set, prefixes, options, level, meaning)?;
     append_epc(alloc, set, level, &epc, out)
@@ -82,8 +85,9 @@ pub(crate) fn append_pairs(
 ) -> Result<(), Memory>
     requires options { AreInOrder options.now }
     requires with_table { IsMadeWith set.now.ais identity.now }
-    ensures { IfOk result (λ _. out.new.items
+    ensures written { IfOk result (λ _. out.new.items
         ≡ out.old.items ++ pairs_text options.now to identity.now) }
+    ensures begun { OnErr result (BeginsWith out.new.items out.old.items) }
 {
     match to {
         PairsForm::Raw => append_raw(out, set.ais(), identity),
@@ -106,9 +110,10 @@ pub(crate) fn append_spelling(
 ) -> Result<(), Reason>
     requires options { AreInOrder options.now }
     requires with_table { IsMadeWith set.now.ais identity }
-    ensures { UnlessMemory result (AppendsText
+    ensures written { UnlessMemory result (AppendsText
         (IsSpelling set.now prefixes.now options.now to (identity_meaning identity.entry))
         out.old.items out.new.items result) }
+    ensures begun { OnErr result (BeginsWith out.new.items out.old.items) }
 {
     match written_as(to) {
         Written::Epc(level) => {

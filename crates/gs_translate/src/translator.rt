@@ -1,4 +1,5 @@
-ghost use Rattle.std.specs.Prelude.{◌≡◌, [], IfOk, find};
+ghost use Rattle.std.specs.Prelude.{◌≡◌, [], IfOk, OnErr, find};
+ghost use Rattle.gs_chars.specs.Answers.{BeginsWith};
 ghost use Rattle.gs_translate.specs.Steps.{AppendsText, UnlessMemory};
 ghost use Rattle.gs_translate.specs.Meanings.{identity_meaning};
 ghost use Rattle.gs_translate.specs.Recodings.{pairs_target};
@@ -60,10 +61,11 @@ fn new_text(alloc: Global) -> Result<Vec<u8>, Memory>
 
 impl Translator<'_> {
     /// Appends the translation of a text, or gives why it is rejected, as `translate` says. After a rejection `out` is unchanged;
-    /// after out of memory it may have a part of the translation more.
+    /// after out of memory it begins with its old contents.
     pub fn append(&self, alloc: Global, text: &[u8], out: &mut Vec<u8>) -> Result<(), Reason>
-        ensures { UnlessMemory result (AppendsText
+        ensures written { UnlessMemory result (AppendsText
             (IsTranslated self.now text.now) out.old.items out.new.items result) }
+        ensures begun { OnErr result (BeginsWith out.new.items out.old.items) }
     {
         match read_as(self.from) {
             Written::Epc(from) => {
@@ -82,8 +84,9 @@ impl Translator<'_> {
         out: &mut Vec<u8>,
     ) -> Result<(), Reason>
         requires { self.now.from ≡ form_of (pairs_target from) }
-        ensures { UnlessMemory result (AppendsText
+        ensures written { UnlessMemory result (AppendsText
             (IsTranslated self.now text.now) out.old.items out.new.items result) }
+        ensures begun { OnErr result (BeginsWith out.new.items out.old.items) }
     {
         // only for the proof: the rows satisfy the rules of tables
         let _ = self.set.ais();

@@ -1,32 +1,36 @@
-ghost use Rattle.std.specs.Prelude.{◌≡◌, ◌∷◌, ◌++◌, OnOk, decimal};
+ghost use Rattle.std.specs.Prelude.{◌≡◌, ◌∷◌, ◌++◌, OnErr, OnOk, decimal};
+ghost use Rattle.gs_chars.specs.Answers.{BeginsWith};
 ghost use Rattle.gs_translate.specs.Reasons.{numbered};
 
 use gs_chars::Memory;
 use std::alloc::Global;
 
-/// Appends a word.
+/// Appends a word. Fails only with `Memory`; `out` then begins with its old contents.
 pub fn append_word(out: &mut Vec<u8>, word: &[u8]) -> Result<(), Memory>
-    ensures { OnOk result (out.new.items ≡ out.old.items ++ word.now) }
+    ensures written { OnOk result (out.new.items ≡ out.old.items ++ word.now) }
+    ensures begun { OnErr result (BeginsWith out.new.items out.old.items) }
 {
     Ok(out.extend_from_slice(word)?)
 }
 
-/// Appends a blank and a number in decimal.
+/// Appends a blank and a number in decimal. Fails as `append_word` does.
 pub fn append_number(alloc: Global, out: &mut Vec<u8>, number: usize) -> Result<(), Memory>
-    ensures { OnOk result (out.new.items ≡ out.old.items ++ 32 ∷ decimal number) }
+    ensures written { OnOk result (out.new.items ≡ out.old.items ++ 32 ∷ decimal number) }
+    ensures begun { OnErr result (BeginsWith out.new.items out.old.items) }
 {
     let text = format!(in alloc; " {number}")?;
     append_word(out, text.as_bytes())
 }
 
-/// Appends a word, a blank and a number in decimal.
+/// Appends a word, a blank and a number in decimal. Fails as `append_word` does.
 pub fn append_numbered(
     alloc: Global,
     out: &mut Vec<u8>,
     word: &[u8],
     number: usize,
 ) -> Result<(), Memory>
-    ensures { OnOk result (out.new.items ≡ out.old.items ++ numbered word.now number) }
+    ensures written { OnOk result (out.new.items ≡ out.old.items ++ numbered word.now number) }
+    ensures begun { OnErr result (BeginsWith out.new.items out.old.items) }
 {
     append_word(out, word)?;
     append_number(alloc, out, number)

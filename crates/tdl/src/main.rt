@@ -2,16 +2,35 @@
 //! as its number. It answers `--help` and `--version`, and writes a line to standard error if something failed.
 #![tactic(auto)]
 
+ghost use Rattle.std.specs.Prelude.{◌≡◌, ◌≢◌};
+
+mod help;
 mod messages;
+mod text;
 
 use gs_port::{Whole, write_whole};
 use gs_port_system::{HostFiles, StdinSource, StdoutSink, TcpDoor};
+use help::pieces_of;
 use messages::{say_file, say_kind, say_place, say_reason, say_wrong};
+use std::io::ErrorKind;
 use std::process::ExitCode;
 use std::{env, io};
-use tdl_arguments::read_arguments;
-use tdl_help::{asked_text, status_without_arguments, wrong_argument};
+use tdl_arguments::{asked_page, read_arguments};
 use tdl_run::{Status, run, without_program_name};
+
+/// The status if the arguments cannot be read.
+const UNREADABLE: u8 = 8;
+
+/// Returns the status of a process whose arguments cannot be read: 9 if memory ran out, otherwise 8.
+fn status_without_arguments(kind: ErrorKind) -> u8
+    ensures memory { kind ≡ ErrorKind.OutOfMemory → result ≡ 9 }
+    ensures other { kind ≢ ErrorKind.OutOfMemory → result ≡ 8 }
+{
+    if kind == ErrorKind::OutOfMemory {
+        return Status::Memory.number();
+    }
+    UNREADABLE
+}
 
 /// Returns the name that the program was called by, and the arguments after it.
 fn all_arguments(rt: &HostRuntime) -> io::Result<Vec<String>> {
@@ -52,12 +71,16 @@ fn run_over_system(rt: HostRuntime, arguments: &[String]) -> Status {
         &mut door,
     );
     match status {
-        Status::Usage => say_wrong(rt, arguments, wrong_argument(arguments)),
+        Status::Usage => {
+            if let Err(wrong) = read_arguments(arguments) {
+                say_wrong(rt, arguments, wrong);
+            }
+        }
         Status::ReadFault => {
             if let Some(error) = files.first_error() {
                 say_file(rt, files.last_name(), error);
             } else if let Some(error) = door.first_error() {
-                say_place(rt, read_arguments(arguments), error);
+                say_place(rt, read_arguments(arguments).ok(), error);
             } else {
                 say_kind(rt, status, input.first_error());
             }
@@ -77,8 +100,8 @@ fn main(rt: HostRuntime) -> ExitCode {
         }
     };
     let arguments = without_program_name(words.as_slice());
-    let status = match asked_text(arguments) {
-        Some(pieces) => print_text(rt, pieces),
+    let status = match asked_page(arguments) {
+        Some(page) => print_text(rt, pieces_of(page)),
         None => run_over_system(rt, arguments),
     };
     status.exit_code()

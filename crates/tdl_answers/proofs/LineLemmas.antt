@@ -5,6 +5,7 @@ use Rattle.std.specs.Prelude.{Result, Ok, Err, IfOk, codes}
 use Rattle.tdl_messages.specs.AnswerLines.{AddsLine, HasMemory, IsLineOf, line_of}
 use Rattle.tdl_lines.specs.Outputs.{AddsAnswer, accepted, printed, rejected}
 use Rattle.tdl_lines.specs.OutputsSupport.{HasAnswers, HasOneAnswer}
+use Rattle.gs_chars.specs.Answers.{BeginsWith}
 use Rattle.gs_tables.specs.Judgements.{IsLoaded}
 use Rattle.gs_translate.specs.declared.reason.Reason.{Reason}
 use Rattle.gs_translate.specs.declared.reason.Reason.TheVariants.{Memory}
@@ -73,6 +74,13 @@ adds_rejected t text before marked written cut now size reason len mark given ba
       written = line ∙ ap (λ (b : List ℕ). b ++ printed (rejected (reason_text reason))) whole;
       known = refl;
     }
+
+-- after out of memory while the reason was appended, the text begins with its old contents
+pub begins_cut : (before marked written cut now : List ℕ) (size : ℕ) → size ≡ length before → marked ≡ before ++ codes "ok "
+    → BeginsWith written marked → cut ≡ take size written → BeginsWith now cut → BeginsWith now before
+begins_cut before marked written cut now size len mark front back more =
+    let whole : cut ≡ before = back ∙ ap (take size) (front.1 ∙ ap (λ (b : List ℕ). b ++ front.0) mark ∙ append_assoc before (codes "ok ") front.0) ∙ rw len (take-append_seam before (codes "ok " ++ front.0)) in
+    (more.0, more.1 ∙ ap (λ (b : List ℕ). b ++ more.0) whole)
 
 pub one_translated : (t : Translating) → IsLoaded t.set → HasOneAnswer (IsTranslatedLine t)
 one_translated t loaded = one_line reason_text (IsTranslated t)

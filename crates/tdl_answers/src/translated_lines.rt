@@ -1,9 +1,10 @@
-ghost use Rattle.std.specs.Prelude.{◌≢◌, ◌+◌, ◌<◌, ◌≤◌, ◌^◌};
+ghost use Rattle.std.specs.Prelude.{◌≡◌, ◌≢◌, ◌+◌, ◌<◌, ◌^◌};
 ghost use Rattle.std.specs.Bool.{OnTrue};
-ghost use Rattle.gs_port.specs.Counts.{Rises};
+ghost use Rattle.gs_port.specs.Counts.{count_if};
+ghost use Rattle.gs_port.specs.Outputs.{Writes};
 ghost use Rattle.gs_translate.specs.Translations.{AreInOrder, translating_by};
 ghost use Rattle.tdl_lines.specs.Inputs.{IsAtEnd, TakesAtMost, TakesMoreThan};
-ghost use Rattle.tdl_lines.specs.Outputs.{Appends, WritesAnswers};
+ghost use Rattle.tdl_lines.specs.Outputs.{WritesAnswers};
 ghost use Rattle.tdl_lines.specs.Statuses.{is_answered, is_status};
 ghost use Rattle.tdl_answers.specs.TranslatedAnswers.{IsTranslatedLine};
 ghost use Rattle.tdl_answers.specs.LongLines.{long_translated};
@@ -71,26 +72,22 @@ pub fn answer_lines<S: Source, K: Sink>(
     requires options { AreInOrder options.now }
     requires limit { limit < 2 ^ 63 }
 
-    // The written bytes: all answers with their status if no count rose, or those before an error.
-    ensures written { Appends (K.held output.old) (K.held output.new) (λ out.
+    // The output: all answers with their status, whatever count rose, or those before an error.
+    ensures written { Writes (is_status result Status.WriteFault) (K.state output.old) (K.state output.new) (λ out.
         WritesAnswers (IsTranslatedLine (translating_by set.now prefixes.now options.now from to)) limit
-        (S.left input.old) (S.left input.new) out result) }
+        (S.state input.old).left (S.state input.new).left out result) }
     ensures no_usage { result ≢ Status.Usage }
     ensures no_rejection { result ≢ Status.Refused }
 
     // The bytes taken.
-    ensures read_to_end { OnTrue (is_answered result) (IsAtEnd (S.left input.new)) }
+    ensures read_to_end { OnTrue (is_answered result) (IsAtEnd (S.state input.new).left) }
     ensures input_long { OnTrue (is_status result Status.InputLong)
-        (TakesMoreThan limit (S.left input.old) (S.left input.new)) }
-    ensures few { TakesAtMost (limit + 1) (S.left input.old) (S.left input.new) }
+        (TakesMoreThan limit (S.state input.old).left (S.state input.new).left) }
+    ensures few { TakesAtMost (limit + 1) (S.state input.old).left (S.state input.new).left }
 
-    // Each error.
-    ensures read_error { OnTrue (is_status result Status.ReadFault)
-        (Rises (S.errors input.old) (S.errors input.new)) }
-    ensures write_error { OnTrue (is_status result Status.WriteFault)
-        (Rises (K.errors output.old) (K.errors output.new)) }
-    ensures input_counts { S.errors input.old ≤ S.errors input.new }
-    ensures output_counts { K.errors output.old ≤ K.errors output.new }
+    // The input counts an error exactly with `ReadFault`, as the output does with `WriteFault`.
+    ensures count { (S.state input.new).errors
+        ≡ count_if (is_status result Status.ReadFault) (S.state input.old).errors }
 {
     let translator = Translator {
         set,

@@ -5,3 +5,5 @@ pub mod PairLemmas
 pub mod RequestLemmas
 pub mod ValueLemmas
 pub mod DecidedWords
+pub mod WrongLemmas
+pub mod PageLemmas

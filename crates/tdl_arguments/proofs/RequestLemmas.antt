@@ -18,6 +18,7 @@ use Rattle.tdl_arguments.specs.CommandReads.{behind_name, canon_of, command_of, 
 use Rattle.tdl_arguments.specs.Commands.{command_name, command_words, form_word, operands_in_range, operands_of, target_word}
 use Rattle.tdl_arguments.specs.Requests.{Asked, Asks, NotInOrder, WordsInOrder, asked_of}
 use Rattle.tdl_arguments.specs.Ranges.{lines_of, most_lines}
+use Rattle.tdl_arguments.specs.Wrongs.{BeginWith}
 use Rattle.tdl_arguments.proofs.NumeralLemmas.{number_read, number_spelled}
 use Rattle.tdl_arguments.proofs.PairLemmas.{same_pairs}
 
@@ -73,10 +74,6 @@ command_read (Gen lines) behind fits =
     let few : lines ≤ most_lines = leb-true lines most_lines fits in
     rw (number_read 0 most_lines lines (omega arith) (omega arith) few) refl
 
--- the arguments are those of a command whose operands are in range, and the rest
-abbrev AreOf : List (List ℕ) → Parts → Type 0
-AreOf words parts = (words ≡ command_words parts.0 ++ parts.1) × (operands_in_range parts.0 ≡ true)
-
 -- words before arguments, and the rest
 stands_split : (front words : List (List ℕ)) → stands_before front words ≡ true → words ≡ front ++ drop (length front) words
 stands_split [] words e = refl
@@ -105,14 +102,14 @@ no_word [] e = refl
 no_word (word ∷ words) e = absurd (let f : false ≡ true = e in cc)
 
 -- a command without operands
-plain_spelled : (words : List (List ℕ)) (parts : Parts) → plain_of words ≡ Some parts → AreOf words parts
+plain_spelled : (words : List (List ℕ)) (parts : Parts) → plain_of words ≡ Some parts → BeginWith words parts
 plain_spelled words parts e =
     let m = mapped_some (behind_name words) (plain_command words) parts e in
     let stands = found_passes (λ (command : Command). stands_before (command_name command) words) plain_commands m.0 m.1 in
     let split = stands_split (command_name m.0) words stands in
     let plain = and_parts _ _ (found_has (λ (command : Command). stands_before (command_name command) words) (λ command. is_empty (operands_of command) && operands_in_range command) plain_commands m.0 refl m.1) in
-    let of_found : AreOf words (behind_name words m.0) = rw (no_word (operands_of m.0) plain.0, append-nil (command_name m.0)) (split, plain.1) in
-    subst (λ (p : Parts). AreOf words p) m.2 of_found
+    let of_found : BeginWith words (behind_name words m.0) = rw (no_word (operands_of m.0) plain.0, append-nil (command_name m.0)) (split, plain.1) in
+    subst (λ (p : Parts). BeginWith words p) m.2 of_found
 
 -- words with which arguments begin are at most as many as these
 stands_length : (front words : List (List ℕ)) → stands_before front words ≡ true → length front ≤ length words
@@ -132,21 +129,21 @@ plain_count front words count found command is was same counted =
     let fronts : length front ≡ length (command_name command) = sym (length-map front (λ (word : Bor (List ℕ)). word.now)) ∙ ap length same in
     omega (arith, fewer, fronts, counted)
 
-canon_spelled : (words : List (List ℕ)) (parts : Parts) → canon_of words ≡ Some parts → AreOf (codes "canon" ∷ words) parts
+canon_spelled : (words : List (List ℕ)) (parts : Parts) → canon_of words ≡ Some parts → BeginWith (codes "canon" ∷ words) parts
 canon_spelled [] parts e = absurd (let f : None ≡ Some parts = e in cc)
 canon_spelled (word ∷ words) parts e =
     let m = mapped_some (λ (f : Form). let p : Parts = (Canon f, words) in p) (form_named word) parts e in
     let made : Parts = (Canon m.0, words) in
-    let of_made : AreOf (codes "canon" ∷ word ∷ words) made = (ap (λ (w : List ℕ). codes "canon" ∷ w ∷ words) (form_spelled word m.0 m.1), refl) in
-    subst (λ (p : Parts). AreOf (codes "canon" ∷ word ∷ words) p) m.2 of_made
+    let of_made : BeginWith (codes "canon" ∷ word ∷ words) made = (ap (λ (w : List ℕ). codes "canon" ∷ w ∷ words) (form_spelled word m.0 m.1), refl) in
+    subst (λ (p : Parts). BeginWith (codes "canon" ∷ word ∷ words) p) m.2 of_made
 
-translation_spelled : (words : List (List ℕ)) (parts : Parts) → translation_of words ≡ Some parts → AreOf (codes "translate" ∷ words) parts
+translation_spelled : (words : List (List ℕ)) (parts : Parts) → translation_of words ≡ Some parts → BeginWith (codes "translate" ∷ words) parts
 translation_spelled [] parts e = absurd (let f : None ≡ Some parts = e in cc)
 translation_spelled (word ∷ []) parts e = absurd (let f : None ≡ Some parts = e in cc)
 translation_spelled (from ∷ to ∷ words) parts e = by (form_named from) refl (target_named to) refl e
   where
     by : (o : Option Form) → form_named from ≡ o → (p : Option Target) → target_named to ≡ p → option_and_then
-        (λ (f : Form). option_map (λ (t : Target). let p : Parts = (Translate f t, words) in p) p) o ≡ Some parts → AreOf
+        (λ (f : Form). option_map (λ (t : Target). let p : Parts = (Translate f t, words) in p) p) o ≡ Some parts → BeginWith
         (codes "translate" ∷ from ∷ to ∷ words) parts
     by None n p m f = absurd (let g : None ≡ Some parts = f in cc)
     by (Some form) n None m f = absurd (let g : None ≡ Some parts = f in cc)
@@ -154,23 +151,23 @@ translation_spelled (from ∷ to ∷ words) parts e = by (form_named from) refl 
         let same = same_parts (Translate form target, words) parts f in
         rw (← same, form_spelled from form n, target_spelled to target m) (refl, refl)
 
-gen_spelled : (words : List (List ℕ)) (parts : Parts) → gen_of words ≡ Some parts → AreOf (codes "gen" ∷ words) parts
+gen_spelled : (words : List (List ℕ)) (parts : Parts) → gen_of words ≡ Some parts → BeginWith (codes "gen" ∷ words) parts
 gen_spelled [] parts e = absurd (let f : None ≡ Some parts = e in cc)
 gen_spelled (word ∷ words) parts e =
     let m = mapped_some (λ (n : ℕ). let p : Parts = (Gen n, words) in p) (lines_of word) parts e in
     let spelled = number_spelled 0 most_lines word m.0 (omega arith) m.1 in
     let few : m.0 ≤ most_lines = spelled.0 in
     let made : Parts = (Gen m.0, words) in
-    let of_made : AreOf (codes "gen" ∷ word ∷ words) made = (ap (λ (w : List ℕ). codes "gen" ∷ w ∷ words) spelled.1, le-leb m.0 most_lines few) in
-    subst (λ (p : Parts). AreOf (codes "gen" ∷ word ∷ words) p) m.2 of_made
+    let of_made : BeginWith (codes "gen" ∷ word ∷ words) made = (ap (λ (w : List ℕ). codes "gen" ∷ w ∷ words) spelled.1, le-leb m.0 most_lines few) in
+    subst (λ (p : Parts). BeginWith (codes "gen" ∷ word ∷ words) p) m.2 of_made
 
-operated_spelled : (words : List (List ℕ)) (parts : Parts) → operated_of words ≡ Some parts → AreOf words parts
+operated_spelled : (words : List (List ℕ)) (parts : Parts) → operated_of words ≡ Some parts → BeginWith words parts
 operated_spelled [] parts e = absurd (let f : None ≡ Some parts = e in cc)
-operated_spelled (word ∷ words) parts e = elim (true_or_false (bytes_eq word (codes "canon"))) as (λ _. AreOf (word ∷ words) parts) [
+operated_spelled (word ∷ words) parts e = elim (true_or_false (bytes_eq word (codes "canon"))) as (λ _. BeginWith (word ∷ words) parts) [
   | inl is ↦ rw (equal_bytes word (codes "canon") is) (canon_spelled words parts (rw is at e))
-  | inr canon ↦ elim (true_or_false (bytes_eq word (codes "translate"))) as (λ _. AreOf (word ∷ words) parts) [
+  | inr canon ↦ elim (true_or_false (bytes_eq word (codes "translate"))) as (λ _. BeginWith (word ∷ words) parts) [
     | inl is ↦ rw (equal_bytes word (codes "translate") is) (translation_spelled words parts (rw (canon, is) at e))
-    | inr translate ↦ elim (true_or_false (bytes_eq word (codes "gen"))) as (λ _. AreOf (word ∷ words) parts) [
+    | inr translate ↦ elim (true_or_false (bytes_eq word (codes "gen"))) as (λ _. BeginWith (word ∷ words) parts) [
       | inl is ↦ rw (equal_bytes word (codes "gen") is) (gen_spelled words parts (rw (canon, translate, is) at e))
       | inr gen ↦ absurd (let f : None ≡ Some parts = rw (canon, translate, gen) at e in cc)
     ]
@@ -178,10 +175,10 @@ operated_spelled (word ∷ words) parts e = elim (true_or_false (bytes_eq word (
 ]
 
 -- arguments that are read as a command are its arguments
-command_spelled : (words : List (List ℕ)) (parts : Parts) → command_of words ≡ Some parts → AreOf words parts
+pub command_spelled : (words : List (List ℕ)) (parts : Parts) → command_of words ≡ Some parts → BeginWith words parts
 command_spelled words parts e = by (plain_of words) refl e
   where
-    by : (o : Option Parts) → plain_of words ≡ o → or_else o (operated_of words) ≡ Some parts → AreOf words parts
+    by : (o : Option Parts) → plain_of words ≡ o → or_else o (operated_of words) ≡ Some parts → BeginWith words parts
     by None m f = operated_spelled words parts f
     by (Some found) m f = plain_spelled words parts (m ∙ f)
 
@@ -195,10 +192,13 @@ asks_of words parts asked e o =
     let same = same_parts parts (o.command, o.behind) (sym e ∙ ap command_of o.spelled ∙ command_read o.command o.behind o.in_range) in
     rw same o.asks
 
+-- arguments that are read as no command begin with none
+pub no_command : (words : List (List ℕ)) → command_of words ≡ None → (parts : Parts) → BeginWith words parts → ⊥
+no_command words e parts b =
+    let f : None ≡ Some parts = sym e ∙ ap command_of b.0 ∙ command_read parts.0 parts.1 b.1 in cc
+
 pub not_in_order : (words : List (List ℕ)) → command_of words ≡ None → NotInOrder words
-not_in_order words e asked o =
-    let parts : Parts = (o.command, o.behind) in
-    let f : None ≡ Some parts = sym e ∙ ap command_of o.spelled ∙ command_read o.command o.behind o.in_range in cc
+not_in_order words e asked o = no_command words e (o.command, o.behind) (o.spelled, o.in_range)
 
 -- ---- one request
 

@@ -1,7 +1,7 @@
 -- Values that are named are in range.
 use Rattle.std.proofs.Common.{◌≡◌, ℕ, ◌≤◌, ◌&&◌, ◌||◌, Bool, true, false, List, [], ◌∷◌, Option, None, Some, refl, sym, ◌∙◌, ap, inl, inr}
 use Rattle.std.specs.List.{list_any}
-use Rattle.std.specs.Prelude.{IfSome, bytes_eq, find, if◌then◌else◌, is_some, nat_le, not, option_and_then, option_to_list, unwrap_or}
+use Rattle.std.specs.Prelude.{IfSome, bytes_eq, if◌then◌else◌, is_some, nat_le, not, option_and_then, option_to_list, unwrap_or}
 use Rattle.std.proofs.lemmas.Bool.{leb-true, and_parts}
 use Rattle.gs_chars.proofs.TruthsAndLists.{equal_bytes, true_or_false}
 use Rattle.gs_dlink.specs.Stems.{stem_ok}
@@ -14,20 +14,13 @@ use Rattle.tdl_arguments.specs.declared.name.Name.TheVariants.{Tables, Prefixes,
 use Rattle.tdl_arguments.specs.declared.name.NameRow.{NameRow}
 use Rattle.tdl_arguments.specs.declared.command.Command.TheVariants.{Migrate}
 use Rattle.tdl_arguments.specs.Commands.{names_of}
-use Rattle.tdl_arguments.specs.Names.{AreTaken, has_required, in_range, is_given, look_up, name_takes, name_word, none_taken, one_taken, row_takes, takes}
+use Rattle.tdl_arguments.specs.Names.{AreTaken, has_required, in_range, is_given, look_up, name_named, name_takes, name_word, none_taken, one_taken, row_takes, takes}
 use Rattle.tdl_arguments.specs.Ranges.{filter_of, is_numeral, is_vocabulary}
 use Rattle.tdl_arguments.specs.Requests.{Asked, WordsInOrder, default_voc, options_of}
 
 -- ---- names by their words
 
-names : List Name
-names = Tables ∷ Prefixes ∷ Links ∷ LinkText ∷ Second ∷ Third ∷ Describe ∷ Classes ∷ Voc ∷ Templates ∷ Listen ∷ Count ∷ Filter ∷ Gcp ∷ Encoding ∷ KeysOnly ∷ Stem ∷ []
-
-abbrev name_of : List ℕ → Option Name
-name_of word = find (λ (name : Name). bytes_eq word (name_word name)) names
-
-name_read : (name : Name) → name_of (name_word name) ≡ Some name
-unfolding names
+name_read : (name : Name) → name_named (name_word name) ≡ Some name
 name_read Tables = refl
 name_read Prefixes = refl
 name_read Links = refl
@@ -47,7 +40,7 @@ name_read KeysOnly = refl
 name_read Stem = refl
 
 same_name : (one other : Name) → name_word one ≡ name_word other → one ≡ other
-same_name one other e = let f : Some one ≡ Some other = sym (name_read one) ∙ ap name_of e ∙ name_read other in cc
+same_name one other e = let f : Some one ≡ Some other = sym (name_read one) ∙ ap name_named e ∙ name_read other in cc
 
 -- ---- values that are taken
 

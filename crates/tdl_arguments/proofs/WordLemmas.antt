@@ -26,6 +26,25 @@ first_words bytes (x ∷ y ∷ words) first second a b n e f p q =
     let whole : take (length words) words ≡ words = take_all (length words) words (omega arith) in
     rw (one, two, count, whole) refl
 
+-- the only argument
+pub only_word : {S : Type 0} (bytes : S → List ℕ) (words : List S) (first : S) (a : List ℕ) → length words ≡ 1
+    → first ≡ get_or words 0 first → bytes first ≡ a → map bytes words ≡ a ∷ []
+only_word bytes [] first a n e p = absurd (omega arith)
+only_word bytes (x ∷ []) first a n e p = let one : bytes x ≡ a = cc in rw one refl
+only_word bytes (x ∷ y ∷ words) first a n e p = absurd (omega arith)
+
+-- the only two arguments
+pub only_words : {S : Type 0} (bytes : S → List ℕ) (words : List S) (first second : S) (a b : List ℕ) → length words ≡ 2
+    → first ≡ get_or words 0 first → second ≡ get_or words 1 second → bytes first ≡ a → bytes second ≡ b
+    → map bytes words ≡ a ∷ b ∷ []
+only_words bytes [] first second a b n e f p q = absurd (omega arith)
+only_words bytes (x ∷ []) first second a b n e f p q = absurd (omega arith)
+only_words bytes (x ∷ y ∷ []) first second a b n e f p q =
+    let one : bytes x ≡ a = cc in
+    let two : bytes y ≡ b = cc in
+    rw (one, two) refl
+only_words bytes (x ∷ y ∷ z ∷ words) first second a b n e f p q = absurd (omega arith)
+
 -- a fact about no result, and one about a result, follow from others
 pub if_none_map : {X A B : Type 0} (o : Option X) → (A → B) → IfNone o A → IfNone o B
 if_none_map None f a = f a

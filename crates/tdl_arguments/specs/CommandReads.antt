@@ -11,7 +11,7 @@ use Rattle.tdl_arguments.specs.declared.arguments.Split.{Split}
 use Rattle.tdl_arguments.specs.Commands.{command_name, form_word, target_word}
 use Rattle.tdl_arguments.specs.Ranges.{lines_of}
 
--- the forms that texts are read in
+-- trusted, own: the forms that texts are read in
 abbrev pub forms : List Form
 forms = form.Hex ∷ form.Tag ∷ form.Pure ∷ form.Raw ∷ form.Bracketed ∷ form.Link ∷ []
 
@@ -19,7 +19,7 @@ forms = form.Hex ∷ form.Tag ∷ form.Pure ∷ form.Raw ∷ form.Bracketed ∷ 
 abbrev pub targets : List Target
 targets = target.Hex ∷ target.Tag ∷ target.Pure ∷ target.Raw ∷ target.Bracketed ∷ target.Link ∷ target.Canon ∷ []
 
--- the form that has the word
+-- trusted, own: the form that has the word
 abbrev pub form_named : List ℕ → Option Form
 form_named word = find (λ form. bytes_eq word (form_word form)) forms
 

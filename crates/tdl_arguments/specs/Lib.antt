@@ -3,4 +3,6 @@ pub mod Names
 pub mod Commands
 pub mod CommandReads
 pub mod Requests
+pub mod Wrongs
+pub mod Pages
 pub mod RequestsSupport

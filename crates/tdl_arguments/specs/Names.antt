@@ -32,6 +32,14 @@ name_word Encoding = codes "--encoding"
 name_word KeysOnly = codes "--keys-only"
 name_word Stem = codes "--stem"
 
+-- trusted, own: all names
+abbrev pub names : List Name
+names = Tables ∷ Prefixes ∷ Links ∷ LinkText ∷ Second ∷ Third ∷ Describe ∷ Classes ∷ Voc ∷ Templates ∷ Listen ∷ Count ∷ Filter ∷ Gcp ∷ Encoding ∷ KeysOnly ∷ Stem ∷ []
+
+-- trusted, own: the name that has the word
+abbrev pub name_named : List ℕ → Option Name
+name_named word = find (λ (name : Name). bytes_eq word (name_word name)) names
+
 -- trusted, own: holds if `value` is `yes` or `no`
 abbrev pub is_yes_or_no : List ℕ → Bool
 is_yes_or_no value = bytes_eq value (codes "yes") || bytes_eq value (codes "no")

@@ -1,13 +1,15 @@
-ghost use Rattle.std.specs.Prelude.{◌≡◌, ◌∷◌, IfSome, IfNone, Some, map, string_bytes};
+ghost use Rattle.std.specs.Prelude.{◌≡◌, ◌∷◌, IfErr, IfNone, IfOk, IfSome, OnErr, Some, map, string_bytes};
 ghost use Rattle.tdl_arguments.specs.CommandReads.{canon_of, command_by, command_of, form_named, gen_of, known_front, known_split, operated_of, plain_command, plain_of, stands_before, target_named, translation_of};
 ghost use Rattle.tdl_arguments.specs.Commands.{form_word, target_word};
 ghost use Rattle.tdl_arguments.specs.Requests.{Asks, NotInOrder, WordsInOrder, known_request, known_values, known_words, may_have};
 ghost use Rattle.tdl_arguments.specs.RequestsSupport.{AsksNothing};
+ghost use Rattle.tdl_arguments.specs.Wrongs.{IsWrong};
 
 use crate::command::Command;
 use crate::pairs::{are_of_rows, has_required};
 use crate::request::{NamedValues, Request};
 use crate::value_reader::{lines_of, named_files, named_values};
+use crate::wrong::{Wrong, wrong_command, wrong_options};
 use gs_links::keeps_names;
 use gs_translate::{Form, Target};
 
@@ -50,7 +52,7 @@ fn target_word(target: Target) -> &'static str
 }
 
 /// Returns the form of a word.
-fn form_named(word: &str) -> Option<Form>
+pub(crate) fn form_named(word: &str) -> Option<Form>
     ensures { result ≡ form_named word.now }
 {
     [
@@ -263,12 +265,22 @@ fn request_of(command: Command, words: &[String]) -> Option<Request<'_>>
     })
 }
 
-/// Returns the request that the arguments spell. `None` is returned if and only if they are not valid.
-pub fn read_arguments(words: &[String]) -> Option<Request<'_>>
-    ensures request { IfSome result (λ request.
+/// Returns the request that the arguments spell. If and only if they are not valid, returns which of them is wrong, and why.
+pub fn read_arguments(words: &[String]) -> Result<Request<'_>, Wrong>
+    ensures request { IfOk result (λ request.
         WordsInOrder (known_words words.now) (known_request request)) }
-    ensures none { IfNone result (NotInOrder (known_words words.now)) }
+    ensures none { OnErr result (NotInOrder (known_words words.now)) }
+    ensures wrong { IfErr result (λ wrong. IsWrong (known_words words.now) wrong) }
 {
-    let split = command_of(words)?;
-    request_of(split.command, split.behind)
+    let Some(split) = command_of(words) else {
+        return Err(wrong_command(words));
+    };
+    match request_of(split.command, split.behind) {
+        Some(request) => Ok(request),
+        None => Err(wrong_options(
+            split.command.names(),
+            split.behind,
+            words.len() - split.behind.len(),
+        )),
+    }
 }

@@ -1,7 +1,8 @@
-//! The arguments of the command line: the request that they make, or that they are not valid.
+//! The arguments of the command line: the request that they make, or which of them is wrong, and why.
 //!
 //! - `read_arguments` gives the request of arguments: a command with its operands, the files that they name, and their values, each in range.
-//!   `without_program_name` gives the arguments of a process without the program's name.
+//!   Otherwise it gives the first wrong argument, and the reason.
+//! - `asked_page` gives the text that `--help`, `--version`, or a command and `--help` ask for. `without_program_name` gives the arguments of a process without the program's name.
 //!
 //! # Example
 //!
@@ -22,12 +23,16 @@
 mod arguments;
 mod command;
 mod name;
+mod pages;
 mod pairs;
 mod request;
 mod value_reader;
+mod wrong;
 
 pub use arguments::read_arguments;
 pub use command::Command;
 pub use name::{Name, NameRow};
+pub use pages::{Page, asked_page};
 pub use pairs::without_program_name;
 pub use request::{LinksFile, NamedFiles, NamedValues, Request};
+pub use wrong::{Why, Wrong};

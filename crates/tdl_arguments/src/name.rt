@@ -1,5 +1,5 @@
 ghost use Rattle.std.specs.Prelude.{◌≡◌};
-ghost use Rattle.tdl_arguments.specs.Names.{in_range, name_takes, name_word, row_takes};
+ghost use Rattle.tdl_arguments.specs.Names.{in_range, name_named, name_takes, name_word, row_takes};
 
 use crate::value_reader::{count_of, filter_of, gcp_of, is_vocabulary};
 use gs_dlink::stem_ok;
@@ -88,6 +88,34 @@ impl Name {
 }
 
 impl Name {
+    /// Returns the name of a word.
+    pub(crate) fn named(word: &str) -> Option<Name>
+        ensures { result ≡ name_named word.now }
+    {
+        [
+            Name::Tables,
+            Name::Prefixes,
+            Name::Links,
+            Name::LinkText,
+            Name::Second,
+            Name::Third,
+            Name::Describe,
+            Name::Classes,
+            Name::Voc,
+            Name::Templates,
+            Name::Listen,
+            Name::Count,
+            Name::Filter,
+            Name::Gcp,
+            Name::Encoding,
+            Name::KeysOnly,
+            Name::Stem,
+        ]
+        .iter()
+        .find(|name| word == name.word())
+        .copied()
+    }
+
     /// Returns whether the word is that of the name, and the name may have the value.
     pub fn takes(self, word: &str, value: &str) -> bool
         ensures { result ≡ name_takes self word.now value.now }

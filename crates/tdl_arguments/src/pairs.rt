@@ -27,7 +27,7 @@ fn is_named(words: &[String], name: Name) -> bool
 }
 
 /// Returns whether a name of the row has a value, if the arguments are pairs.
-fn is_given(words: &[String], row: NameRow) -> bool
+pub(crate) fn is_given(words: &[String], row: NameRow) -> bool
     ensures { OfPairs (known_words words.now) (λ pairs. result ≡ is_given pairs row) }
 {
     match row.instead {

@@ -1,9 +1,11 @@
--- The counts at a moment, and the written line of counts.
-use Rattle.std.specs.Prelude.{ℕ, List, Option}
-use Rattle.tdl_lines.specs.Outputs.{Appends}
+-- The written line of counts.
+use Rattle.std.specs.Prelude.{ℕ, List}
+use Rattle.gs_port.specs.Outputs.{Writes}
+use Rattle.gs_port.specs.States.{SinkState}
 use Rattle.tdl_lines.specs.declared.status.Status.{Status}
-use Rattle.tdl_lines.specs.declared.status.Status.TheVariants.{Done}
+use Rattle.tdl_lines.specs.declared.status.Status.TheVariants.{Done, WriteFault}
 use Rattle.tdl_lines.specs.Printers.{PrintedAs}
+use Rattle.tdl_lines.specs.Statuses.{is_status}
 use Rattle.gs_tables.specs.Tables.{TableRows}
 use Rattle.tdl_gen.specs.Counts.{Generated}
 
@@ -11,6 +13,7 @@ use Rattle.tdl_gen.specs.Counts.{Generated}
 abbrev pub PrintsGenerated : TableRows → ℕ → List ℕ → Status → Type 0
 PrintsGenerated set lines output status = (line : List ℕ) × Generated set lines line × PrintedAs Done line output status
 
--- trusted, own: holds if `now` is `before` and the output of the generator that belongs to the status, or both are unknown
-abbrev pub AppendsGenerated : TableRows → ℕ → Status → Option (List ℕ) → Option (List ℕ) → Type 0
-AppendsGenerated set lines status before now = Appends before now (λ output. PrintsGenerated set lines output status)
+-- trusted, own: holds if the sink gained the output of the generator that belongs to the status, and counted an error if and only
+-- if a write failed
+abbrev pub WritesGenerated : TableRows → ℕ → Status → SinkState → SinkState → Type 0
+WritesGenerated set lines status before now = Writes (is_status status WriteFault) before now (λ output. PrintsGenerated set lines output status)

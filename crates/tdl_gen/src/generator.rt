@@ -1,11 +1,8 @@
-ghost use Rattle.std.specs.Prelude.{◌≡◌, ◌+◌, ◌<◌, ◌^◌, IfOk, string_bytes, ◌≤◌, []};
+ghost use Rattle.std.specs.Prelude.{◌≡◌, ◌+◌, ◌<◌, ◌^◌, IfOk, string_bytes, []};
 ghost use Rattle.tdl_gen.specs.Generator.{generated_line, next_state, sgtin_text};
-ghost use Rattle.std.specs.Bool.{OnTrue};
-ghost use Rattle.tdl_lines.specs.Statuses.{is_status};
-ghost use Rattle.gs_port.specs.Counts.{Rises};
 ghost use Rattle.gs_tables.specs.Judgements.{IsLoaded};
 ghost use Rattle.tdl_gen.specs.Counts.{Generated, IsLineAnswer, IsPlain, filter_one};
-ghost use Rattle.tdl_gen.specs.Counters.{AppendsGenerated};
+ghost use Rattle.tdl_gen.specs.Counters.{WritesGenerated};
 ghost use Rattle.gs_translate.specs.Steps.{UnlessMemory};
 
 use crate::counts::{count_lines, counts_text};
@@ -108,10 +105,7 @@ fn counts_line(alloc: Global, set: &TableSet, lines: u32) -> Result<String, Memo
 /// readings.
 pub fn generate<K: Sink>(alloc: Global, set: &TableSet, lines: u32, output: &mut K) -> Status
     requires loaded { IsLoaded set.now }
-    ensures written { AppendsGenerated set.now lines result (K.held output.old) (K.held output.new) }
-    ensures error { OnTrue (is_status result Status.WriteFault)
-        (Rises (K.errors output.old) (K.errors output.new)) }
-    ensures counts { K.errors output.old ≤ K.errors output.new }
+    ensures { WritesGenerated set.now lines result (K.state output.old) (K.state output.new) }
 {
     match counts_line(alloc, set, lines) {
         Ok(line) => print_line(output, line.as_bytes(), Status::Done),

@@ -120,30 +120,30 @@ classes_kept files asked loaded gives = parts_kept files asked loaded (flat_part
 -- ---- how classes were loaded
 
 -- classes that were judged are loaded, or rejected, or memory ran out
-known_classes : (Give : Result ClassRows Stop → Type 0) (before now : ℕ) (answer : Result ClassRows ClassLoadFault) (result : Result ClassRows Unloaded) (Answer : Result ClassRows ClassLoadFault → Type 0)
+known_classes : (Give : Result ClassRows Stop → Type 0) (errored : Bool) (answer : Result ClassRows ClassLoadFault) (result : Result ClassRows Unloaded) (Answer : Result ClassRows ClassLoadFault → Type 0)
     → OrMemory Answer answer → ClassesUnloadedAs answer result → (Answer answer → Give (of_verdict kind.Classes (classes_verdict answer)))
-    → LoadedBy Give before now result
-known_classes Give before now answer (Ok set) Answer (inl none) u give = absurd (let f : Ok set ≡ Err class.Memory = sym u ∙ none in cc)
-known_classes Give before now answer (Ok set) Answer (inr is) u give = let g = give is in rw u at g
-known_classes Give before now answer (Err unloaded.Memory) Answer o u give = tt
-known_classes Give before now answer (Err unloaded.ReadFault) Answer o u give = absurd u
-known_classes Give before now answer (Err (unloaded.Refused rejection)) Answer (inl none) u give = absurd (u.0 none)
-known_classes Give before now answer (Err (unloaded.Refused rejection)) Answer (inr is) u give = let g = give is in rw u.1 at g
+    → LoadedBy Give errored result
+known_classes Give errored answer (Ok set) Answer (inl none) u give = absurd (let f : Ok set ≡ Err class.Memory = sym u ∙ none in cc)
+known_classes Give errored answer (Ok set) Answer (inr is) u give = let g = give is in rw u at g
+known_classes Give errored answer (Err unloaded.Memory) Answer o u give = tt
+known_classes Give errored answer (Err unloaded.ReadFault) Answer o u give = absurd u
+known_classes Give errored answer (Err (unloaded.Refused rejection)) Answer (inl none) u give = absurd (u.0 none)
+known_classes Give errored answer (Err (unloaded.Refused rejection)) Answer (inr is) u give = let g = give is in rw u.1 at g
 
-pub file_loaded : (files : Option FilesInMemory) (ais : List AiRow) (command : Command) (name bytes : List ℕ) (before now : ℕ) (answer : Result ClassRows ClassLoadFault) (result : Result ClassRows Unloaded)
+pub file_loaded : (files : Option FilesInMemory) (ais : List AiRow) (command : Command) (name bytes : List ℕ) (errored : Bool) (answer : Result ClassRows ClassLoadFault) (result : Result ClassRows Unloaded)
     → IsFile files name bytes → length bytes ≤ file_limit kind.Classes → OrMemory (LoadAnswer ais bytes) answer
-    → ClassesUnloadedAs answer result → LoadedBy (ClassesGive files ais command (Some name)) before now result
-file_loaded files ais command name bytes before now answer result is few load u =
-    known_classes (ClassesGive files ais command (Some name)) before now answer result (LoadAnswer ais bytes) load u
+    → ClassesUnloadedAs answer result → LoadedBy (ClassesGive files ais command (Some name)) errored result
+file_loaded files ais command name bytes errored answer result is few load u =
+    known_classes (ClassesGive files ais command (Some name)) errored answer result (LoadAnswer ais bytes) load u
     (λ a. judged bytes (classes_verdict answer) is few (record { answer = answer; is_answer = a; is = refl }) refl)
 
 pub built_in_loaded : (ais : List AiRow) (command : Command) (answer : Result ClassRows ClassLoadFault) (result : Result ClassRows Unloaded)
     → is_of_classes command ≡ true → OrMemory (BuiltInAnswer ais) answer → ClassesUnloadedAs answer result
     → AreUnnamedClasses ais command result
-built_in_loaded ais command answer result of load u = λ before now. rw of
-    (known_classes (StandsFor kind.Classes (UnnamedClasses ais true)) before now answer result (BuiltInAnswer ais) load u
+built_in_loaded ais command answer result of load u = λ errored. rw of
+    (known_classes (StandsFor kind.Classes (UnnamedClasses ais true)) errored answer result (BuiltInAnswer ais) load u
     (λ a. record { verdict = classes_verdict answer; judged = record { answer = answer; is_answer = a; is = refl }; is = refl }))
 
 pub none_loaded : (ais : List AiRow) (command : Command) (set : ClassRows) → is_of_classes command ≡ false → set ≡ set_of []
     → AreUnnamedClasses ais command (Ok set)
-none_loaded ais command set not none = λ before now. rw not (record { verdict = Ok (set_of []); judged = refl; is = ap Ok none })
+none_loaded ais command set not none = λ errored. rw not (record { verdict = Ok (set_of []); judged = refl; is = ap Ok none })

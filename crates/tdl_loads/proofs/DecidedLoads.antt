@@ -1,12 +1,10 @@
 -- No file is opened after the one at which a load stops.
-use Rattle.std.proofs.Common.{◌≡◌, ◌⊎◌, inl, inr, ℕ, List, ◌++◌, Option, Some, None, option_to_list, refl, ap, ◌∙◌}
-use Rattle.std.specs.Prelude.{Bool, true, false, Result, Ok, Err}
+use Rattle.std.proofs.Common.{◌≡◌, ◌⊎◌, inl, inr, ℕ, List, ◌++◌, Option, Some, None, option_to_list, refl, ap}
+use Rattle.std.specs.Prelude.{Result, Ok, Err}
 use Rattle.gs_ai.specs.declared.row.AiRow.{AiRow}
 use Rattle.gs_http.specs.declared.resolver.Settings.{Settings}
 use Rattle.gs_links.specs.declared.link.Link.{Link}
 use Rattle.gs_linkset.specs.declared.link_types.Context.{Context}
-use Rattle.gs_class.specs.Sets.{ClassRows}
-use Rattle.gs_prefix.specs.declared.entry.PrefixEntry.{PrefixEntry}
 use Rattle.gs_translate.specs.Steps.{Then, goes_on, rejects}
 use Rattle.tdl_messages.specs.declared.file_kind.FileKind.{FileKind}
 use Rattle.tdl_messages.specs.declared.file_kind.FileKind.TheVariants as kind
@@ -16,12 +14,10 @@ use Rattle.tdl_arguments.specs.Requests.{Asked, FileNames, Values, classes_named
 use Rattle.tdl_loads.specs.declared.loads.Linked.{Linked}
 use Rattle.tdl_loads.specs.declared.loads.Tabled.{Tabled}
 use Rattle.tdl_loads.specs.declared.loads.TablesWithSource.{TablesWithSource}
-use Rattle.tdl_loads.specs.declared.loads.Unloaded.{Unloaded}
-use Rattle.tdl_loads.specs.Loads.{FileGives, FilesInMemory, Gives, LinksGive, OpensFirst, OtherGives, PrefixesGive, Stop, TablesGive, absent, is_load_short, judged, kind_of, merging, missing, named_up_to, of_verdict, rejected, too_large}
-use Rattle.tdl_loads.specs.LoadsSupport.{FilesKnown, GivesClasses, GivesLinks, GivesOthers, GivesPrefixes, GivesSettings, GivesThird, LinkedGive, Loads, PartsGive, SettingsGive, StopsOpening, TabledGive, linked_with, links_up_to, others_up_to, rest_up_to, settings_up_to}
-use Rattle.tdl_loads.proofs.LoadLemmas.{AreAlikeAll, given_tables_one, linked_one, links_one, not_alike, other_one, same_given, settings_one, tabled_one}
-use Rattle.tdl_loads.proofs.LoadSteps.{Steps, opens_fewer}
-use Rattle.tdl_loads.proofs.OpenedNames.{opens_anyway, opens_as, opens_both}
+use Rattle.tdl_loads.specs.Loads.{FileGives, FilesInMemory, Gives, LinksGive, OtherGives, Stop, TablesGive, absent, judged, kind_of, merging, missing, named_up_to, of_verdict, rejected, too_large}
+use Rattle.tdl_loads.specs.LoadsSupport.{GivesClasses, GivesLinks, GivesOthers, GivesPrefixes, GivesSettings, GivesThird, LinkedGive, SettingsGive, TabledGive, linked_with, links_up_to, others_up_to, rest_up_to, settings_up_to}
+use Rattle.tdl_loads.proofs.LoadLemmas.{given_tables_one, linked_one, links_one, other_one, settings_one, tabled_one}
+use Rattle.tdl_loads.proofs.LoadSteps.{Row}
 
 -- ---- the kinds of the files at which a load stops
 
@@ -147,212 +143,64 @@ names_after names k (inl (inr (inr (inr e)))) = rw e refl
 names_after names k (inr (inl e)) = rw e refl
 names_after names k (inr (inr e)) = rw e refl
 
--- ---- two loads, one after another
+-- ---- the loads one after another, by the names up to the file of a kind
 
--- a load that stops without a loss of memory stops with any
-pub stops_anyway : {A : Type 0} {Give : Option FilesInMemory → Result A Stop → Type 0} {up_to : FileKind → List (List ℕ)} {before now : FilesKnown} (lost : Bool)
-    → StopsOpening Give up_to false before now → StopsOpening Give up_to lost before now
-stops_anyway {up_to = up_to} {before = before} {now = now} lost d = record { decided = λ known stop is gives. opens_anyway lost (up_to (kind_of stop)) before.opened now.opened (d.decided known stop is gives) }
+-- the tables, and then the prefixes
+pub tabled_row : (names : FileNames)
+    → Row (λ known. TablesGive known names.tables) (λ known. GivesPrefixes known names) (option_to_list names.tables)
+    (λ k. option_to_list names.tables) (λ k. option_to_list names.prefixes) (λ k. named_up_to k names)
+tabled_row names = record {
+  first = λ files stop g. ap (λ k. named_up_to k names) (gives_kind files kind.Tables _ _ names.tables stop g);
+  next = λ files given stop g. ap (λ k. named_up_to k names) (prefixes_kind files names given stop g);
+  alike = λ known. given_tables_one known names.tables;
+}
 
--- the same, if memory that was lost in one place was lost in the other
-pub stops_as : {A : Type 0} {Give : Option FilesInMemory → Result A Stop → Type 0} {up_to : FileKind → List (List ℕ)} {before now : FilesKnown} (lost other : Bool)
-    → (lost ≡ true → other ≡ true) → StopsOpening Give up_to lost before now → StopsOpening Give up_to other before now
-stops_as {up_to = up_to} {before = before} {now = now} lost other also d = record { decided = λ known stop is gives. opens_as lost other (up_to (kind_of stop)) before.opened now.opened also (d.decided known stop is gives) }
+-- the second links, and then the third ones
+pub others_row : (names : FileNames) (ais : List AiRow) (voc : List ℕ) (links : List Link)
+    → Row (λ known. OtherGives known kind.Second ais voc names.second) (λ known. GivesThird known names ais voc links) (option_to_list names.second)
+    (λ k. option_to_list names.second) (λ k. option_to_list names.third) (λ k. others_up_to k names)
+others_row names ais voc links = record {
+  first = λ files stop g. ap (λ k. others_up_to k names) (gives_kind files kind.Second _ _ names.second stop g);
+  next = λ files second stop g. others_after names (kind_of stop) (third_kind files names ais voc links second stop g);
+  alike = λ known. other_one known kind.Second ais voc names.second;
+}
 
--- a load that opens only these names
-pub any_stop : {A B : Type 0} {Give : Option FilesInMemory → Result A Stop → Type 0} {As : Type 0} {before now : FilesKnown} {answer : Result A Unloaded} (Made : Option FilesInMemory → Result B Stop → Type 0) (names : List (List ℕ))
-    → Loads Give names As before now answer → StopsOpening Made (λ kind. names) (is_load_short answer) before now
-any_stop Made names l = record { decided = λ known stop is gives. l.opened }
+-- the links, and then the others
+pub linked_row : (names : FileNames) (values : Values) (ais : List AiRow)
+    → Row (λ known. LinksGive known values.templates ais values.voc names.links) (λ known. GivesOthers known names ais values.voc) (first_named names)
+    (λ k. first_named names) (λ k. others_up_to k names) (λ k. links_up_to k names)
+linked_row names values ais = record {
+  first = λ files stop g. ap (λ k. links_up_to k names) (gives_kind files kind.Links _ _ _ stop g);
+  next = λ files links stop g. links_after names (kind_of stop) (others_kind files names ais values.voc links stop g);
+  alike = λ known. links_one known values.templates ais values.voc names.links;
+}
 
-module _ {A B : Type 0} (First : Option FilesInMemory → Result A Stop → Type 0) (Next : Option FilesInMemory → A → Result B Stop → Type 0)
-    (one : List (List ℕ)) (up_one up_next up : FileKind → List (List ℕ))
-    (next : (files : Option FilesInMemory) (a : A) (stop : Stop) → Next files a (Err stop) → up (kind_of stop) ≡ one ++ up_next (kind_of stop)) where
-  -- the first gives nothing
-  first_stops : {As : Type 0} {before now : FilesKnown} {answer : Result A Unloaded}
-      → ((files : Option FilesInMemory) (stop : Stop) → First files (Err stop) → up (kind_of stop) ≡ up_one (kind_of stop))
-      → Loads First one As before now answer → StopsOpening First up_one (is_load_short answer) before now
-      → StopsOpening (Steps First Next) up (is_load_short answer) before now
-  first_stops {before = before} {now = now} {answer = answer} first l d = record { decided = by }
-    where
-      by : (known : FilesInMemory) (stop : Stop) → before.files ≡ Some known → Then (First before.files) (Next before.files) (Err stop)
-          → OpensFirst (is_load_short answer) (up (kind_of stop)) before.opened now.opened
-      by known stop is (rejects stop' gives e) =
-          let given : Result B Stop = Err stop in
-          let f : given ≡ Err stop' = e in
-          let same : stop ≡ stop' = cc in
-          let g : First before.files (Err stop) = rw same gives in
-          rw (first before.files stop g) (d.decided known stop is g)
-      by known stop is (goes_on a gives n) = rw (next before.files a stop n)
-          (opens_fewer (is_load_short answer) one (up_next (kind_of stop)) before.opened now.opened l.opened)
+-- the settings, and then the classes
+pub settings_row : (asked : Asked) (tabled : Tabled) (linked : Linked)
+    → Row (λ known. SettingsGive known asked.files asked.values) (λ known. GivesClasses known asked tabled linked) (description_named asked.files)
+    (λ k. description_named asked.files) (λ k. classes_named asked.files) (λ k. settings_up_to k asked.files)
+settings_row asked tabled linked = record {
+  first = λ files stop g. ap (λ k. settings_up_to k asked.files) (settings_kind files asked.files asked.values stop g);
+  next = λ files settings stop g. ap (λ k. settings_up_to k asked.files) (classes_kind files asked tabled linked settings stop g);
+  alike = λ known. settings_one known asked.files asked.values;
+}
 
-  -- the first gives something
-  next_stops : {As : Type 0} {before between now : FilesKnown} {a : A} {lost : Bool}
-      → ((known : FilesInMemory) → AreAlikeAll (First (Some known))) → Loads First one As before between (Ok a)
-      → StopsOpening (λ files. Next files a) up_next lost between now → StopsOpening (Steps First Next) up lost before now
-  next_stops {before = before} {between = between} {now = now} {a = a} {lost = lost} alike l d = record { decided = by }
-    where
-      moved : (known : FilesInMemory) (answer : Result A Stop) → before.files ≡ Some known → First before.files answer → First (Some known) answer
-      moved known answer is gives = rw is at gives
+-- the files of links, and then those after them
+pub rest_row : (asked : Asked) (tabled : Tabled)
+    → Row (λ known. LinkedGive known asked.files asked.values tabled.tables.ais) (λ known. GivesSettings known asked tabled) (links_named asked.files)
+    (λ k. links_up_to k asked.files) (λ k. settings_up_to k asked.files) (λ k. rest_up_to k asked.files)
+rest_row asked tabled = record {
+  first = λ files stop g. rest_first asked.files (kind_of stop) (linked_kind files asked.files asked.values tabled.tables.ais stop g);
+  next = λ files linked stop g. rest_after asked.files (kind_of stop) (with_settings_kind files asked tabled linked stop g);
+  alike = λ known. linked_one known asked.files asked.values tabled.tables.ais;
+}
 
-      by : (known : FilesInMemory) (stop : Stop) → before.files ≡ Some known → Then (First before.files) (Next before.files) (Err stop)
-          → OpensFirst lost (up (kind_of stop)) before.opened now.opened
-      by known stop is (rejects stop' gives e) =
-          absurd (not_alike stop' a (alike known (Ok a) (Err stop') (moved known (Ok a) is l.loaded) (moved known (Err stop') is gives)))
-      by known stop is (goes_on a' gives n) =
-          let same : a ≡ a' = same_given a a' (alike known (Ok a) (Ok a') (moved known (Ok a) is l.loaded) (moved known (Ok a') is gives)) in
-          let m : Next before.files a (Err stop) = rw same n in
-          let later : Next between.files a (Err stop) = rw l.known m in
-          rw (next before.files a stop m) (opens_both lost before.opened between.opened now.opened one (up_next (kind_of stop)) l.all_opened (d.decided known stop (l.known ∙ is) later))
-
--- ---- the tables and the prefixes
-
-module _ (names : FileNames) where
-  tabled_next : (files : Option FilesInMemory) (given : TablesWithSource) (stop : Stop) → GivesPrefixes files names given (Err stop)
-      → named_up_to (kind_of stop) names ≡ option_to_list names.tables ++ option_to_list names.prefixes
-  tabled_next files given stop g = ap (λ k. named_up_to k names) (prefixes_kind files names given stop g)
-
-  pub tables_stop : {As : Type 0} {before now : FilesKnown} {answer : Result TablesWithSource Unloaded}
-      → Loads (λ known. TablesGive known names.tables) (option_to_list names.tables) As before now answer
-      → StopsOpening (λ known. TabledGive known names) (λ k. named_up_to k names) (is_load_short answer) before now
-  tables_stop l =
-      first_stops (λ known. TablesGive known names.tables) (λ known. GivesPrefixes known names) (option_to_list names.tables)
-      (λ k. option_to_list names.tables) (λ k. option_to_list names.prefixes) (λ k. named_up_to k names) tabled_next
-      (λ files stop g. ap (λ k. named_up_to k names) (gives_kind files kind.Tables _ _ names.tables stop g)) l
-      (any_stop (λ known. TablesGive known names.tables) (option_to_list names.tables) l)
-
-  pub prefixes_stop : {As AsLater : Type 0} {before between now : FilesKnown} {given : TablesWithSource} {answer : Result (List PrefixEntry) Unloaded}
-      → Loads (λ known. TablesGive known names.tables) (option_to_list names.tables) As before between (Ok given)
-      → Loads (λ known. PrefixesGive known names.prefixes) (option_to_list names.prefixes) AsLater between now answer
-      → StopsOpening (λ known. TabledGive known names) (λ k. named_up_to k names) (is_load_short answer) before now
-  prefixes_stop {given = given} l m =
-      next_stops (λ known. TablesGive known names.tables) (λ known. GivesPrefixes known names) (option_to_list names.tables)
-      (λ k. option_to_list names.tables) (λ k. option_to_list names.prefixes) (λ k. named_up_to k names) tabled_next
-      (λ known. given_tables_one known names.tables) l (any_stop (λ known. GivesPrefixes known names given) (option_to_list names.prefixes) m)
-
--- ---- the links
-
-module _ (names : FileNames) (ais : List AiRow) (voc : List ℕ) (links : List Link) where
-  others_next : (files : Option FilesInMemory) (second : Option (List Link)) (stop : Stop)
-      → GivesThird files names ais voc links second (Err stop)
-      → others_up_to (kind_of stop) names ≡ option_to_list names.second ++ option_to_list names.third
-  others_next files second stop g = others_after names (kind_of stop) (third_kind files names ais voc links second stop g)
-
-  pub second_stops : {As : Type 0} {before now : FilesKnown} {answer : Result (Option (List Link)) Unloaded}
-      → Loads (λ known. OtherGives known kind.Second ais voc names.second) (option_to_list names.second) As before now answer
-      → StopsOpening (λ known. GivesOthers known names ais voc links) (λ k. others_up_to k names) (is_load_short answer) before now
-  second_stops l =
-      first_stops (λ known. OtherGives known kind.Second ais voc names.second) (λ known. GivesThird known names ais voc links)
-      (option_to_list names.second) (λ k. option_to_list names.second) (λ k. option_to_list names.third)
-      (λ k. others_up_to k names) others_next
-      (λ files stop g. ap (λ k. others_up_to k names) (gives_kind files kind.Second _ _ names.second stop g)) l
-      (any_stop (λ known. OtherGives known kind.Second ais voc names.second) (option_to_list names.second) l)
-
-  pub third_stops : {As AsLater : Type 0} {before between now : FilesKnown} {second : Option (List Link)} {answer : Result (Option (List Link)) Unloaded}
-      → Loads (λ known. OtherGives known kind.Second ais voc names.second) (option_to_list names.second) As before between (Ok second)
-      → Loads (λ known. OtherGives known kind.Third ais voc names.third) (option_to_list names.third) AsLater between now answer
-      → StopsOpening (λ known. GivesOthers known names ais voc links) (λ k. others_up_to k names) (is_load_short answer) before now
-  third_stops {second = second} l m =
-      next_stops (λ known. OtherGives known kind.Second ais voc names.second) (λ known. GivesThird known names ais voc links)
-      (option_to_list names.second) (λ k. option_to_list names.second) (λ k. option_to_list names.third)
-      (λ k. others_up_to k names) others_next
-      (λ known. other_one known kind.Second ais voc names.second) l
-      (any_stop (λ known. GivesThird known names ais voc links second) (option_to_list names.third) m)
-
-module _ (names : FileNames) (values : Values) (ais : List AiRow) where
-  linked_next : (files : Option FilesInMemory) (links : List Link) (stop : Stop) → GivesOthers files names ais values.voc links (Err stop)
-      → links_up_to (kind_of stop) names ≡ first_named names ++ others_up_to (kind_of stop) names
-  linked_next files links stop g = links_after names (kind_of stop) (others_kind files names ais values.voc links stop g)
-
-  pub links_stop : {As : Type 0} {before now : FilesKnown} {answer : Result (List Link) Unloaded}
-      → Loads (λ known. LinksGive known values.templates ais values.voc names.links) (first_named names) As before now answer
-      → StopsOpening (λ known. LinkedGive known names values ais) (λ k. links_up_to k names) (is_load_short answer) before now
-  links_stop l =
-      first_stops (λ known. LinksGive known values.templates ais values.voc names.links) (λ known. GivesOthers known names ais values.voc)
-      (first_named names) (λ k. first_named names) (λ k. others_up_to k names) (λ k. links_up_to k names) linked_next
-      (λ files stop g. ap (λ k. links_up_to k names) (gives_kind files kind.Links _ _ _ stop g)) l
-      (any_stop (λ known. LinksGive known values.templates ais values.voc names.links) (first_named names) l)
-
-  pub others_stop : {As : Type 0} {lost : Bool} {before between now : FilesKnown} {links : List Link}
-      → Loads (λ known. LinksGive known values.templates ais values.voc names.links) (first_named names) As before between (Ok links)
-      → StopsOpening (λ known. GivesOthers known names ais values.voc links) (λ k. others_up_to k names) lost between now
-      → StopsOpening (λ known. LinkedGive known names values ais) (λ k. links_up_to k names) lost before now
-  others_stop l d =
-      next_stops (λ known. LinksGive known values.templates ais values.voc names.links) (λ known. GivesOthers known names ais values.voc)
-      (first_named names) (λ k. first_named names) (λ k. others_up_to k names) (λ k. links_up_to k names) linked_next
-      (λ known. links_one known values.templates ais values.voc names.links) l d
-
--- ---- all files
-
-module _ (asked : Asked) (tabled : Tabled) (linked : Linked) where
-  settings_next : (files : Option FilesInMemory) (settings : Settings) (stop : Stop)
-      → GivesClasses files asked tabled linked settings (Err stop)
-      → settings_up_to (kind_of stop) asked.files ≡ description_named asked.files ++ classes_named asked.files
-  settings_next files settings stop g = ap (λ k. settings_up_to k asked.files) (classes_kind files asked tabled linked settings stop g)
-
-  pub settings_stop : {As : Type 0} {before now : FilesKnown} {answer : Result Settings Unloaded}
-      → Loads (λ known. SettingsGive known asked.files asked.values) (description_named asked.files) As before now answer
-      → StopsOpening (λ known. GivesSettings known asked tabled linked) (λ k. settings_up_to k asked.files) (is_load_short answer) before now
-  settings_stop l =
-      first_stops (λ known. SettingsGive known asked.files asked.values) (λ known. GivesClasses known asked tabled linked)
-      (description_named asked.files) (λ k. description_named asked.files) (λ k. classes_named asked.files)
-      (λ k. settings_up_to k asked.files) settings_next
-      (λ files stop g. ap (λ k. settings_up_to k asked.files) (settings_kind files asked.files asked.values stop g)) l
-      (any_stop (λ known. SettingsGive known asked.files asked.values) (description_named asked.files) l)
-
-  pub classes_stop : {As AsLater : Type 0} {before between now : FilesKnown} {settings : Settings} {answer : Result ClassRows Unloaded} {Give : Option FilesInMemory → Result ClassRows Stop → Type 0}
-      → Loads (λ known. SettingsGive known asked.files asked.values) (description_named asked.files) As before between (Ok settings)
-      → Loads Give (classes_named asked.files) AsLater between now answer
-      → StopsOpening (λ known. GivesSettings known asked tabled linked) (λ k. settings_up_to k asked.files) (is_load_short answer) before now
-  classes_stop {settings = settings} l m =
-      next_stops (λ known. SettingsGive known asked.files asked.values) (λ known. GivesClasses known asked tabled linked)
-      (description_named asked.files) (λ k. description_named asked.files) (λ k. classes_named asked.files)
-      (λ k. settings_up_to k asked.files) settings_next
-      (λ known. settings_one known asked.files asked.values) l (any_stop (λ known. GivesClasses known asked tabled linked settings) (classes_named asked.files) m)
-
-module _ (asked : Asked) (tabled : Tabled) where
-  rest_next : (files : Option FilesInMemory) (linked : Linked) (stop : Stop) → GivesSettings files asked tabled linked (Err stop)
-      → rest_up_to (kind_of stop) asked.files ≡ links_named asked.files ++ settings_up_to (kind_of stop) asked.files
-  rest_next files linked stop g = rest_after asked.files (kind_of stop) (with_settings_kind files asked tabled linked stop g)
-
-  pub linked_stops : {As : Type 0} {before now : FilesKnown} {answer : Result Linked Unloaded}
-      → Loads (λ known. LinkedGive known asked.files asked.values tabled.tables.ais) (links_named asked.files) As before now answer
-      → StopsOpening (λ known. LinkedGive known asked.files asked.values tabled.tables.ais) (λ k. links_up_to k asked.files) (is_load_short answer) before now
-      → StopsOpening (λ known. GivesLinks known asked tabled) (λ k. rest_up_to k asked.files) (is_load_short answer) before now
-  linked_stops l d =
-      first_stops (λ known. LinkedGive known asked.files asked.values tabled.tables.ais) (λ known. GivesSettings known asked tabled)
-      (links_named asked.files) (λ k. links_up_to k asked.files) (λ k. settings_up_to k asked.files)
-      (λ k. rest_up_to k asked.files) rest_next
-      (λ files stop g. rest_first asked.files (kind_of stop) (linked_kind files asked.files asked.values tabled.tables.ais stop g)) l d
-
-  pub after_links : {As : Type 0} {lost : Bool} {before between now : FilesKnown} {linked : Linked}
-      → Loads (λ known. LinkedGive known asked.files asked.values tabled.tables.ais) (links_named asked.files) As before between (Ok linked)
-      → StopsOpening (λ known. GivesSettings known asked tabled linked) (λ k. settings_up_to k asked.files) lost between now
-      → StopsOpening (λ known. GivesLinks known asked tabled) (λ k. rest_up_to k asked.files) lost before now
-  after_links l d =
-      next_stops (λ known. LinkedGive known asked.files asked.values tabled.tables.ais) (λ known. GivesSettings known asked tabled)
-      (links_named asked.files) (λ k. links_up_to k asked.files) (λ k. settings_up_to k asked.files)
-      (λ k. rest_up_to k asked.files) rest_next
-      (λ known. linked_one known asked.files asked.values tabled.tables.ais) l d
-
-module _ (asked : Asked) where
-  all_next : (files : Option FilesInMemory) (tabled : Tabled) (stop : Stop) → GivesLinks files asked tabled (Err stop)
-      → named_up_to (kind_of stop) asked.files ≡ tables_named asked.files ++ rest_up_to (kind_of stop) asked.files
-  all_next files tabled stop g = names_after asked.files (kind_of stop) (rest_kind files asked tabled stop g)
-
-  pub tabled_stops : {As : Type 0} {before now : FilesKnown} {answer : Result Tabled Unloaded}
-      → Loads (λ known. TabledGive known asked.files) (tables_named asked.files) As before now answer
-      → StopsOpening (λ known. TabledGive known asked.files) (λ k. named_up_to k asked.files) (is_load_short answer) before now
-      → StopsOpening (λ known. PartsGive known asked) (λ k. named_up_to k asked.files) (is_load_short answer) before now
-  tabled_stops l d =
-      first_stops (λ known. TabledGive known asked.files) (λ known. GivesLinks known asked) (tables_named asked.files)
-      (λ k. named_up_to k asked.files) (λ k. rest_up_to k asked.files) (λ k. named_up_to k asked.files) all_next
-      (λ files stop g. refl) l d
-
-  pub after_tables : {As : Type 0} {lost : Bool} {before between now : FilesKnown} {tabled : Tabled}
-      → Loads (λ known. TabledGive known asked.files) (tables_named asked.files) As before between (Ok tabled)
-      → StopsOpening (λ known. GivesLinks known asked tabled) (λ k. rest_up_to k asked.files) lost between now
-      → StopsOpening (λ known. PartsGive known asked) (λ k. named_up_to k asked.files) lost before now
-  after_tables l d =
-      next_stops (λ known. TabledGive known asked.files) (λ known. GivesLinks known asked) (tables_named asked.files)
-      (λ k. named_up_to k asked.files) (λ k. rest_up_to k asked.files) (λ k. named_up_to k asked.files) all_next
-      (λ known. tabled_one known asked.files) l d
+-- the tables and the prefixes, and then all other files
+pub all_row : (asked : Asked)
+    → Row (λ known. TabledGive known asked.files) (λ known. GivesLinks known asked) (tables_named asked.files)
+    (λ k. named_up_to k asked.files) (λ k. rest_up_to k asked.files) (λ k. named_up_to k asked.files)
+all_row asked = record {
+  first = λ files stop g. refl;
+  next = λ files tabled stop g. names_after asked.files (kind_of stop) (rest_kind files asked tabled stop g);
+  alike = λ known. tabled_one known asked.files;
+}

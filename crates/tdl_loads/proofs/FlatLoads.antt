@@ -3,6 +3,7 @@ use Rattle.std.proofs.Common.{◌≡◌, ℕ, List, Option, refl, ap, ◌∙◌,
 use Rattle.std.specs.Prelude.{Bool, Result, Ok, Err}
 use Rattle.gs_links.specs.declared.link.Link.{Link}
 use Rattle.gs_linkset.specs.declared.link_types.Context.{Context}
+use Rattle.gs_port.specs.States.{FilesState}
 use Rattle.gs_translate.specs.Steps.{Then, goes_on, rejects}
 use Rattle.tdl_messages.specs.declared.file_kind.FileKind.{FileKind}
 use Rattle.tdl_arguments.specs.Requests.{Asked}
@@ -11,7 +12,7 @@ use Rattle.tdl_loads.specs.declared.loads.Loaded.{Loaded}
 use Rattle.tdl_loads.specs.declared.loads.Unloaded.{Unloaded}
 use Rattle.tdl_loads.specs.declared.loads.Unloaded.TheVariants as unloaded
 use Rattle.tdl_loads.specs.Loads.{FilesGive, FilesInMemory, Stop, missing, rejected}
-use Rattle.tdl_loads.specs.LoadsSupport.{FilesKnown, LoadedBy, Loads, PartsGive, StopsOpening, linked_with}
+use Rattle.tdl_loads.specs.LoadsSupport.{LoadedBy, Loads, PartsGive, linked_with}
 
 -- ---- steps in a row
 
@@ -118,20 +119,25 @@ flat_parts files asked answer x =
 
 -- ---- loads by one and by the other
 
-loaded_flat : (files : Option FilesInMemory) (asked : Asked) (before now : ℕ) (answer : Result Loaded Unloaded)
-    → LoadedBy (PartsGive files asked) before now answer → LoadedBy (FilesGive files asked) before now answer
-loaded_flat files asked before now (Ok loaded) g = parts_flat files asked (Ok loaded) g
-loaded_flat files asked before now (Err (unloaded.Refused rejection)) g = parts_flat files asked (Err (rejected rejection)) g
-loaded_flat files asked before now (Err unloaded.ReadFault) (inl rises) = inl rises
-loaded_flat files asked before now (Err unloaded.ReadFault) (inr none) = inr (none.0, parts_flat files asked (Err (missing none.0)) none.1)
-loaded_flat files asked before now (Err unloaded.Memory) g = tt
+loaded_flat : (files : Option FilesInMemory) (asked : Asked) (errored : Bool) (answer : Result Loaded Unloaded)
+    → LoadedBy (PartsGive files asked) errored answer → LoadedBy (FilesGive files asked) errored answer
+loaded_flat files asked errored (Ok loaded) g = parts_flat files asked (Ok loaded) g
+loaded_flat files asked errored (Err (unloaded.Refused rejection)) g = parts_flat files asked (Err (rejected rejection)) g
+loaded_flat files asked errored (Err unloaded.ReadFault) (inl rises) = inl rises
+loaded_flat files asked errored (Err unloaded.ReadFault) (inr none) = inr (none.0, parts_flat files asked (Err (missing none.0)) none.1)
+loaded_flat files asked errored (Err unloaded.Memory) g = tt
 
-pub loads_flat : {As : Type 0} {before now : FilesKnown} (asked : Asked) (names : List (List ℕ)) (answer : Result Loaded Unloaded)
-    → Loads (λ known. PartsGive known asked) names As before now answer → Loads (λ known. FilesGive known asked) names As before now answer
-loads_flat {before = before} {now = now} asked names answer l =
-    record { loaded = loaded_flat before.files asked before.errors now.errors answer l.loaded; opened = l.opened; all_opened = l.all_opened; unopened = l.unopened; known = l.known; counts = l.counts }
-
-pub stops_flat : {before now : FilesKnown} {lost : Bool} (asked : Asked) (up_to : FileKind → List (List ℕ))
-    → StopsOpening (λ known. PartsGive known asked) up_to lost before now
-    → StopsOpening (λ known. FilesGive known asked) up_to lost before now
-stops_flat {before = before} asked up_to d = record { decided = λ known stop is gives. d.decided known stop is (flat_parts before.files asked (Err stop) gives) }
+pub loads_flat : {up_to : FileKind → List (List ℕ)} {names : List (List ℕ)} {As : Type 0} {before now : FilesState} (asked : Asked) (answer : Result Loaded Unloaded)
+    → Loads (λ known. PartsGive known asked) up_to names As before now answer
+    → Loads (λ known. FilesGive known asked) up_to names As before now answer
+loads_flat {before = before} {now = now} asked answer l = record {
+  errored = l.errored;
+  rest = l.rest;
+  faulted = l.faulted;
+  loaded = loaded_flat before.files asked l.errored answer l.loaded;
+  opened = l.opened;
+  all_opened = l.all_opened;
+  to_rejected = l.to_rejected;
+  decided = λ known stop is gives. l.decided known stop is (flat_parts before.files asked (Err stop) gives);
+  unopened = l.unopened;
+}

@@ -3,6 +3,7 @@ pub mod FlatLoads
 pub mod OpenedNames
 pub mod PrefixLoads
 pub mod LinkLoads
+pub mod LoadFacts
 pub mod LoadSteps
 pub mod LoadLemmas
 pub mod ReadLemmas

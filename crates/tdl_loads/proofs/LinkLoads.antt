@@ -205,9 +205,9 @@ pub linked_is : (ais : List AiRow) (voc : List ℕ) (links : List Link) (second 
     (Ok (record { links = links; merged = contexts }))
 linked_is ais voc links second third contexts e = rw e refl
 
-pub linked_not : (ais : List AiRow) (voc : List ℕ) (links : List Link) (second third : Option (List Link)) (First : Result (Option (List Link)) Stop → Type 0) (before now : ℕ) (u : Unloaded)
+pub linked_not : (ais : List AiRow) (voc : List ℕ) (links : List Link) (second third : Option (List Link)) (First : Result (Option (List Link)) Stop → Type 0) (errored : Bool) (u : Unloaded)
     → First (Ok third) → JudgedAs kind.Merge (merging ais voc links second third) (Err u)
-    → LoadedBy (Then First (AreLinked ais voc links second)) before now (Err u)
-linked_not ais voc links second third First before now unloaded.Memory first j = tt
-linked_not ais voc links second third First before now unloaded.ReadFault first j = absurd j
-linked_not ais voc links second third First before now (unloaded.Refused rejection) first j = goes_on third first (ap (linked_with links) (sym j))
+    → LoadedBy (Then First (AreLinked ais voc links second)) errored (Err u)
+linked_not ais voc links second third First errored unloaded.Memory first j = tt
+linked_not ais voc links second third First errored unloaded.ReadFault first j = absurd j
+linked_not ais voc links second third First errored (unloaded.Refused rejection) first j = goes_on third first (ap (linked_with links) (sym j))

@@ -1,20 +1,26 @@
 -- The effect of a load on the files, by that of its steps.
-use Rattle.std.proofs.Common.{ℕ, ◌≤◌, List, Option, Some, None, [], ◌++◌, ◌∷◌, ◌≡◌, suc, zero, take, length, refl, sym, ap, subst, ◌∙◌, inl, inr, arith}
-use Rattle.std.specs.Prelude.{Bool, false, Result, Ok, Err}
-use Rattle.gs_port.specs.Files.{AddsNames, IsFile}
+use Rattle.std.proofs.Common.{ℕ, ◌+◌, ◌≤◌, List, Option, Some, None, [], ◌++◌, ◌∷◌, ◌≡◌, ◌⊎◌, suc, zero, take, length, refl, sym, ap, subst, ◌∙◌, inl, inr, arith}
+use Rattle.std.proofs.lemmas.Grind.{common_steps}
+use Rattle.std.specs.Prelude.{Bool, true, false, Result, Ok, Err}
+use Rattle.gs_port.specs.Answers.{after_file}
+use Rattle.gs_port.specs.Counts.{count_if}
+use Rattle.gs_port.specs.Files.{AddsNames, BeginsFile, IsAbsent, IsFile, counted_if_found, counted_if_there, file_of, with_names}
+use Rattle.gs_port.specs.States.{FilesState}
+use Rattle.gs_port.specs.declared.files.FileFault.TheVariants as file
 use Rattle.gs_port.proofs.Names.{surely_added}
-use Rattle.gs_translate.specs.Steps.{Then, goes_on}
+use Rattle.gs_translate.specs.Steps.{Then, goes_on, rejects}
 use Rattle.tdl_messages.specs.declared.file_kind.FileKind.{FileKind}
 use Rattle.tdl_messages.specs.declared.rejection.FileFault.{FileFault}
 use Rattle.tdl_messages.specs.declared.rejection.FileFault.TheVariants.{Over}
+use Rattle.tdl_messages.specs.declared.rejection.Rejection.{Rejection}
 use Rattle.tdl_messages.specs.Rejections.{file_limit}
 use Rattle.tdl_loads.specs.declared.loads.Unloaded.{Unloaded}
 use Rattle.tdl_loads.specs.declared.loads.Unloaded.TheVariants as unloaded
-use Rattle.tdl_loads.specs.Loads.{BytesGive, FileGives, FilesInMemory, Gives, OpensFirst, Stop, absent, is_load_short, is_short, judged, missing, of_verdict, rejected, too_large}
-use Rattle.tdl_loads.specs.LoadsSupport.{AreBytes, FilesKnown, LoadedBy, Loads}
-use Rattle.tdl_loads.specs.Reads.{ReadBy}
-use Rattle.tdl_loads.proofs.FileLoads.{file_unloaded, loads_on, not_loaded}
-use Rattle.tdl_loads.proofs.OpenedNames.{adds_given, opens_all, opens_anyway, opens_both, whatever_given}
+use Rattle.tdl_loads.specs.Loads.{BytesGive, FileGives, FilesInMemory, Gives, Opens, OpensFirst, StandsFor, Stop, absent, is_load_short, is_short, judged, kind_of, missing, of_verdict, rejected, too_large}
+use Rattle.tdl_loads.specs.LoadsSupport.{AreBytes, LoadedBy, Loads, LoadsOne, after_load}
+use Rattle.tdl_loads.proofs.FileLoads.{loads_on, not_loaded}
+use Rattle.tdl_loads.proofs.LoadLemmas.{AreAlikeAll, not_alike, same_given}
+use Rattle.tdl_loads.proofs.OpenedNames.{added_both, adds_given, adds_none, opens_all, opens_anyway, opens_both, whatever_given}
 
 -- ---- the bytes of a file that is named
 
@@ -69,26 +75,140 @@ module _ {A : Type 0} (files : Option FilesInMemory) (kind : FileKind) (Judges :
   bytes_stop (Some file) stop gives = file_stops file stop gives
 
   -- bytes that are not read are not loaded
-  pub bytes_unloaded : (name : Option (List ℕ)) (before now : ℕ) (u : Unloaded) → LoadedBy (BytesGive files kind name) before now (Err u)
-      → LoadedBy (Gives files kind Judges Unnamed name) before now (Err u)
-  bytes_unloaded name before now unloaded.Memory g = tt
-  bytes_unloaded name before now unloaded.ReadFault (inl rises) = inl rises
-  bytes_unloaded name before now unloaded.ReadFault (inr gives) = inr (gives.0, bytes_stop name (missing gives.0) gives.1)
-  bytes_unloaded name before now (unloaded.Refused rejection) gives = bytes_stop name (rejected rejection) gives
+  pub bytes_unloaded : (name : Option (List ℕ)) (errored : Bool) (u : Unloaded) → LoadedBy (BytesGive files kind name) errored (Err u)
+      → LoadedBy (Gives files kind Judges Unnamed name) errored (Err u)
+  bytes_unloaded name errored unloaded.Memory g = tt
+  bytes_unloaded name errored unloaded.ReadFault (inl rises) = inl rises
+  bytes_unloaded name errored unloaded.ReadFault (inr gives) = inr (gives.0, bytes_stop name (missing gives.0) gives.1)
+  bytes_unloaded name errored (unloaded.Refused rejection) gives = bytes_stop name (rejected rejection) gives
 
--- ---- a load whose last step uses the earlier results
+-- ---- a load of one file, or of none
 
-pub loads_given : {A B : Type 0} (Give : Option FilesInMemory → Result A Stop → Type 0) (Made : Option FilesInMemory → Result B Stop → Type 0) (names : List (List ℕ)) (As : Type 0) (before now : FilesKnown) (a : A) (result : Result B Unloaded)
-    → Loads Give names As before now (Ok a) → LoadedBy (Made before.files) before.errors now.errors result
-    → Loads Made names As before now result
-loads_given Give Made names As before now a result l g =
-    record { loaded = g; opened = opens_anyway (is_load_short result) names before.opened now.opened l.opened; all_opened = whatever_given result _ l.all_opened; unopened = l.unopened; known = l.known; counts = l.counts }
+-- a read fault that is not one stays none
+no_fault : {A B : Type 0} (a : A) (errored : Bool) (answer : Result B Unloaded) → (errored ≡ true → Ok a ≡ Err unloaded.ReadFault) → errored ≡ true → answer ≡ Err unloaded.ReadFault
+no_fault {A = A} a errored answer only e = absurd (let given : Result A Unloaded = Ok a in let f : given ≡ Err unloaded.ReadFault = only e in cc)
 
-pub loads_failed : {A B : Type 0} (Give : Option FilesInMemory → Result A Stop → Type 0) (Made : Option FilesInMemory → Result B Stop → Type 0) (names : List (List ℕ)) (As : Type 0) (before now : FilesKnown) (u : Unloaded)
-    → Loads Give names As before now (Err u) → LoadedBy (Made before.files) before.errors now.errors (Err u)
-    → Loads Made names As before now (Err u)
-loads_failed Give Made names As before now u l g =
-    record { loaded = g; opened = l.opened; all_opened = tt; unopened = l.unopened; known = l.known; counts = l.counts }
+error_free : {A : Type 0} (a : A) (errored : Bool) → (errored ≡ true → Ok a ≡ Err unloaded.ReadFault) → errored ≡ false
+error_free a false only = refl
+error_free {A = A} a true only = absurd (let given : Result A Unloaded = Ok a in let f : given ≡ Err unloaded.ReadFault = only refl in cc)
+
+-- an answer without a value
+abbrev failed : (A : Type 0) → Unloaded → Result A Unloaded
+failed A u = Err u
+
+-- an error is the same error of another load
+same_error : {A B : Type 0} (u v : Unloaded) → failed A u ≡ failed A v → failed B u ≡ failed B v
+same_error {A = A} {B = B} u v e = let f : u ≡ v = cc in ap (failed B) f
+
+all_by : {A : Type 0} (names : List (List ℕ)) (before now : Option (List (List ℕ))) (answer : Result A Unloaded)
+    → AddsNames (is_load_short answer) before names now → Opens names before now answer
+all_by names before now (Ok a) adds = surely_added before now names adds
+all_by names before now (Err u) adds = tt
+
+rejected_by : {A : Type 0} (names : List (List ℕ)) (before now : Option (List (List ℕ))) (answer : Result A Unloaded) (rejection : Rejection)
+    → AddsNames (is_load_short answer) before names now → answer ≡ Err (unloaded.Refused rejection) → now ≡ with_names before names
+rejected_by {A = A} names before now answer rejection adds is =
+    surely_added before now names (subst (λ (answer : Result A Unloaded). AddsNames (is_load_short answer) before names now) is adds)
+
+module _ {A : Type 0} (Give : Option FilesInMemory → Result A Stop → Type 0) (names : List (List ℕ)) (As : Type 0) (before now : FilesState) where
+  loads_by : (answer : Result A Unloaded) (errored : Bool) → now ≡ after_load errored now before
+      → (errored ≡ true → answer ≡ Err unloaded.ReadFault) → LoadedBy (Give before.files) errored answer
+      → AddsNames (is_load_short answer) before.opened names now.opened → (names ≡ [] → As) → LoadsOne Give names As before now answer
+  loads_by answer errored rest faulted loaded adds unopened = record {
+    errored = errored;
+    rest = rest;
+    faulted = faulted;
+    loaded = loaded;
+    opened = opens_all (is_load_short answer) names before.opened now.opened adds;
+    all_opened = all_by names before.opened now.opened answer adds;
+    to_rejected = λ rejection is. rejected_by names before.opened now.opened answer rejection adds is;
+    decided = λ known stop is gives. opens_all (is_load_short answer) names before.opened now.opened adds;
+    unopened = unopened;
+  }
+
+-- no file was named
+pub loads_none : (kind : FileKind) (As : Type 0) (files : FilesState) → As → LoadsOne (λ known. BytesGive known kind None) [] As files files (Ok None)
+loads_none kind As files unchanged =
+    loads_by (λ known. BytesGive known kind None) [] As files files (Ok None) false refl (λ e. absurd cc) (record { verdict = Ok None; judged = refl; is = refl }) (adds_none false files.opened) (λ none. unchanged)
+
+-- the count of errors after a file could not be read
+failed_by : (files : Option FilesInMemory) (name : List ℕ) (count : ℕ) → (errored : Bool) × (counted_if_there files name count ≡ count_if errored count) × ((errored ≡ true) ⊎ IsAbsent files name)
+failed_by None name count = (true, refl, inl refl)
+failed_by (Some files) name count = by (file_of files name) refl
+  where
+    by : (found : Option (List ℕ)) → file_of files name ≡ found
+        → (errored : Bool) × (counted_if_found (file_of files name) count ≡ count_if errored count) × ((errored ≡ true) ⊎ (file_of files name ≡ None))
+    by None e = (false, ap (λ found. counted_if_found found count) e, inr e)
+    by (Some bytes) e = (true, ap (λ found. counted_if_found found count) e, inl refl)
+
+-- a file was named, and read or not
+module _ (kind : FileKind) (name : List ℕ) (As : Type 0) (before now : FilesState) where
+  abbrev OfFile : Result (Option (List ℕ)) Unloaded → Type 0
+  OfFile answer = LoadsOne (λ known. BytesGive known kind (Some name)) (name ∷ []) As before now answer
+
+  is_named : name ∷ [] ≡ [] → As
+  is_named none = absurd (let e : name ∷ [] ≡ [] = none in cc)
+
+  pub loads_read : (bytes : List ℕ) → IsFile before.files name bytes → length bytes ≤ file_limit kind
+      → AddsNames false before.opened (name ∷ []) now.opened → now ≡ after_load false now before → OfFile (Ok (Some bytes))
+  loads_read bytes is few adds rest =
+      loads_by (λ known. BytesGive known kind (Some name)) (name ∷ []) As before now (Ok (Some bytes)) false rest (λ e. absurd cc)
+      (judged bytes (Ok (Some bytes)) is few refl refl) adds is_named
+
+  pub loads_over : (bytes : List ℕ) → BeginsFile before.files name bytes → length bytes ≡ file_limit kind + 1
+      → AddsNames false before.opened (name ∷ []) now.opened → now ≡ after_load false now before
+      → OfFile (Err (unloaded.Refused (record { kind = kind; error = Over })))
+  loads_over bytes begins over adds rest =
+      loads_by (λ known. BytesGive known kind (Some name)) (name ∷ []) As before now (Err (unloaded.Refused (record { kind = kind; error = Over }))) false rest (λ e. absurd cc)
+      (too_large (bytes ++ begins.0) begins.1 (grind (arith, common_steps)) refl) adds is_named
+
+  pub loads_short : AddsNames true before.opened (name ∷ []) now.opened → now ≡ after_load false now before → OfFile (Err unloaded.Memory)
+  loads_short adds rest =
+      loads_by (λ known. BytesGive known kind (Some name)) (name ∷ []) As before now (Err unloaded.Memory) false rest (λ e. absurd cc) tt adds is_named
+
+  pub loads_failed : AddsNames false before.opened (name ∷ []) now.opened → now ≡ after_file (Err file.Failed) name now before
+      → OfFile (Err unloaded.ReadFault)
+  loads_failed adds rest =
+      let f = failed_by before.files name before.errors in
+      loads_by (λ known. BytesGive known kind (Some name)) (name ∷ []) As before now (Err unloaded.ReadFault) f.0
+      (rest ∙ ap (λ count. record before { opened = now.opened; is_open = now.is_open; left = now.left; errors = count }) f.1) (λ e. refl) (cause f.0 f.2) adds is_named
+    where
+      cause : (errored : Bool) → (errored ≡ true) ⊎ IsAbsent before.files name
+          → (errored ≡ true) ⊎ ((kind' : FileKind) × BytesGive before.files kind (Some name) (Err (missing kind')))
+      cause errored (inl e) = inl e
+      cause errored (inr none) = inr (kind, absent none refl)
+
+-- ---- a load of one file, and a last step that reads none
+
+module _ {A B : Type 0} {Give : Option FilesInMemory → Result A Stop → Type 0} {names : List (List ℕ)} {As : Type 0} {before now : FilesState}
+    (Made : Option FilesInMemory → Result B Stop → Type 0) where
+  pub loads_given : (a : A) (result : Result B Unloaded) → (l : LoadsOne Give names As before now (Ok a))
+      → LoadedBy (Made before.files) l.errored result → LoadsOne Made names As before now result
+  loads_given a result l g = record {
+    errored = l.errored;
+    rest = l.rest;
+    faulted = no_fault a l.errored result l.faulted;
+    loaded = g;
+    opened = opens_anyway (is_load_short result) names before.opened now.opened l.opened;
+    all_opened = whatever_given result _ l.all_opened;
+    to_rejected = λ rejection is. l.all_opened;
+    decided = λ known stop is gives. opens_anyway (is_load_short result) names before.opened now.opened l.opened;
+    unopened = l.unopened;
+  }
+
+  pub loads_not : (u : Unloaded) → (l : LoadsOne Give names As before now (Err u)) → LoadedBy (Made before.files) l.errored (Err u)
+      → LoadsOne Made names As before now (Err u)
+  loads_not u l g = record {
+    errored = l.errored;
+    rest = l.rest;
+    faulted = λ e. same_error u unloaded.ReadFault (l.faulted e);
+    loaded = g;
+    opened = l.opened;
+    all_opened = tt;
+    to_rejected = λ rejection is. l.to_rejected rejection (same_error u (unloaded.Refused rejection) is);
+    decided = λ known stop is gives. l.opened;
+    unopened = l.unopened;
+  }
 
 -- ---- one load after another
 
@@ -98,7 +218,7 @@ first_of_both [] other (suc count) = (0, refl)
 first_of_both (x ∷ one) other zero = (0, refl)
 first_of_both (x ∷ one) other (suc count) = let m = first_of_both one other count in (suc m.0, ap (λ xs. x ∷ xs) m.1)
 
-pub opens_fewer : (lost : Bool) (one other : List (List ℕ)) (before now : Option (List (List ℕ))) → OpensFirst lost one before now
+opens_fewer : (lost : Bool) (one other : List (List ℕ)) (before now : Option (List (List ℕ))) → OpensFirst lost one before now
     → OpensFirst lost (one ++ other) before now
 opens_fewer lost one other before now o =
     let m = first_of_both one other o.0 in
@@ -113,69 +233,120 @@ abbrev pub Steps : {A B : Type 0} → (Option FilesInMemory → Result A Stop �
     → Option FilesInMemory → Result B Stop → Type 0
 Steps First Next files answer = Then (First files) (Next files) answer
 
--- a first step that gives nothing
-pub loads_stop : {A B : Type 0} (First : Option FilesInMemory → Result A Stop → Type 0) (Next : Option FilesInMemory → A → Result B Stop → Type 0) (one other : List (List ℕ)) (As : Type 0) (before now : FilesKnown) (u : Unloaded)
-    → Loads First one As before now (Err u) → Loads (Steps First Next) (one ++ other) As before now (Err u)
-loads_stop First Next one other As before now u l = record {
-  loaded = not_loaded (First before.files) (Next before.files) before.errors now.errors u l.loaded;
-  opened = opens_fewer (is_short u) one other before.opened now.opened l.opened;
-  all_opened = tt;
-  unopened = λ none. l.unopened (no_name one other none).0;
-  known = l.known;
-  counts = l.counts;
-}
+-- Two loads, one after another. The names up to the file of a kind are those of the first, or all of its names and then those of
+-- the second, by which of them stops. The first has alike answers if the files are known.
+pub record Row {A B : Type 0} (First : Option FilesInMemory → Result A Stop → Type 0) (Next : Option FilesInMemory → A → Result B Stop → Type 0) (one : List (List ℕ)) (up_one up_next up : FileKind → List (List ℕ)) : Type 0 where
+  pub first : (files : Option FilesInMemory) (stop : Stop) → First files (Err stop) → up (kind_of stop) ≡ up_one (kind_of stop)
+  pub next : (files : Option FilesInMemory) (a : A) (stop : Stop) → Next files a (Err stop) → up (kind_of stop) ≡ one ++ up_next (kind_of stop)
+  pub alike : (known : FilesInMemory) → AreAlikeAll (First (Some known))
 
--- a first step that gives something, and another after it
-pub loads_then : {A B : Type 0} (First : Option FilesInMemory → Result A Stop → Type 0) (Next : Option FilesInMemory → A → Result B Stop → Type 0) (one other : List (List ℕ)) (AsOne AsOther As : Type 0) (before between now : FilesKnown) (a : A) (result : Result B Unloaded)
-    → (AsOne → AsOther → As) → Loads First one AsOne before between (Ok a) → Loads (λ files. Next files a) other AsOther between now result
-    → Loads (Steps First Next) (one ++ other) As before now result
-loads_then First Next one other AsOne AsOther As before between now a result both l m =
-    let next : LoadedBy (Next before.files a) between.errors now.errors result = subst (λ files. LoadedBy (Next files a) between.errors now.errors result) l.known m.loaded in
-    record {
-      loaded = loads_on (First before.files) (Next before.files) before.errors between.errors now.errors a result l.loaded l.counts next;
-      opened = opens_both (is_load_short result) before.opened between.opened now.opened one other l.all_opened m.opened;
-      all_opened = adds_given result before.opened between.opened now.opened one other l.all_opened m.all_opened;
-      unopened = λ none. let n = no_name one other none in both (l.unopened n.0) (m.unopened n.1);
-      known = m.known ∙ l.known;
-      counts = omega (arith, l.counts, m.counts);
-    }
+module _ {A B : Type 0} {First : Option FilesInMemory → Result A Stop → Type 0} {Next : Option FilesInMemory → A → Result B Stop → Type 0}
+    {one : List (List ℕ)} {up_one up_next up : FileKind → List (List ℕ)} (row : Row First Next one up_one up_next up) where
+  -- the first gives nothing
+  pub first_stops : {As : Type 0} {before now : FilesState} (other : List (List ℕ)) (u : Unloaded)
+      → Loads First up_one one As before now (Err u) → Loads (Steps First Next) up (one ++ other) As before now (Err u)
+  first_stops {before = before} {now = now} other u l = record {
+    errored = l.errored;
+    rest = l.rest;
+    faulted = λ e. same_error u unloaded.ReadFault (l.faulted e);
+    loaded = not_loaded (First before.files) (Next before.files) l.errored u l.loaded;
+    opened = opens_fewer (is_short u) one other before.opened now.opened l.opened;
+    all_opened = tt;
+    to_rejected = to_rejected;
+    decided = decided;
+    unopened = λ none. l.unopened (no_name one other none).0;
+  }
+    where
+      to_rejected : (rejection : Rejection) → failed B u ≡ failed B (unloaded.Refused rejection) → now.opened ≡ with_names before.opened (up rejection.kind)
+      to_rejected rejection is =
+          let same : u ≡ unloaded.Refused rejection = cc in
+          let gives : First before.files (Err (rejected rejection)) = subst (λ (v : Unloaded). LoadedBy (First before.files) l.errored (Err v)) same l.loaded in
+          l.to_rejected rejection (ap Err same) ∙ ap (with_names before.opened) (sym (row.first before.files (rejected rejection) gives))
 
--- ---- a file that is named
+      decided : (known : FilesInMemory) (stop : Stop) → before.files ≡ Some known → Then (First before.files) (Next before.files) (Err stop)
+          → OpensFirst (is_short u) (up (kind_of stop)) before.opened now.opened
+      decided known stop is (rejects stop' gives e) =
+          let given : Result B Stop = Err stop in
+          let f : given ≡ Err stop' = e in
+          let same : stop ≡ stop' = cc in
+          let g : First before.files (Err stop) = rw same gives in
+          rw (row.first before.files stop g) (l.decided known stop is g)
+      decided known stop is (goes_on a gives n) = rw (row.next before.files a stop n)
+          (opens_fewer (is_short u) one (up_next (kind_of stop)) before.opened now.opened l.opened)
 
-pub loads_read : (kind : FileKind) (file bytes : List ℕ) (As : Type 0) (before now : FilesKnown)
-    → ReadBy before.files kind file before.errors now.errors (Ok bytes) → AddsNames false before.opened (file ∷ []) now.opened
-    → now.files ≡ before.files → before.errors ≤ now.errors
-    → Loads (λ files. BytesGive files kind (Some file)) (file ∷ []) As before now (Ok (Some bytes))
-loads_read kind file bytes As before now read adds known counts = record {
-  loaded = judged bytes (Ok (Some bytes)) read.0 read.1 refl refl;
-  opened = opens_all false (file ∷ []) before.opened now.opened adds;
-  all_opened = surely_added before.opened now.opened (file ∷ []) adds;
-  unopened = λ none. absurd (let e : file ∷ [] ≡ [] = none in cc);
-  known = known;
-  counts = counts;
-}
+  -- the first gives something
+  pub next_loads : {X : Type 0} {x y z : X} {before between now : FilesState} {other : List (List ℕ)} (a : A) (answer : Result B Unloaded)
+      → Loads First up_one one (y ≡ x) before between (Ok a) → Loads (λ files. Next files a) up_next other (z ≡ y) between now answer
+      → Loads (Steps First Next) up (one ++ other) (z ≡ x) before now answer
+  next_loads {before = before} {between = between} {now = now} {other = other} a answer l m = record {
+    errored = m.errored;
+    rest = m.rest ∙ ap (after_load m.errored now) (l.rest ∙ ap (λ errored. after_load errored between before) (error_free a l.errored l.faulted));
+    faulted = m.faulted;
+    loaded = loads_on (First before.files) (Next before.files) m.errored a answer l.loaded next;
+    opened = opens_both (is_load_short answer) before.opened between.opened now.opened one other l.all_opened m.opened;
+    all_opened = adds_given answer before.opened between.opened now.opened one other l.all_opened m.all_opened;
+    to_rejected = to_rejected;
+    decided = decided;
+    unopened = λ none. let n = no_name one other none in m.unopened n.1 ∙ l.unopened n.0;
+  }
+    where
+      same_files : between.files ≡ before.files
+      same_files = ap (λ (files : FilesState). files.files) l.rest
 
-pub loads_unread : (kind : FileKind) (file : List ℕ) (As : Type 0) (before now : FilesKnown) (u : Unloaded)
-    → ReadBy before.files kind file before.errors now.errors (Err u) → AddsNames (is_short u) before.opened (file ∷ []) now.opened
-    → now.files ≡ before.files → before.errors ≤ now.errors
-    → Loads (λ files. BytesGive files kind (Some file)) (file ∷ []) As before now (Err u)
-loads_unread kind file As before now u read adds known counts = record {
-  loaded = file_unloaded before.files kind AreBytes file before.errors now.errors u read;
-  opened = opens_all (is_short u) (file ∷ []) before.opened now.opened adds;
-  all_opened = tt;
-  unopened = λ none. absurd (let e : file ∷ [] ≡ [] = none in cc);
-  known = known;
-  counts = counts;
-}
+      next : LoadedBy (Next before.files a) m.errored answer
+      next = subst (λ files. LoadedBy (Next files a) m.errored answer) same_files m.loaded
+
+      to_rejected : (rejection : Rejection) → answer ≡ Err (unloaded.Refused rejection) → now.opened ≡ with_names before.opened (up rejection.kind)
+      to_rejected rejection is =
+          let gives : Next before.files a (Err (rejected rejection)) = subst (λ (v : Result B Unloaded). LoadedBy (Next before.files a) m.errored v) is next in
+          added_both before.opened between.opened now.opened one (up_next rejection.kind) l.all_opened (m.to_rejected rejection is)
+          ∙ ap (with_names before.opened) (sym (row.next before.files a (rejected rejection) gives))
+
+      moved : (known : FilesInMemory) (answer : Result A Stop) → before.files ≡ Some known → First before.files answer → First (Some known) answer
+      moved known answer is gives = rw is at gives
+
+      decided : (known : FilesInMemory) (stop : Stop) → before.files ≡ Some known → Then (First before.files) (Next before.files) (Err stop)
+          → OpensFirst (is_load_short answer) (up (kind_of stop)) before.opened now.opened
+      decided known stop is (rejects stop' gives e) =
+          absurd (not_alike stop' a (row.alike known (Ok a) (Err stop') (moved known (Ok a) is l.loaded) (moved known (Err stop') is gives)))
+      decided known stop is (goes_on a' gives n) =
+          let same : a ≡ a' = same_given a a' (row.alike known (Ok a) (Ok a') (moved known (Ok a) is l.loaded) (moved known (Ok a') is gives)) in
+          let here : Next before.files a (Err stop) = rw same n in
+          let later : Next between.files a (Err stop) = rw same_files here in
+          rw (row.next before.files a stop here) (opens_both (is_load_short answer) before.opened between.opened now.opened one (up_next (kind_of stop)) l.all_opened (m.decided known stop (same_files ∙ is) later))
 
 -- ---- a load, and a last step that reads no file
 
-pub stops_first : {A B : Type 0} (First : Option FilesInMemory → Result A Stop → Type 0) (Last : Option FilesInMemory → A → Result B Stop → Type 0) (names : List (List ℕ)) (As : Type 0) (before now : FilesKnown) (u : Unloaded)
-    → Loads First names As before now (Err u) → Loads (Steps First Last) names As before now (Err u)
-stops_first First Last names As before now u l =
-    loads_failed First (Steps First Last) names As before now u l (not_loaded (First before.files) (Last before.files) before.errors now.errors u l.loaded)
+module _ {A B : Type 0} (First : Option FilesInMemory → Result A Stop → Type 0) (Last : Option FilesInMemory → A → Result B Stop → Type 0)
+    {names : List (List ℕ)} {As : Type 0} {before now : FilesState} where
+  pub last_stops : (u : Unloaded) → LoadsOne First names As before now (Err u) → LoadsOne (Steps First Last) names As before now (Err u)
+  last_stops u l = loads_not (Steps First Last) u l (not_loaded (First before.files) (Last before.files) l.errored u l.loaded)
 
-pub gives_last : {A B : Type 0} (First : Option FilesInMemory → Result A Stop → Type 0) (Last : Option FilesInMemory → A → Result B Stop → Type 0) (names : List (List ℕ)) (As : Type 0) (before now : FilesKnown) (a : A) (b : B)
-    → Loads First names As before now (Ok a) → Last before.files a (Ok b) → Loads (Steps First Last) names As before now (Ok b)
-gives_last First Last names As before now a b l is =
-    loads_given First (Steps First Last) names As before now a (Ok b) l (goes_on a l.loaded is)
+  pub last_gives : (a : A) (b : B) → LoadsOne First names As before now (Ok a) → Last before.files a (Ok b)
+      → LoadsOne (Steps First Last) names As before now (Ok b)
+  last_gives a b l is = loads_given (Steps First Last) a (Ok b) l (goes_on a l.loaded is)
+
+-- ---- a load by the bytes of a file, or by a default if none is named
+
+module _ {A : Type 0} (kind : FileKind) (Judges : List ℕ → Result A FileFault → Type 0) (Unnamed : Result A FileFault → Type 0)
+    (name : Option (List ℕ)) {names : List (List ℕ)} {As : Type 0} {before now : FilesState} where
+  pub named_loads : (bytes : List ℕ) (result : Result A Unloaded)
+      → LoadsOne (λ known. BytesGive known kind name) names As before now (Ok (Some bytes))
+      → ((file : List ℕ) (errored : Bool) → IsFile before.files file bytes → length bytes ≤ file_limit kind → LoadedBy (FileGives before.files kind Judges file) errored result)
+      → LoadsOne (λ known. Gives known kind Judges Unnamed name) names As before now result
+  named_loads bytes result l by =
+      let n = bytes_named before.files kind name bytes l.loaded in
+      loads_given (λ known. Gives known kind Judges Unnamed name) (Some bytes) result l
+      (subst (λ (named : Option (List ℕ)). LoadedBy (Gives before.files kind Judges Unnamed named) l.errored result) (sym n.is_named) (by n.file l.errored n.is_file n.few))
+
+  pub unnamed_loads : (result : Result A Unloaded) → LoadsOne (λ known. BytesGive known kind name) names As before now (Ok None)
+      → ((errored : Bool) → LoadedBy (StandsFor kind Unnamed) errored result)
+      → LoadsOne (λ known. Gives known kind Judges Unnamed name) names As before now result
+  unnamed_loads result l by =
+      loads_given (λ known. Gives known kind Judges Unnamed name) None result l
+      (subst (λ (named : Option (List ℕ)). LoadedBy (Gives before.files kind Judges Unnamed named) l.errored result) (sym (none_is_named before.files kind name l.loaded)) (by l.errored))
+
+  pub unread_loads : (u : Unloaded) → LoadsOne (λ known. BytesGive known kind name) names As before now (Err u)
+      → LoadsOne (λ known. Gives known kind Judges Unnamed name) names As before now (Err u)
+  unread_loads u l =
+      loads_not (λ known. Gives known kind Judges Unnamed name) u l (bytes_unloaded before.files kind Judges Unnamed name l.errored u l.loaded)

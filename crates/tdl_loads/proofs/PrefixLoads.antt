@@ -1,6 +1,6 @@
 -- The load of a list of company prefix lengths, by how its file was read.
 use Rattle.std.proofs.Common.{◌≡◌, ℕ, ◌≤◌, List, Option, Some, length, refl, sym, ◌∙◌, ap, inl, inr}
-use Rattle.std.specs.Prelude.{Result, Ok, Err}
+use Rattle.std.specs.Prelude.{Bool, Result, Ok, Err}
 use Rattle.gs_port.specs.Files.{IsFile}
 use Rattle.gs_prefix.specs.Answers.{OrMemory, load_answer}
 use Rattle.gs_prefix.specs.declared.entry.PrefixEntry.{PrefixEntry}
@@ -15,23 +15,23 @@ use Rattle.tdl_loads.specs.LoadsSupport.{LoadedBy}
 use Rattle.tdl_loads.specs.Reads.{PrefixesUnloadedAs}
 
 -- a list that was judged is loaded, or rejected, or memory ran out
-known_prefixes : (Give : Result (List PrefixEntry) Stop → Type 0) (before now : ℕ) (answer judgement : Result (List PrefixEntry) PrefixFault) (result : Result (List PrefixEntry) Unloaded)
+known_prefixes : (Give : Result (List PrefixEntry) Stop → Type 0) (errored : Bool) (answer judgement : Result (List PrefixEntry) PrefixFault) (result : Result (List PrefixEntry) Unloaded)
     → OrMemory answer judgement → PrefixesUnloadedAs answer result → Give (of_verdict kind.Prefixes (prefixes_verdict judgement))
-    → LoadedBy Give before now result
-known_prefixes Give before now answer judgement (Ok list) (inl none) u give = absurd (let f : Ok list ≡ Err prefix.Memory = sym u ∙ none in cc)
-known_prefixes Give before now answer judgement (Ok list) (inr same) u give =
+    → LoadedBy Give errored result
+known_prefixes Give errored answer judgement (Ok list) (inl none) u give = absurd (let f : Ok list ≡ Err prefix.Memory = sym u ∙ none in cc)
+known_prefixes Give errored answer judgement (Ok list) (inr same) u give =
     let is : judgement ≡ Ok list = sym same ∙ u in
     let g : Give (of_verdict kind.Prefixes (prefixes_verdict (Ok list))) = rw is at give in g
-known_prefixes Give before now answer judgement (Err unloaded.Memory) o u give = tt
-known_prefixes Give before now answer judgement (Err unloaded.ReadFault) o u give = absurd u
-known_prefixes Give before now answer judgement (Err (unloaded.Refused rejection)) (inl none) u give = absurd (u.0 none)
-known_prefixes Give before now answer judgement (Err (unloaded.Refused rejection)) (inr same) u give =
+known_prefixes Give errored answer judgement (Err unloaded.Memory) o u give = tt
+known_prefixes Give errored answer judgement (Err unloaded.ReadFault) o u give = absurd u
+known_prefixes Give errored answer judgement (Err (unloaded.Refused rejection)) (inl none) u give = absurd (u.0 none)
+known_prefixes Give errored answer judgement (Err (unloaded.Refused rejection)) (inr same) u give =
     let is : of_verdict kind.Prefixes (prefixes_verdict judgement) ≡ Err (rejected rejection) = ap (λ a. of_verdict kind.Prefixes (prefixes_verdict a)) (sym same) ∙ u.1 in
     rw is at give
 
-pub file_loaded : (files : Option (List (List ℕ × List ℕ))) (name bytes : List ℕ) (before now : ℕ) (answer : Result (List PrefixEntry) PrefixFault) (result : Result (List PrefixEntry) Unloaded)
+pub file_loaded : (files : Option (List (List ℕ × List ℕ))) (name bytes : List ℕ) (errored : Bool) (answer : Result (List PrefixEntry) PrefixFault) (result : Result (List PrefixEntry) Unloaded)
     → IsFile files name bytes → length bytes ≤ file_limit kind.Prefixes → OrMemory answer (load_answer bytes)
-    → PrefixesUnloadedAs answer result → LoadedBy (PrefixesGive files (Some name)) before now result
-file_loaded files name bytes before now answer result is few load u =
-    known_prefixes (PrefixesGive files (Some name)) before now answer (load_answer bytes) result load u
+    → PrefixesUnloadedAs answer result → LoadedBy (PrefixesGive files (Some name)) errored result
+file_loaded files name bytes errored answer result is few load u =
+    known_prefixes (PrefixesGive files (Some name)) errored answer (load_answer bytes) result load u
     (judged bytes (prefixes_verdict (load_answer bytes)) is few refl refl)

@@ -1,6 +1,6 @@
 -- Loads, by how files were read.
 use Rattle.std.proofs.Common.{◌≡◌, ℕ, ◌≤◌, false, true, List, [], Option, Some, None, length, refl, sym, ◌∙◌, ap}
-use Rattle.std.specs.Prelude.{Result, Ok, Err, is_some}
+use Rattle.std.specs.Prelude.{Bool, Result, Ok, Err, is_some}
 use Rattle.gs_tables_document.specs.declared.error.LoadFault.{LoadFault}
 use Rattle.gs_tables_document.specs.declared.error.LoadFault.TheVariants.{Memory as OutOfMemory}
 use Rattle.gs_port.specs.Files.{IsFile}
@@ -29,28 +29,28 @@ use Rattle.tdl_loads.proofs.FlatLoads.{flat_parts}
 -- ---- the tables of a file
 
 -- tables that were judged are loaded, or rejected, or memory ran out
-known_tables : (Give : Result TablesWithSource Stop → Type 0) (before now : ℕ) (source : List ℕ) (answer : Result TableRows LoadFault) (result : Result TablesWithSource Unloaded)
+known_tables : (Give : Result TablesWithSource Stop → Type 0) (errored : Bool) (source : List ℕ) (answer : Result TableRows LoadFault) (result : Result TablesWithSource Unloaded)
     → UnloadedAs source answer result → (HasMemory answer → Give (of_verdict kind.Tables (tables_verdict source answer)))
-    → LoadedBy Give before now result
-known_tables Give before now source answer (Ok given) u give =
+    → LoadedBy Give errored result
+known_tables Give errored source answer (Ok given) u give =
     let enough : HasMemory answer = λ none. let f : Err (Tables OutOfMemory) ≡ Ok given = sym (ap (tables_verdict source) none) ∙ u in cc in
     let g = give enough in
     rw u at g
-known_tables Give before now source answer (Err unloaded.Memory) u give = tt
-known_tables Give before now source answer (Err unloaded.ReadFault) u give = absurd u
-known_tables Give before now source answer (Err (unloaded.Refused rejection)) u give = let g = give u.0 in rw u.1 at g
+known_tables Give errored source answer (Err unloaded.Memory) u give = tt
+known_tables Give errored source answer (Err unloaded.ReadFault) u give = absurd u
+known_tables Give errored source answer (Err (unloaded.Refused rejection)) u give = let g = give u.0 in rw u.1 at g
 
-pub file_loaded : (files : Option (List (List ℕ × List ℕ))) (name bytes : List ℕ) (before now : ℕ) (answer : Result TableRows LoadFault) (result : Result TablesWithSource Unloaded)
+pub file_loaded : (files : Option (List (List ℕ × List ℕ))) (name bytes : List ℕ) (errored : Bool) (answer : Result TableRows LoadFault) (result : Result TablesWithSource Unloaded)
     → IsFile files name bytes → length bytes ≤ file_limit kind.Tables → LoadAnswer bytes answer → UnloadedAs bytes answer result
-    → LoadedBy (TablesGive files (Some name)) before now result
-file_loaded files name bytes before now answer result is few load u =
-    known_tables (TablesGive files (Some name)) before now bytes answer result u
+    → LoadedBy (TablesGive files (Some name)) errored result
+file_loaded files name bytes errored answer result is few load u =
+    known_tables (TablesGive files (Some name)) errored bytes answer result u
     (λ enough. judged bytes (tables_verdict bytes answer) is few (record { answer = answer; enough = enough; is_answer = load; is = refl }) refl)
 
-pub own_loaded : (files : Option (List (List ℕ × List ℕ))) (before now : ℕ) (answer : Result TableRows LoadFault) (result : Result TablesWithSource Unloaded)
-    → BuiltInAnswer answer → UnloadedAs [] answer result → LoadedBy (TablesGive files None) before now result
-own_loaded files before now answer result load u =
-    known_tables (TablesGive files None) before now [] answer result u
+pub own_loaded : (files : Option (List (List ℕ × List ℕ))) (errored : Bool) (answer : Result TableRows LoadFault) (result : Result TablesWithSource Unloaded)
+    → BuiltInAnswer answer → UnloadedAs [] answer result → LoadedBy (TablesGive files None) errored result
+own_loaded files errored answer result load u =
+    known_tables (TablesGive files None) errored [] answer result u
     (λ enough. record { verdict = tables_verdict [] answer; judged = record { answer = answer; enough = enough; is_answer = load; is = refl }; is = refl })
 
 -- ---- tables that are loaded have an answer of their load, and so has their document, which is that of the named file

@@ -1,12 +1,14 @@
 -- Definitions next to those of Loads.antt, for proofs and private functions.
-use Rattle.std.specs.Prelude.{◌≡◌, ◌⊎◌, ℕ, ◌≤◌, Bool, false, true, List, [], ◌++◌, Option, Some, None, is_some, option_to_list, Result, Ok, Err}
+use Rattle.std.specs.Prelude.{◌≡◌, ◌⊎◌, ℕ, Bool, false, true, List, [], ◌++◌, Option, Some, None, is_some, option_to_list, Result, Ok, Err}
 use Rattle.gs_ai.specs.declared.row.AiRow.{AiRow}
 use Rattle.gs_class.specs.Sets.{ClassRows, IsClear, IsOfTable}
 use Rattle.gs_http.specs.declared.resolver.Settings.{Settings}
 use Rattle.gs_links.specs.declared.link.Link.{Link}
 use Rattle.gs_linkset.specs.declared.link_types.Context.{Context}
 use Rattle.gs_linkset.specs.Answers.{read_answer}
-use Rattle.gs_port.specs.Counts.{Rises}
+use Rattle.gs_port.specs.Counts.{count_if}
+use Rattle.gs_port.specs.Files.{with_names}
+use Rattle.gs_port.specs.States.{FilesState}
 use Rattle.gs_prefix.specs.Answers.{load_answer}
 use Rattle.gs_prefix.specs.declared.entry.PrefixEntry.{PrefixEntry}
 use Rattle.gs_tables.specs.MigratedSets.{Loads as LoadsTables}
@@ -17,6 +19,7 @@ use Rattle.tdl_arguments.specs.Requests.{Asked, FileNames, Values, classes_named
 use Rattle.tdl_messages.specs.declared.file_kind.FileKind.{FileKind}
 use Rattle.tdl_messages.specs.declared.file_kind.FileKind.TheVariants as kind
 use Rattle.tdl_messages.specs.declared.rejection.FileFault.{FileFault}
+use Rattle.tdl_messages.specs.declared.rejection.Rejection.{Rejection}
 use Rattle.tdl_loads.specs.declared.loads.Linked.{Linked}
 use Rattle.tdl_loads.specs.declared.loads.Loaded.{Loaded}
 use Rattle.tdl_loads.specs.declared.loads.Tabled.{Tabled}
@@ -127,42 +130,42 @@ PartsGive files asked answer = Then (TabledGive files asked.files) (GivesLinks f
 -- ---- loads
 
 -- trusted, own: Holds if the answer of a load is the result of the files, a read fault, or out of memory. A read fault occurs
--- only if the files counted an error or a file is missing.
-abbrev pub LoadedBy : {A : Type 0} → (Result A Stop → Type 0) → ℕ → ℕ → Result A Unloaded → Type 0
-LoadedBy Give before now (Ok a) = Give (Ok a)
-LoadedBy Give before now (Err (Refused rejection)) = Give (Err (rejected rejection))
-LoadedBy Give before now (Err ReadFault) = Rises before now ⊎ ((kind : FileKind) × Give (Err (missing kind)))
-LoadedBy Give before now (Err Memory) = Unit {0}
+-- only if the files counted an error, which `errored` says, or a file is missing.
+abbrev pub LoadedBy : {A : Type 0} → (Result A Stop → Type 0) → Bool → Result A Unloaded → Type 0
+LoadedBy Give errored (Ok a) = Give (Ok a)
+LoadedBy Give errored (Err (Refused rejection)) = Give (Err (rejected rejection))
+LoadedBy Give errored (Err ReadFault) = (errored ≡ true) ⊎ ((kind : FileKind) × Give (Err (missing kind)))
+LoadedBy Give errored (Err Memory) = Unit {0}
 
 -- holds if the answer of a load of tables is that of the built-in ones, whatever the files are
 abbrev pub IsOfBuiltIn : Result TablesWithSource Unloaded → Type 0
-IsOfBuiltIn answer = (files : Option FilesInMemory) (before now : ℕ) → LoadedBy (TablesGive files None) before now answer
+IsOfBuiltIn answer = (files : Option FilesInMemory) (errored : Bool) → LoadedBy (TablesGive files None) errored answer
 
--- trusted, own: the known facts of files at a moment: their contents, the opened names, and their count of errors
-pub record FilesKnown : Type 0 where
-  pub files : Option FilesInMemory
-  pub opened : Option (List (List ℕ))
-  pub errors : ℕ
+-- trusted, own: the files after a load, which counted an error or none: the opened names, whether a file is current, and what is
+-- left of it are those now
+abbrev pub after_load : Bool → FilesState → FilesState → FilesState
+after_load errored now files =
+    record files { opened = now.opened; is_open = now.is_open; left = now.left; errors = count_if errored files.errors }
 
--- trusted, own: the files with these contents, opened names and errors
-abbrev pub files_known : Option FilesInMemory → Option (List (List ℕ)) → ℕ → FilesKnown
-files_known files opened errors = record { files = files; opened = opened; errors = errors }
-
--- trusted, own: Holds if `answer`, of a load of the files `names` between two moments, is the result of the files. The first of
--- the names were opened, in their order, and all if the load succeeded. The opened ones may be unknown only if memory ran out.
--- If there are no names, the files are unchanged.
-pub record Loads {A : Type 0} (Give : Option FilesInMemory → Result A Stop → Type 0) (names : List (List ℕ)) (AsTheyWere : Type 0) (before now : FilesKnown) (answer : Result A Unloaded) : Type 0 where
-  pub loaded : LoadedBy (Give before.files) before.errors now.errors answer
+-- trusted, own: Holds if `answer`, of a load of the files `names` between two moments, is the result of the files. An error was
+-- counted only with a read fault. The first of the names were opened, in their order: all if the load succeeded, and those up
+-- to the rejected file if one is rejected. The function `up_to` gives the names up to the file of a kind. No file was opened after
+-- the one at which the load stops, if the files are known. The opened names may be unknown only if memory ran out. If there are
+-- no names, the files are unchanged.
+pub record Loads {A : Type 0} (Give : Option FilesInMemory → Result A Stop → Type 0) (up_to : FileKind → List (List ℕ)) (names : List (List ℕ)) (AsTheyWere : Type 0) (before now : FilesState) (answer : Result A Unloaded) : Type 0 where
+  pub errored : Bool
+  pub rest : now ≡ after_load errored now before
+  pub faulted : errored ≡ true → answer ≡ Err ReadFault
+  pub loaded : LoadedBy (Give before.files) errored answer
   pub opened : OpensFirst (is_load_short answer) names before.opened now.opened
   pub all_opened : Opens names before.opened now.opened answer
+  pub to_rejected : (rejection : Rejection) → answer ≡ Err (Refused rejection) → now.opened ≡ with_names before.opened (up_to rejection.kind)
+  pub decided : (known : FilesInMemory) (stop : Stop) → before.files ≡ Some known → Give before.files (Err stop) → OpensFirst (is_load_short answer) (up_to (kind_of stop)) before.opened now.opened
   pub unopened : names ≡ [] → AsTheyWere
-  pub known : now.files ≡ before.files
-  pub counts : before.errors ≤ now.errors
 
--- trusted, own: Holds if no file was opened after the one at which the load stops, if the files are known. The function `up_to`
--- gives the names up to the file of a kind. The opened names may be unknown only if memory was lost
-pub record StopsOpening {A : Type 0} (Give : Option FilesInMemory → Result A Stop → Type 0) (up_to : FileKind → List (List ℕ)) (lost : Bool) (before now : FilesKnown) : Type 0 where
-  pub decided : (known : FilesInMemory) (stop : Stop) → before.files ≡ Some known → Give before.files (Err stop) → OpensFirst lost (up_to (kind_of stop)) before.opened now.opened
+-- holds if `answer` is that of a load of one file, or of none
+abbrev pub LoadsOne : {A : Type 0} → (Option FilesInMemory → Result A Stop → Type 0) → List (List ℕ) → Type 0 → FilesState → FilesState → Result A Unloaded → Type 0
+LoadsOne Give names AsTheyWere before now answer = Loads Give (λ kind. names) names AsTheyWere before now answer
 
 -- the names of the files of links after the first, up to the one of a kind
 abbrev pub others_up_to : FileKind → FileNames → List (List ℕ)
@@ -190,7 +193,7 @@ rest_up_to other files = links_named files
 
 -- holds if the answer of a load of classes is that of the default ones if no file is named
 abbrev pub AreUnnamedClasses : List AiRow → Command → Result ClassRows Unloaded → Type 0
-AreUnnamedClasses ais command answer = (before now : ℕ) → LoadedBy (StandsFor kind.Classes (UnnamedClasses ais (is_of_classes command))) before now answer
+AreUnnamedClasses ais command answer = (errored : Bool) → LoadedBy (StandsFor kind.Classes (UnnamedClasses ais (is_of_classes command))) errored answer
 
 -- holds if the classes are of the table, and no text has two readings by them
 pub record AreKept (ais : List AiRow) (set : ClassRows) : Type 0 where

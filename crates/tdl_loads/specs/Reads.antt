@@ -23,13 +23,6 @@ use Rattle.tdl_loads.specs.declared.loads.Unloaded.{Unloaded}
 use Rattle.tdl_loads.specs.declared.loads.Unloaded.TheVariants.{Refused, ReadFault, Memory}
 use Rattle.tdl_loads.specs.Loads.{FilesInMemory, classes_verdict, of_verdict, prefixes_verdict, rejected, tables_verdict}
 
--- holds if the answer is the bytes of a named file, that it has too many, or an error
-abbrev pub ReadBy : Option FilesInMemory → FileKind → List ℕ → ℕ → ℕ → Result (List ℕ) Unloaded → Type 0
-ReadBy files kind name before now (Ok bytes) = IsFile files name bytes × (length bytes ≤ file_limit kind)
-ReadBy files kind name before now (Err (Refused rejection)) = (bytes : List ℕ) × IsFile files name bytes × (file_limit kind < length bytes) × (rejection ≡ record { kind = kind; error = Over })
-ReadBy files kind name before now (Err ReadFault) = Rises before now ⊎ IsAbsent files name
-ReadBy files kind name before now (Err Memory) = Unit {0}
-
 -- holds if this is the answer of a load of tables of a document, with out of memory as no rejection
 abbrev pub UnloadedAs : List ℕ → Result TableRows LoadFault → Result TablesWithSource Unloaded → Type 0
 UnloadedAs source answer (Ok given) = tables_verdict source answer ≡ Ok given

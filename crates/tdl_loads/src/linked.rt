@@ -3,8 +3,8 @@ ghost use Rattle.gs_merge.specs.MergedDocuments.{merge_answer};
 ghost use Rattle.tdl_messages.specs.declared.file_kind.FileKind.TheVariants.{Merge as OfMerge};
 ghost use Rattle.tdl_arguments.specs.Ranges.{is_vocabulary};
 ghost use Rattle.tdl_arguments.specs.Requests.{known_files, known_values, links_named};
-ghost use Rattle.tdl_loads.specs.Loads.{is_load_short, merge_verdict, merged_with, merging, link_errors, places_errors};
-ghost use Rattle.tdl_loads.specs.LoadsSupport.{LinkedGive, Loads, StopsOpening, files_known, links_up_to};
+ghost use Rattle.tdl_loads.specs.Loads.{merge_verdict, merged_with, merging, link_errors, places_errors};
+ghost use Rattle.tdl_loads.specs.LoadsSupport.{LinkedGive, Loads, links_up_to};
 ghost use Rattle.tdl_loads.specs.Reads.{JudgedAs};
 ghost use Rattle.gs_chars.specs.Answers.{first_or};
 
@@ -90,18 +90,11 @@ pub fn load_linked<F: Files>(
     files: &mut F,
 ) -> Result<Linked, Unloaded>
     requires { is_vocabulary values.voc.now ≡ true }
-    ensures loads { Loads
-        (λ known. LinkedGive known (known_files named.entry) (known_values values.entry) ais.now)
-        (links_named (known_files named.entry))
-        (files.new ≡ files.old)
-        (files_known (F.files files.old) (F.opened files.old) (F.errors files.old))
-        (files_known (F.files files.new) (F.opened files.new) (F.errors files.new)) result }
-    ensures decided { StopsOpening
+    ensures { Loads
         (λ known. LinkedGive known (known_files named.entry) (known_values values.entry) ais.now)
         (λ kind. links_up_to kind (known_files named.entry))
-        (is_load_short result)
-        (files_known (F.files files.old) (F.opened files.old) (F.errors files.old))
-        (files_known (F.files files.new) (F.opened files.new) (F.errors files.new)) }
+        (links_named (known_files named.entry)) (files.new ≡ files.old)
+        (F.state files.old) (F.state files.new) result }
 {
     let voc = values.voc;
     let links = load_links(alloc, ais, voc, values.templates, named.links, files)?;

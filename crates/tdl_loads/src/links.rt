@@ -7,7 +7,7 @@ ghost use Rattle.tdl_messages.specs.declared.file_kind.FileKind.TheVariants.{Lin
 ghost use Rattle.tdl_arguments.specs.Ranges.{is_vocabulary};
 ghost use Rattle.tdl_arguments.specs.Requests.{known_links, known_name, name_of_links};
 ghost use Rattle.tdl_loads.specs.Loads.{JudgesFile, JudgesText, LinksGive, OtherGives, links_verdict, other_verdict, placed, store_verdict};
-ghost use Rattle.tdl_loads.specs.LoadsSupport.{Loads, files_known};
+ghost use Rattle.tdl_loads.specs.LoadsSupport.{LoadsOne};
 ghost use Rattle.tdl_loads.specs.Reads.{JudgedAs, JudgedBy, unread_text};
 
 use crate::linked::judge_places;
@@ -206,11 +206,9 @@ pub fn load_links<F: Files>(
     files: &mut F,
 ) -> Result<Store, Unloaded>
     requires { is_vocabulary voc.now ≡ true }
-    ensures { Loads (λ known. LinksGive known templates ais.now voc.now (known_links file.entry))
-        (option_to_list (option_map name_of_links (known_links file.entry)))
-        (files.new ≡ files.old)
-        (files_known (F.files files.old) (F.opened files.old) (F.errors files.old))
-        (files_known (F.files files.new) (F.opened files.new) (F.errors files.new)) result }
+    ensures { LoadsOne (λ known. LinksGive known templates ais.now voc.now (known_links file.entry))
+        (option_to_list (option_map name_of_links (known_links file.entry))) (files.new ≡ files.old)
+        (F.state files.old) (F.state files.new) result }
 {
     let judging = Judging {
         kind: FileKind::Links,
@@ -259,11 +257,9 @@ pub fn load_other<F: Files>(
     files: &mut F,
 ) -> Result<Option<Store>, Unloaded>
     requires { is_vocabulary voc.now ≡ true }
-    ensures { Loads (λ known. OtherGives known kind ais.now voc.now (known_name name.entry))
-        (option_to_list (known_name name.entry))
-        (files.new ≡ files.old)
-        (files_known (F.files files.old) (F.opened files.old) (F.errors files.old))
-        (files_known (F.files files.new) (F.opened files.new) (F.errors files.new)) result }
+    ensures { LoadsOne (λ known. OtherGives known kind ais.now voc.now (known_name name.entry))
+        (option_to_list (known_name name.entry)) (files.new ≡ files.old)
+        (F.state files.old) (F.state files.new) result }
 {
     match read_if_named(alloc, kind, name, files) {
         Ok(Some(bytes)) => judge_other(alloc, kind, ais, voc, bytes),

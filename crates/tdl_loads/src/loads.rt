@@ -1,8 +1,8 @@
 ghost use Rattle.std.specs.Prelude.{◌≡◌, true};
 ghost use Rattle.tdl_arguments.specs.Ranges.{is_vocabulary};
 ghost use Rattle.tdl_arguments.specs.Requests.{all_named, description_named, known_files, known_request, known_values, tables_named};
-ghost use Rattle.tdl_loads.specs.Loads.{FilesGive, is_load_short, named_up_to};
-ghost use Rattle.tdl_loads.specs.LoadsSupport.{Loads, SettingsGive, StopsOpening, TabledGive, files_known};
+ghost use Rattle.tdl_loads.specs.Loads.{FilesGive, named_up_to};
+ghost use Rattle.tdl_loads.specs.LoadsSupport.{Loads, LoadsOne, SettingsGive, TabledGive};
 
 use crate::linked::load_linked;
 use crate::named_files::{load_classes, load_prefixes, load_tables, read_if_named};
@@ -112,16 +112,10 @@ fn load_tabled<F: Files>(
     named: NamedFiles<'_>,
     files: &mut F,
 ) -> Result<Tabled, Unloaded>
-    ensures loads { Loads (λ known. TabledGive known (known_files named.entry))
-        (tables_named (known_files named.entry))
-        (files.new ≡ files.old)
-        (files_known (F.files files.old) (F.opened files.old) (F.errors files.old))
-        (files_known (F.files files.new) (F.opened files.new) (F.errors files.new)) result }
-    ensures decided { StopsOpening (λ known. TabledGive known (known_files named.entry))
+    ensures { Loads (λ known. TabledGive known (known_files named.entry))
         (λ kind. named_up_to kind (known_files named.entry))
-        (is_load_short result)
-        (files_known (F.files files.old) (F.opened files.old) (F.errors files.old))
-        (files_known (F.files files.new) (F.opened files.new) (F.errors files.new)) }
+        (tables_named (known_files named.entry)) (files.new ≡ files.old)
+        (F.state files.old) (F.state files.new) result }
 {
     let given = load_tables(alloc, named.tables, files)?;
     let prefixes = load_prefixes(alloc, named.prefixes, files)?;
@@ -140,11 +134,9 @@ fn load_settings<F: Files>(
     named: NamedFiles<'_>,
     files: &mut F,
 ) -> Result<Settings, Unloaded>
-    ensures { Loads (λ known. SettingsGive known (known_files named.entry) (known_values values.entry))
-        (description_named (known_files named.entry))
-        (files.new ≡ files.old)
-        (files_known (F.files files.old) (F.opened files.old) (F.errors files.old))
-        (files_known (F.files files.new) (F.opened files.new) (F.errors files.new)) result }
+    ensures { LoadsOne (λ known. SettingsGive known (known_files named.entry) (known_values values.entry))
+        (description_named (known_files named.entry)) (files.new ≡ files.old)
+        (F.state files.old) (F.state files.new) result }
 {
     let describe = read_if_named(alloc, FileKind::Describe, named.describe, files)?;
     let voc = Text::from_bytes(alloc, values.voc.as_bytes())?;
@@ -165,15 +157,10 @@ pub fn load_files<F: Files>(
     files: &mut F,
 ) -> Result<Loaded, Unloaded>
     requires { is_vocabulary request.values.voc.now ≡ true }
-    ensures loads { Loads (λ known. FilesGive known (known_request request.entry)) (all_named request.entry)
-        (files.new ≡ files.old)
-        (files_known (F.files files.old) (F.opened files.old) (F.errors files.old))
-        (files_known (F.files files.new) (F.opened files.new) (F.errors files.new)) result }
-    ensures decided { StopsOpening (λ known. FilesGive known (known_request request.entry))
+    ensures { Loads (λ known. FilesGive known (known_request request.entry))
         (λ kind. named_up_to kind (known_request request.entry).files)
-        (is_load_short result)
-        (files_known (F.files files.old) (F.opened files.old) (F.errors files.old))
-        (files_known (F.files files.new) (F.opened files.new) (F.errors files.new)) }
+        (all_named request.entry) (files.new ≡ files.old)
+        (F.state files.old) (F.state files.new) result }
 {
     let Request {
         command,

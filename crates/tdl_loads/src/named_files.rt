@@ -1,9 +1,8 @@
-ghost use Rattle.std.specs.Prelude.{◌≡◌, ◌≤◌, [], ◌∷◌, option_to_list};
-ghost use Rattle.gs_port.specs.Files.{AddsNames};
+ghost use Rattle.std.specs.Prelude.{◌≡◌, option_to_list};
 ghost use Rattle.tdl_arguments.specs.Requests.{known_name};
-ghost use Rattle.tdl_loads.specs.Loads.{BytesGive, is_load_short, PrefixesGive, ClassesGive, is_of_classes, TablesGive};
-ghost use Rattle.tdl_loads.specs.LoadsSupport.{Loads, files_known, AreUnnamedClasses, IsOfBuiltIn};
-ghost use Rattle.tdl_loads.specs.Reads.{ReadBy, PrefixesUnloadedAs, ClassesUnloadedAs, UnloadedAs};
+ghost use Rattle.tdl_loads.specs.Loads.{BytesGive, PrefixesGive, ClassesGive, is_of_classes, TablesGive};
+ghost use Rattle.tdl_loads.specs.LoadsSupport.{LoadsOne, AreUnnamedClasses, IsOfBuiltIn};
+ghost use Rattle.tdl_loads.specs.Reads.{PrefixesUnloadedAs, ClassesUnloadedAs, UnloadedAs};
 
 use crate::loads::{TablesWithSource, Unloaded};
 use gs_ai::AiTable;
@@ -16,48 +15,29 @@ use std::alloc::Global;
 use tdl_arguments::Command;
 use tdl_messages::{FileFault, FileKind, Rejection};
 
-/// Reads the bytes of the named file of a kind. Rejects it as `Over` if and only if it has more bytes than its kind may have.
-fn read_named<F: Files>(
-    alloc: Global,
-    kind: FileKind,
-    name: &str,
-    files: &mut F,
-) -> Result<Text, Unloaded>
-    ensures read { ReadBy (F.files files.old) kind name.now (F.errors files.old) (F.errors files.new) result }
-    ensures opened { AddsNames (is_load_short result) (F.opened files.old) (name.now ∷ [])
-        (F.opened files.new) }
-    ensures known { F.files files.new ≡ F.files files.old }
-    ensures counts { F.errors files.old ≤ F.errors files.new }
-{
-    match read_file(alloc, files, name, kind.limit()) {
-        Ok(bytes) => Ok(bytes),
-        Err(ReadingFault::Over(_)) => Err(Unloaded::Refused(Rejection {
-            kind,
-            error: FileFault::Over,
-        })),
-        Err(ReadingFault::Failed) => Err(Unloaded::ReadFault),
-        Err(ReadingFault::Memory) => Err(Unloaded::Memory),
-    }
-}
-
-/// Reads the bytes of the named file of a kind, or returns `None` if none is named.
+/// Reads the bytes of the named file of a kind, or returns `None` if none is named. Rejects the file as `Over` if and only if it
+/// has more bytes than its kind may have.
 pub fn read_if_named<F: Files>(
     alloc: Global,
     kind: FileKind,
     name: Option<&str>,
     files: &mut F,
 ) -> Result<Option<Text>, Unloaded>
-    ensures { Loads (λ known. BytesGive known kind (known_name name.entry))
+    ensures { LoadsOne (λ known. BytesGive known kind (known_name name.entry))
         (option_to_list (known_name name.entry)) (files.new ≡ files.old)
-        (files_known (F.files files.old) (F.opened files.old) (F.errors files.old))
-        (files_known (F.files files.new) (F.opened files.new) (F.errors files.new)) result }
+        (F.state files.old) (F.state files.new) result }
 {
-    match name {
-        Some(name) => match read_named(alloc, kind, name, files) {
-            Ok(bytes) => Ok(Some(bytes)),
-            Err(unloaded) => Err(unloaded),
-        },
-        None => Ok(None),
+    let Some(name) = name else {
+        return Ok(None);
+    };
+    match read_file(alloc, files, name, kind.limit()) {
+        Ok(bytes) => Ok(Some(bytes)),
+        Err(ReadingFault::Over(_)) => Err(Unloaded::Refused(Rejection {
+            kind,
+            error: FileFault::Over,
+        })),
+        Err(ReadingFault::Failed) => Err(Unloaded::ReadFault),
+        Err(ReadingFault::Memory) => Err(Unloaded::Memory),
     }
 }
 
@@ -81,10 +61,9 @@ pub fn load_prefixes<F: Files>(
     name: Option<&str>,
     files: &mut F,
 ) -> Result<PrefixList, Unloaded>
-    ensures { Loads (λ known. PrefixesGive known (known_name name.entry))
+    ensures { LoadsOne (λ known. PrefixesGive known (known_name name.entry))
         (option_to_list (known_name name.entry)) (files.new ≡ files.old)
-        (files_known (F.files files.old) (F.opened files.old) (F.errors files.old))
-        (files_known (F.files files.new) (F.opened files.new) (F.errors files.new)) result }
+        (F.state files.old) (F.state files.new) result }
 {
     match read_if_named(alloc, FileKind::Prefixes, name, files) {
         Ok(Some(bytes)) => list_of(PrefixList::load(alloc, bytes.as_bytes())),
@@ -136,10 +115,9 @@ pub fn load_classes<F: Files>(
     name: Option<&str>,
     files: &mut F,
 ) -> Result<ClassSet, Unloaded>
-    ensures { Loads (λ known. ClassesGive known ais.now command (known_name name.entry))
+    ensures { LoadsOne (λ known. ClassesGive known ais.now command (known_name name.entry))
         (option_to_list (known_name name.entry)) (files.new ≡ files.old)
-        (files_known (F.files files.old) (F.opened files.old) (F.errors files.old))
-        (files_known (F.files files.new) (F.opened files.new) (F.errors files.new)) result }
+        (F.state files.old) (F.state files.new) result }
 {
     match read_if_named(alloc, FileKind::Classes, name, files) {
         Ok(Some(bytes)) => classes_of(ClassSet::load(alloc, ais, bytes.as_bytes())),
@@ -178,10 +156,9 @@ pub fn load_tables<F: Files>(
     name: Option<&str>,
     files: &mut F,
 ) -> Result<TablesWithSource, Unloaded>
-    ensures { Loads (λ known. TablesGive known (known_name name.entry))
+    ensures { LoadsOne (λ known. TablesGive known (known_name name.entry))
         (option_to_list (known_name name.entry)) (files.new ≡ files.old)
-        (files_known (F.files files.old) (F.opened files.old) (F.errors files.old))
-        (files_known (F.files files.new) (F.opened files.new) (F.errors files.new)) result }
+        (F.state files.old) (F.state files.new) result }
 {
     match read_if_named(alloc, FileKind::Tables, name, files) {
         Ok(Some(source)) => tables_of(TableSet::load(alloc, source.as_bytes()), source),

@@ -1,4 +1,5 @@
-ghost use Rattle.std.specs.Prelude.{◌≡◌, ◌++◌, IfOk, OnOk, ℕ, List};
+ghost use Rattle.std.specs.Prelude.{◌≡◌, ◌++◌, IfOk, OnErr, OnOk, ℕ, List};
+ghost use Rattle.gs_chars.specs.Answers.{BeginsWith};
 ghost use Rattle.tdl_lines.specs.Outputs.{accepted, printed, rejected};
 ghost use Rattle.tdl_messages.specs.AnswerLines.{AddsLine, HasMemory};
 ghost use Rattle.tdl_messages.specs.Rejections.{numbered_twice};
@@ -7,16 +8,18 @@ use gs_chars::{Memory, Text};
 use gs_translate::{Reason, append_number, append_numbered, append_reason, append_word};
 use std::alloc::Global;
 
-/// Appends `ok TEXT` and a line feed.
+/// Appends `ok TEXT` and a line feed. Fails only with `Memory`; `out` then begins with its old contents.
 pub fn append_accepted(out: &mut Vec<u8>, text: &[u8]) -> Result<(), Memory>
-    ensures { OnOk result (out.new.items ≡ out.old.items ++ printed (accepted text.now)) }
+    ensures line { OnOk result (out.new.items ≡ out.old.items ++ printed (accepted text.now)) }
+    ensures begun { OnErr result (BeginsWith out.new.items out.old.items) }
 {
     out.extend_from_slice(b"ok ")?;
     out.extend_from_slice(text)?;
     Ok(out.push(b'\n')?)
 }
 
-/// Appends `no REASON` and a line feed. A reason that memory ran out has no line: it is the answer.
+/// Appends `no REASON` and a line feed. A reason that memory ran out has no line: it is the result. Fails only with `Memory`;
+/// `out` then begins with its old contents.
 pub fn append_rejected<R: Reasoned>(
     alloc: Global,
     out: &mut Vec<u8>,
@@ -24,6 +27,7 @@ pub fn append_rejected<R: Reasoned>(
 ) -> Result<(), Memory>
     ensures line { OnOk result (out.new.items ≡ out.old.items ++ printed (rejected (R.text reason.now))) }
     ensures known { OnOk result (R.is_memory reason.now → ⊥) }
+    ensures begun { OnErr result (BeginsWith out.new.items out.old.items) }
 {
     out.extend_from_slice(b"no ")?;
     reason.append(alloc, out)?;
@@ -31,6 +35,7 @@ pub fn append_rejected<R: Reasoned>(
 }
 
 /// Appends the line of an answer, and returns whether it is a rejection. The reason `Memory` has no line: it is the result.
+/// Fails only with `Memory`; `out` then begins with its old contents.
 pub fn append_line<R: Reasoned>(
     alloc: Global,
     out: &mut Vec<u8>,
@@ -38,6 +43,7 @@ pub fn append_line<R: Reasoned>(
 ) -> Result<bool, Memory>
     ensures line { IfOk result (λ rejected. AddsLine R.text answer out.old.items out.new.items rejected) }
     ensures known { IfOk result (λ _. HasMemory R.is_memory answer) }
+    ensures begun { OnErr result (BeginsWith out.new.items out.old.items) }
 {
     match answer {
         Ok(text) => {
@@ -59,11 +65,12 @@ pub trait Reasoned: Drop {
     /// The reason is that memory ran out, which no line says.
     ghost is_memory: { Self → Type 0 };
 
-    /// Appends the text of the reason. Returns `Memory` if memory ran out, here or as the reason itself; `out` may then have a
-    /// part of the text.
+    /// Appends the text of the reason. Fails only with `Memory`, if memory ran out here or as the reason itself; `out` then
+    /// begins with its old contents.
     fn append(&self, alloc: Global, out: &mut Vec<u8>) -> Result<(), Memory>
         ensures text { OnOk result (out.new.items ≡ out.old.items ++ text self.now) }
-        ensures known { OnOk result (is_memory self.now → ⊥) };
+        ensures known { OnOk result (is_memory self.now → ⊥) }
+        ensures begun { OnErr result (BeginsWith out.new.items out.old.items) };
 }
 
 impl Reasoned for Reason {

@@ -4,6 +4,7 @@
 //!   and `append_rejected` append either.
 //! - `rejected_line` is the printed line of a rejected file. docs/TABLES.md has the text of each error in 'Why tables are
 //!   rejected' and similar sections. The texts of the reasons of translations are in gs_translate.
+//! - `fault_text` is the reason of such a line alone.
 //! - `FileKind` has the word of each kind of file, and the most bytes that such a file may have.
 //!
 //! # Example
@@ -30,4 +31,4 @@ mod rejections;
 pub use answer_lines::{Reasoned, append_accepted, append_line, append_rejected};
 pub use file_kind::FileKind;
 pub use rejection::{FileFault, Rejection};
-pub use rejections::rejected_line;
+pub use rejections::{fault_text, rejected_line};

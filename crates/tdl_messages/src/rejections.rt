@@ -206,6 +206,15 @@ fn append_error(alloc: Global, out: &mut Vec<u8>, error: &FileFault) -> Result<(
     }
 }
 
+/// Returns the printed reason why a file is rejected. Fails only with `Memory`.
+pub fn fault_text(alloc: Global, error: &FileFault) -> Result<Vec<u8>, Memory>
+    ensures { IfOk result (λ text. text.items ≡ error_text error.now) }
+{
+    let mut text = Vec::new(alloc);
+    append_error(alloc, &mut text, error)?;
+    Ok(text)
+}
+
 /// Returns the line of a rejected file: `refused WHICH REASON`, and a line feed.
 pub fn rejected_line(alloc: Global, rejection: &Rejection) -> Result<Vec<u8>, Memory>
     ensures { IfOk result (λ line. line.items ≡ rejected_line rejection.now) }

@@ -9,17 +9,16 @@ use Rattle.tdl_lines.specs.Inputs.{IsKnown}
 use Rattle.tdl_lines.specs.Outputs.{AnswersInput, LineAnswer, status_of}
 use Rattle.tdl_lines.specs.Statuses.{is_answered, is_status, is_written}
 use Rattle.gs_http.specs.Sites.{SiteData}
-use Rattle.gs_port.specs.Connections.{Finished}
 use Rattle.gs_port.specs.Counts.{Rises}
 use Rattle.tdl_arguments.specs.Commands.{Work, answers_lines, is_on_lines}
 use Rattle.tdl_arguments.specs.Requests.{Asked, WordsInOrder}
 use Rattle.tdl_arguments.proofs.RequestLemmas.{one_request}
-use Rattle.tdl_run.specs.Requests.{AskedRan}
+use Rattle.tdl_run.specs.Requests.{RequestRan, world_at}
 use Rattle.tdl_loads.specs.Loads.{FilesGive, Stop, missing}
 use Rattle.tdl_run.specs.RanSupport.{AskedRun}
-use Rattle.tdl_run.specs.Runs.{Counts, DefinedRun, InputFits, IsDoneOrMemory, IsMissing, IsWithin, LoadsAll, NoneRises, World}
+use Rattle.tdl_run.specs.Runs.{DefinedRun, InputFits, IsDoneOrMemory, IsWithin, LoadsAll, Moment, NoneRises, RunCause, World}
 use Rattle.tdl_run.specs.Works.{Doing, DoingRun, Doorway, Leaves, Outcome, answers, doing_of, input_limit, prints, resolves, serves, site_of}
-use Rattle.tdl_run.proofs.RunLemmas.{defined_of, read_error_of}
+use Rattle.tdl_run.proofs.RunLemmas.{defined_of, read_error_of, write_error_of}
 
 -- ---- defined outcomes are answered
 
@@ -67,45 +66,43 @@ answered_run words world outcome loads fits (inr (not, e)) = absurd (not loads.a
 -- ---- no other status comes
 
 -- no read error has a cause
-no_cause : (words : List (List ℕ)) (world : World) (before now : Counts) → LoadsAll words world.files → NoneRises before now
-    → (Rises before.input_errors now.input_errors ⊎ Rises before.door_errors now.door_errors) ⊎ (Rises before.file_errors now.file_errors ⊎ IsMissing words world.files)
-    → ⊥
-no_cause words world before now loads none (inl (inl rises)) = none.input rises
-no_cause words world before now loads none (inl (inr rises)) = none.door rises
-no_cause words world before now loads none (inr (inl rises)) = none.files rises
-no_cause words world before now loads none (inr (inr m)) =
+no_cause : (words : List (List ℕ)) (before now : Moment) → LoadsAll words before.files.files → NoneRises before now
+    → RunCause words before.files.files before now → ⊥
+no_cause words before now loads none (inl (inl rises)) = none.input rises
+no_cause words before now loads none (inl (inr rises)) = none.door rises
+no_cause words before now loads none (inr (inl rises)) = none.files rises
+no_cause words before now loads none (inr (inr m)) =
     let same : m.asked ≡ loads.asked = one_request words m.asked loads.asked m.order loads.order in
-    let gives : FilesGive world.files loads.asked (Err (missing m.fact.0)) = rw same at m.fact.1 in
+    let gives : FilesGive before.files.files loads.asked (Err (missing m.fact.0)) = rw same at m.fact.1 in
     loads.fact (missing m.fact.0) gives
 
-module _ (words : List (List ℕ)) (world : World) (before now : Counts) (held holds : Option (List ℕ))
-    (ended ended' : Option (List Finished)) (loads : LoadsAll words world.files) (fits : InputFits words world.input)
+module _ (words : List (List ℕ)) (before now : Moment) (loads : LoadsAll words before.files.files) (fits : InputFits words before.input.left)
     (none : NoneRises before now) where
+  -- the output and the finished connections of a defined outcome
+  abbrev LeavesDefined : Status → Type 0
+  LeavesDefined s = Leaves before.output.held now.output.held before.door.aside.finished now.door.aside.finished s (DefinedRun words (world_at before))
+
   -- all that is defined was written
-  done_by : (s : Status) → Leaves held holds ended ended' s (DefinedRun words world) → IsDoneOrMemory s
+  done_by : (s : Status) → LeavesDefined s → IsDoneOrMemory s
   done_by s a =
       let w = a.2 in
-      inl (answered_run words world (record { output = w.0; finished = a.0; status = s }) loads fits w.2)
+      inl (answered_run words (world_at before) (record { output = w.0; finished = a.0; status = s }) loads fits w.2)
 
-  pub complete_of : (s : Status) → OnTrue (is_written s) (Leaves held holds ended ended' s (DefinedRun words world))
-      → OnTrue (is_status s status.ReadFault) ((Rises before.input_errors now.input_errors ⊎ Rises before.door_errors now.door_errors) ⊎ (Rises before.file_errors now.file_errors ⊎ IsMissing words world.files))
-      → OnTrue (is_status s status.WriteFault) (Rises before.output_errors now.output_errors) → IsDoneOrMemory s
-  complete_of status.Done defined read write = done_by status.Done defined
-  complete_of status.SomeRefused defined read write = done_by status.SomeRefused defined
-  complete_of status.Usage defined read write = done_by status.Usage defined
-  complete_of status.Refused defined read write = done_by status.Refused defined
-  complete_of status.InputLong defined read write = done_by status.InputLong defined
-  complete_of status.ReadFault defined read write = absurd (no_cause words world before now loads none read)
-  complete_of status.WriteFault defined read write = absurd (none.output write)
-  complete_of status.Memory defined read write = inr refl
+  complete_by : (s : Status) → OnTrue (is_written s) (LeavesDefined s)
+      → OnTrue (is_status s status.ReadFault) (RunCause words before.files.files before now)
+      → OnTrue (is_status s status.WriteFault) (Rises before.output.errors now.output.errors) → IsDoneOrMemory s
+  complete_by status.Done defined read write = done_by status.Done defined
+  complete_by status.SomeRefused defined read write = done_by status.SomeRefused defined
+  complete_by status.Usage defined read write = done_by status.Usage defined
+  complete_by status.Refused defined read write = done_by status.Refused defined
+  complete_by status.InputLong defined read write = done_by status.InputLong defined
+  complete_by status.ReadFault defined read write = absurd (no_cause words before now loads none read)
+  complete_by status.WriteFault defined read write = absurd (none.output write)
+  complete_by status.Memory defined read write = inr refl
 
 -- the outcome of the request of the arguments
-pub complete_asked : (words : List (List ℕ)) (asked : Asked) (world : World) (before now : Counts) (left held holds : Option (List ℕ)) (ended ended' : Option (List Finished)) (s : Status)
-    → WordsInOrder words asked → Leaves held holds ended ended' s (AskedRan asked world before now left) → LoadsAll words world.files
-    → InputFits words world.input → NoneRises before now → IsDoneOrMemory s
-complete_asked words asked world before now left held holds ended ended' s order a loads fits none =
-    let w = a.2 in
-    complete_of words world before now held holds ended ended' loads fits none s
-    (defined_of words asked world before now left held holds ended ended' s order a)
-    (read_error_of words asked world before now left (record { output = w.0; finished = a.0; status = s }) order w.2)
-    w.2.write_error
+pub complete_of : {words : List (List ℕ)} {asked : Asked} {SameFiles SameInput SameDoor : Type 0} {before now : Moment} {s : Status}
+    → WordsInOrder words asked → RequestRan asked SameFiles SameInput SameDoor before now s → LoadsAll words before.files.files
+    → InputFits words before.input.left → NoneRises before now → IsDoneOrMemory s
+complete_of {words = words} {before = before} {now = now} {s = s} order r loads fits none =
+    complete_by words before now loads fits none s (defined_of order r) (read_error_of order r) (write_error_of order r)

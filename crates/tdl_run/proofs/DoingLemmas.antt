@@ -18,7 +18,7 @@ use Rattle.tdl_lines.specs.Statuses.{is_status}
 use Rattle.tdl_lines.proofs.OneOutcome.{one_outcome}
 use Rattle.tdl_lines.proofs.StatusLemmas.{when_map}
 use Rattle.gs_http.specs.Sites.{SiteData}
-use Rattle.gs_port.specs.Connections.{Finished}
+use Rattle.gs_port.specs.Asides.{Finished}
 use Rattle.gs_tables.specs.Judgements.{IsLoaded}
 use Rattle.gs_translate.specs.StepsSupport.{HasOne, HasSome}
 use Rattle.tdl_loads.specs.declared.loads.Loaded.{Loaded}

@@ -1,28 +1,43 @@
 -- The effects of commands, by the lines that they answered or the line that they printed.
 use Rattle.std.proofs.Common.{◌≡◌, ◌≢◌, ℕ, ◌+◌, ◌++◌, ◌≤◌, Bool, true, false, List, [], Option, None, Some, append-nil, ap, refl, sym, ◌∙◌, arith}
+use Rattle.std.proofs.lemmas.Grind.{common_steps}
 use Rattle.std.specs.Prelude.{option_map}
 use Rattle.std.specs.Bool.{OnTrue}
 use Rattle.tdl_lines.specs.declared.status.Status.{Status}
 use Rattle.tdl_lines.specs.declared.status.Status.TheVariants as status
 use Rattle.tdl_lines.specs.Inputs.{IsAtEnd, TakesAtMost, TakesMoreThan}
-use Rattle.tdl_lines.specs.Outputs.{Appends, BeginsInput, LineAnswer, WritesAnswers}
+use Rattle.tdl_lines.specs.Outputs.{BeginsInput, LineAnswer, WritesAnswers}
 use Rattle.tdl_lines.specs.OutputsSupport.{HasAnswers}
 use Rattle.tdl_lines.specs.Printers.{IsInitialPart, PrintedAs}
 use Rattle.tdl_lines.specs.Statuses.{is_answered, is_cut_short, is_status, is_written}
 use Rattle.tdl_lines.proofs.OneOutcome.{some_outcome, whole_of_part}
 use Rattle.tdl_lines.proofs.StatusLemmas.{when_always, when_map}
-use Rattle.gs_port.specs.Connections.{Finished}
+use Rattle.gs_port.specs.Asides.{Finished}
 use Rattle.gs_port.specs.Contents.{prepend_nothing}
-use Rattle.gs_port.specs.Counts.{Rises}
+use Rattle.gs_port.specs.Counts.{Rises, count_if}
+use Rattle.gs_port.specs.Outputs.{Writes}
+use Rattle.gs_port.specs.States.{ConnState, SinkState, SourceState}
 use Rattle.gs_translate.specs.StepsSupport.{HasSome}
-use Rattle.tdl_run.specs.CommandRuns.{BeginsOne, CutShort, LinesRan, Moment, Ran}
-use Rattle.tdl_run.specs.Works.{Leaves, LinesAnswered, Outcome, input_limit, outcome_of}
+use Rattle.tdl_arguments.specs.declared.command.Command.{Command}
+use Rattle.tdl_arguments.specs.Commands.{answers_heads, reads_input, uses_door}
+use Rattle.tdl_arguments.specs.Requests.{Values}
+use Rattle.tdl_loads.specs.declared.loads.Loaded.{Loaded}
+use Rattle.tdl_serve.specs.Resolutions.{StreamServed, stream_of}
+use Rattle.tdl_run.specs.CommandRuns.{BeginsOne, CutShort, LinesRan, Ran}
+use Rattle.tdl_run.specs.RanSupport.{CommandLeft, CommandRan, LeavesOutcome, ends_of}
+use Rattle.tdl_run.specs.Works.{LinesAnswered, Outcome, input_limit, outcome_of, site_of}
 
 -- ---- counts
 
--- an unchanged count does not fall
-pub same_count : (before now : ℕ) → before ≡ now → before ≤ now
-same_count before now e = omega arith
+-- a count with an error rises
+pub rises_if : (errored : Bool) (before now : ℕ) → now ≡ count_if errored before → OnTrue errored (Rises before now)
+rises_if true before now e = rw e (omega arith)
+rises_if false before now e = tt
+
+-- a count does not fall
+pub never_falls : (errored : Bool) (before now : ℕ) → now ≡ count_if errored before → before ≤ now
+never_falls true before now e = rw e (grind (arith, common_steps))
+never_falls false before now e = omega arith
 
 -- ---- lines
 
@@ -54,26 +69,22 @@ cut_by Is input output s some b =
     record { outcome = outcome_of h.output h.status; is = (h.answers, refl); begins = h.begins; same_finished = refl }
 
 -- A command on the lines of its input, by the relation of texts and their answers.
-pub ran_of_lines : (Is : List ℕ → LineAnswer → Type 0) (before now : Moment) (output : List ℕ) (s : Status) → HasAnswers Is
-    → WritesAnswers Is input_limit before.input now.input output s → OnTrue (is_answered s) (IsAtEnd now.input)
-    → OnTrue (is_status s status.InputLong) (TakesMoreThan input_limit before.input now.input)
-    → TakesAtMost (input_limit + 1) before.input now.input
-    → OnTrue (is_status s status.ReadFault) (Rises before.input_errors now.input_errors)
-    → OnTrue (is_status s status.WriteFault) (Rises before.output_errors now.output_errors) → before.input_errors ≤ now.input_errors
-    → before.output_errors ≤ now.output_errors → s ≢ status.Usage → s ≢ status.Refused → LinesRan Is before now (outcome_of output s)
-ran_of_lines Is before now output s some writes end long few read write inputs outputs usage rejection = record {
+pub ran_of_lines : (Is : List ℕ → LineAnswer → Type 0) (before now : SourceState) (output : List ℕ) (s : Status) → HasAnswers Is
+    → WritesAnswers Is input_limit before.left now.left output s → OnTrue (is_answered s) (IsAtEnd now.left)
+    → OnTrue (is_status s status.InputLong) (TakesMoreThan input_limit before.left now.left)
+    → TakesAtMost (input_limit + 1) before.left now.left → now.errors ≡ count_if (is_status s status.ReadFault) before.errors
+    → s ≢ status.Usage → s ≢ status.Refused → LinesRan Is before now (outcome_of output s)
+ran_of_lines Is before now output s some writes end long few count usage rejection = record {
   written = when_map (is_written s) (λ a. (a, refl)) writes.all;
-  begun = when_map (is_cut_short s) (begins_by Is before.input output some) writes.first;
+  begun = when_map (is_cut_short s) (begins_by Is before.left output some) writes.first;
   finished = when_always (is_cut_short s) refl;
-  cut = when_cut s (cut_by Is before.input output s some) writes.first;
-  read_error = read;
+  cut = when_cut s (cut_by Is before.left output s some) writes.first;
+  read_error = rises_if (is_status s status.ReadFault) before.errors now.errors count;
   ended = writes.ended;
-  write_error = write;
   to_end = when_map (is_answered s) (λ e lines. e) end;
   long = long;
   few = λ lines. few;
-  input_counts = inputs;
-  output_counts = outputs;
+  input_counts = never_falls (is_status s status.ReadFault) before.errors now.errors count;
   no_usage = usage;
   no_rejection = rejection;
 }
@@ -100,27 +111,23 @@ pub takes_nothing : (most : ℕ) (input : Option (List ℕ)) → TakesAtMost mos
 takes_nothing most input = ([], omega arith, sym (prepend_nothing input))
 
 -- the facts of a command that leaves the input unchanged and finished no connection, by its status, which is not a read error
-module _ (Is : Outcome → Type 0) (Ended : List ℕ → Type 0) (Cause : Type 0) (lines : Bool) where
-  ran_by : (before now : Moment) (output : List ℕ) (s : Status) → OnTrue (is_written s) (Is (outcome_of output s))
+module _ (Is : Outcome → Type 0) (Ended : List ℕ → Type 0) (Cause : Type 0) (lines : Bool) (input : SourceState) where
+  ran_by : (output : List ℕ) (s : Status) → OnTrue (is_written s) (Is (outcome_of output s))
       → OnTrue (is_cut_short s) (BeginsOne Is output) → OnTrue (is_status s status.WriteFault) (CutShort Is (outcome_of output s))
-      → is_status s status.ReadFault ≡ false → OnTrue (is_status s status.WriteFault) (Rises before.output_errors now.output_errors)
-      → OnTrue (is_answered s) (lines ≡ true → IsAtEnd now.input)
-      → OnTrue (is_status s status.InputLong) (TakesMoreThan input_limit before.input now.input) → before.input ≡ now.input
-      → before.input_errors ≡ now.input_errors → before.output_errors ≤ now.output_errors → s ≢ status.Usage → s ≢ status.Refused
-      → Ran Is Ended (λ status finished. finished ≡ []) Cause lines before now (outcome_of output s)
-  ran_by before now output s written begun cut errorless write end long same inputs outputs usage rejection = record {
+      → is_status s status.ReadFault ≡ false → OnTrue (is_answered s) (lines ≡ true → IsAtEnd input.left)
+      → OnTrue (is_status s status.InputLong) (TakesMoreThan input_limit input.left input.left) → s ≢ status.Usage → s ≢ status.Refused
+      → Ran Is Ended (λ status finished. finished ≡ []) Cause lines input input (outcome_of output s)
+  ran_by output s written begun cut errorless end long usage rejection = record {
     written = written;
     begun = begun;
     finished = when_always (is_cut_short s) refl;
     cut = cut;
     read_error = rw errorless tt;
     ended = rw errorless tt;
-    write_error = write;
     to_end = end;
     long = long;
-    few = λ lines. rw same (takes_nothing (input_limit + 1) now.input);
-    input_counts = same_count _ _ inputs;
-    output_counts = outputs;
+    few = λ lines. takes_nothing (input_limit + 1) input.left;
+    input_counts = omega arith;
     no_usage = usage;
     no_rejection = rejection;
   }
@@ -132,27 +139,24 @@ module _ (Is : Outcome → Type 0) (Ended : List ℕ → Type 0) (Cause : Type 0
   cut_some line output s is part = record { outcome = outcome_of line s; is = is; begins = part; same_finished = refl }
 
   -- A command that reads nothing, and prints one line.
-  pub ran_of_line : (line : List ℕ) (before now : Moment) (output : List ℕ) (s : Status) → Is (outcome_of line status.Done)
-      → PrintedAs status.Done line output s → OnTrue (is_status s status.WriteFault) (Rises before.output_errors now.output_errors)
-      → lines ≡ false → before.input ≡ now.input → before.input_errors ≡ now.input_errors → before.output_errors ≤ now.output_errors
-      → Ran Is Ended (λ status finished. finished ≡ []) Cause lines before now (outcome_of output s)
-  ran_of_line line before now output s is printed write none same inputs outputs = by (printed_case status.Done line output s printed)
+  pub ran_of_line : (line output : List ℕ) (s : Status) → Is (outcome_of line status.Done) → PrintedAs status.Done line output s → lines ≡ false
+      → Ran Is Ended (λ status finished. finished ≡ []) Cause lines input input (outcome_of output s)
+  ran_of_line line output s is printed none = by (printed_case status.Done line output s printed)
     where
-      no_lines : lines ≡ true → IsAtEnd now.input
+      no_lines : lines ≡ true → IsAtEnd input.left
       no_lines does = absurd (let e : false ≡ true = sym none ∙ does in cc)
 
-      by : PrintedCase status.Done line output s → Ran Is Ended (λ status finished. finished ≡ []) Cause lines before now (outcome_of output s)
-      by (whole e f) = rw (e, f) (ran_by before now line status.Done is tt tt refl tt no_lines tt same inputs outputs (λ e. cc) (λ e. cc))
-      by (error e p) = let w : Rises before.output_errors now.output_errors = rw e at write in rw e
-          (ran_by before now output status.WriteFault tt (begins_some line output status.Done is p) (cut_some line output status.Done is p) refl w tt tt same inputs outputs (λ e. cc) (λ e. cc))
-      by (no_memory e p) = rw e (ran_by before now output status.Memory tt (begins_some line output status.Done is p) tt refl tt tt tt same inputs outputs (λ e. cc) (λ e. cc))
+      by : PrintedCase status.Done line output s → Ran Is Ended (λ status finished. finished ≡ []) Cause lines input input (outcome_of output s)
+      by (whole e f) = rw (e, f) (ran_by line status.Done is tt tt refl no_lines tt (λ e. cc) (λ e. cc))
+      by (error e p) = rw e (ran_by output status.WriteFault tt (begins_some line output status.Done is p) (cut_some line output status.Done is p) refl tt tt (λ e. cc) (λ e. cc))
+      by (no_memory e p) = rw e (ran_by output status.Memory tt (begins_some line output status.Done is p) tt refl tt tt (λ e. cc) (λ e. cc))
 
   begins_any : HasSome Is → BeginsOne Is []
   begins_any some = record { outcome = some.0; is = some.1; begins = (0, refl) }
 
   -- A command that did nothing, since memory ran out.
-  pub ran_of_memory : (before : Moment) → HasSome Is → Ran Is Ended (λ status finished. finished ≡ []) Cause lines before before (outcome_of [] status.Memory)
-  ran_of_memory before some = ran_by before before [] status.Memory tt (begins_any some) tt refl tt tt tt refl refl (omega arith) (λ e. cc) (λ e. cc)
+  pub ran_of_memory : HasSome Is → Ran Is Ended (λ status finished. finished ≡ []) Cause lines input input (outcome_of [] status.Memory)
+  ran_of_memory some = ran_by [] status.Memory tt (begins_any some) tt refl tt tt (λ e. cc) (λ e. cc)
 
 -- ---- the listener
 
@@ -161,6 +165,22 @@ none_more None = refl
 none_more (Some before) = ap Some (sym (append-nil before))
 
 -- the output, if the listener is unchanged
-pub leaves_door : (held holds : Option (List ℕ)) (ended : Option (List Finished)) (s : Status) (fact : Outcome → Type 0)
-    → Appends held holds (λ output. fact (outcome_of output s)) → Leaves held holds ended ended s fact
-leaves_door held holds ended s fact a = ([], none_more ended, a)
+pub leaves_door : (output output' : SinkState) (door : ConnState) (s : Status) (fact : Outcome → Type 0)
+    → Writes (is_status s status.WriteFault) output output' (λ out. fact (outcome_of out s)) → LeavesOutcome output output' door door s fact
+leaves_door output output' door s fact w = ([], none_more door.aside.finished, w)
+
+-- a command that leaves the listener unchanged
+pub left_door : {command : Command} {values : Values} {loaded : Loaded} {SameInput SameDoor : Type 0} {input input' : SourceState} {output output' : SinkState} {door : ConnState} {s : Status}
+    → uses_door command ≡ false
+    → (answers_heads command ≡ true → StreamServed (site_of loaded) s (stream_of input.left output.held) (stream_of input'.left output'.held))
+    → (reads_input command ≡ false → SameInput) → SameDoor
+    → Writes (is_status s status.WriteFault) output output' (λ out. CommandLeft command values loaded (ends_of input output door) (ends_of input' output' door) (outcome_of out s))
+    → CommandRan command values loaded SameInput SameDoor (ends_of input output door) (ends_of input' output' door) s
+left_door {command = command} {values = values} {loaded = loaded} {input = input} {input' = input'} {output = output} {output' = output'} {door = door} {s = s} none served unread unserved writes = record {
+  ran = leaves_door output output' door s (CommandLeft command values loaded (ends_of input output door) (ends_of input' output' door)) writes;
+  served = served;
+  unread = unread;
+  unserved = λ e. unserved;
+  used = λ uses. absurd (let e : false ≡ true = sym none ∙ uses in cc);
+  door_counts = omega arith;
+}

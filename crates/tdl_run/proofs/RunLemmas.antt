@@ -1,127 +1,35 @@
 -- Each clause of a run, by the outcome of the request of the arguments.
-use Rattle.std.proofs.Common.{◌≡◌, ◌⊎◌, inl, inr, ℕ, ◌+◌, Bool, true, false, List, [], ◌∷◌, Option, refl, ◌∙◌, ap, arith}
+use Rattle.std.proofs.Common.{◌≡◌, ◌⊎◌, inl, inr, ℕ, ◌+◌, ◌≤◌, Bool, true, false, List, [], ◌∷◌, refl, ◌∙◌, ap, arith}
 use Rattle.std.specs.Bool.{OnTrue}
 use Rattle.std.specs.List.{Contains}
+use Rattle.std.proofs.lemmas.Bool.{false_from_ne_true}
 use Rattle.tdl_lines.specs.declared.status.Status.{Status}
 use Rattle.tdl_lines.specs.declared.status.Status.TheVariants as status
-use Rattle.tdl_lines.specs.Inputs.{TakesAtMost}
-use Rattle.tdl_lines.specs.Outputs.{Appends}
-use Rattle.tdl_lines.specs.Printers.{IsInitialPart, PrintedAs}
-use Rattle.tdl_lines.specs.Statuses.{is_cut_short, is_status, is_written}
+use Rattle.tdl_lines.specs.Inputs.{IsAtEnd, TakesAtMost}
+use Rattle.tdl_lines.specs.Printers.{IsInitialPart, WritesLine}
+use Rattle.tdl_lines.specs.Statuses.{is_answered, is_cut_short, is_status, is_written}
 use Rattle.tdl_lines.proofs.StatusLemmas.{when_always, when_map}
-use Rattle.gs_port.specs.Connections.{Finished}
 use Rattle.gs_port.specs.Counts.{Rises}
+use Rattle.gs_port.specs.Outputs.{written_to}
+use Rattle.gs_port.specs.States.{ConnState, SinkState}
 use Rattle.tdl_arguments.specs.declared.command.Command.{Command}
-use Rattle.tdl_arguments.specs.Commands.{answers_heads, answers_lines, uses_door}
+use Rattle.tdl_arguments.specs.Commands.{answers_heads, answers_lines, reads_input, uses_door}
 use Rattle.tdl_arguments.specs.Requests.{Asked, AsksFor, NamesNoFile, NotInOrder, WordsInOrder, names_in_order, usage_line}
 use Rattle.tdl_arguments.proofs.RequestLemmas.{one_request}
-use Rattle.tdl_run.specs.Requests.{AskedRan, ReadCause}
 use Rattle.tdl_run.specs.CommandRuns.{BeginsOne, CutShort}
-use Rattle.tdl_run.specs.RanSupport.{AskedEnded, AskedListens, AskedLoads, AskedRun, AskedServes}
-use Rattle.tdl_run.specs.Runs.{BeginsRun, Counts, CutRun, DefinedRun, EndedRun, FinishedRun, IsMissing, IsRejected, ListensAt, LoadsSome, ServesInput, World, WritesAfterError}
-use Rattle.tdl_run.specs.Works.{Leaves, Outcome, input_limit, outcome_of}
-use Rattle.tdl_run.proofs.RanLemmas.{PrintedCase, error, leaves_door, no_memory, printed_case, whole}
-use Rattle.std.proofs.lemmas.Bool.{false_from_ne_true}
+use Rattle.tdl_run.specs.RanSupport.{AskedEnded, AskedRun}
+use Rattle.tdl_run.specs.Requests.{ReadCause, RequestRan, world_at}
+use Rattle.tdl_run.specs.Runs.{BeginsRun, CutRun, DefinedRun, EndedRun, FinishedRun, IsRejected, ListensAt, LoadsSome, Moment, OpensAll, RunCause, ServesInput, World, WritesAfterError}
+use Rattle.tdl_run.specs.Works.{Appends, Leaves, Outcome, input_limit, outcome_of}
+use Rattle.tdl_run.proofs.RanLemmas.{PrintedCase, error, never_falls, no_memory, none_more, printed_case, rises_if, whole}
 
--- ---- arguments that ask for something
-
-pub defined_of : (words : List (List ℕ)) (asked : Asked) (world : World) (before now : Counts) (left held holds : Option (List ℕ)) (ended ended' : Option (List Finished)) (s : Status)
-    → WordsInOrder words asked → Leaves held holds ended ended' s (AskedRan asked world before now left)
-    → OnTrue (is_written s) (Leaves held holds ended ended' s (DefinedRun words world))
-defined_of words asked world before now left held holds ended ended' s order a = let w = a.2 in when_map (is_written s)
-    (λ run. (a.0, a.1, (w.0, w.1, inl (record { asked = asked; order = order; fact = run })))) w.2.written
-
-begins_words : (words : List (List ℕ)) (asked : Asked) (world : World) (output : List ℕ) → WordsInOrder words asked
-    → BeginsOne (AskedRun asked world) output → BeginsRun words world output
-begins_words words asked world output order b = record { outcome = b.outcome; is = inl (record { asked = asked; order = order; fact = b.is }); begins = b.begins }
-
-pub begun_of : (words : List (List ℕ)) (asked : Asked) (world : World) (before now : Counts) (left held holds : Option (List ℕ)) (ended ended' : Option (List Finished)) (s : Status)
-    → WordsInOrder words asked → Leaves held holds ended ended' s (AskedRan asked world before now left)
-    → OnTrue (is_cut_short s) (Appends held holds (BeginsRun words world))
-begun_of words asked world before now left held holds ended ended' s order a = let w = a.2 in when_map (is_cut_short s)
-    (λ b. (w.0, w.1, begins_words words asked world w.0 order b)) w.2.begun
-
-pub finished_of : (words : List (List ℕ)) (asked : Asked) (world : World) (before now : Counts) (left held holds : Option (List ℕ)) (ended ended' : Option (List Finished)) (s : Status)
-    → WordsInOrder words asked → Leaves held holds ended ended' s (AskedRan asked world before now left)
-    → OnTrue (is_cut_short s) (Leaves held holds ended ended' s (FinishedRun words world))
-finished_of words asked world before now left held holds ended ended' s order a = let w = a.2 in when_map (is_cut_short s)
-    (λ f. (a.0, a.1, (w.0, w.1, inl (record { asked = asked; order = order; fact = f })))) w.2.finished
-
-cut_words : (words : List (List ℕ)) (asked : Asked) (world : World) (outcome : Outcome) → WordsInOrder words asked
-    → CutShort (AskedRun asked world) outcome → CutRun words world outcome
-cut_words words asked world outcome order c = record { outcome = c.outcome; is = inl (record { asked = asked; order = order; fact = c.is }); begins = c.begins; same_finished = c.same_finished }
-
-pub cut_of : (words : List (List ℕ)) (asked : Asked) (world : World) (before now : Counts) (left held holds : Option (List ℕ)) (ended ended' : Option (List Finished)) (s : Status)
-    → WordsInOrder words asked → Leaves held holds ended ended' s (AskedRan asked world before now left)
-    → OnTrue (is_status s status.WriteFault) (Leaves held holds ended ended' s (CutRun words world))
-cut_of words asked world before now left held holds ended ended' s order a = let w = a.2 in when_map (is_status s status.WriteFault)
-    (λ c. (a.0, a.1, (w.0, w.1, cut_words words asked world _ order c))) w.2.cut
-
-pub same_test : (test : Command → Bool) (words : List (List ℕ)) (asked : Asked) → WordsInOrder words asked → AsksFor test words → test asked.command ≡ true
+same_test : (test : Command → Bool) (words : List (List ℕ)) (asked : Asked) → WordsInOrder words asked → AsksFor test words → test asked.command ≡ true
 same_test test words asked order asks =
     let same : asked ≡ asks.asked = one_request words asked asks.asked order asks.order in
     ap (λ (x : Asked). test x.command) same ∙ asks.fact
 
-pub few_of : (words : List (List ℕ)) (asked : Asked) (input left : Option (List ℕ)) → WordsInOrder words asked
-    → (answers_lines asked.command ≡ true → TakesAtMost (input_limit + 1) input left) → AsksFor answers_lines words
-    → TakesAtMost (input_limit + 1) input left
-few_of words asked input left order few lines = few (same_test answers_lines words asked order lines)
-
--- if not all files are loaded, nothing is touched
-pub loads_of : (Untouched : Type 0) (words : List (List ℕ)) (asked : Asked) (files : Option (List (List ℕ × List ℕ)))
-    → WordsInOrder words asked → Untouched ⊎ AskedLoads asked files → Untouched ⊎ LoadsSome words files
-loads_of Untouched words asked files order (inl same) = inl same
-loads_of Untouched words asked files order (inr loads) = inr (record { asked = asked; order = order; fact = loads })
-
--- a listener is opened at the requested address
-pub listens_of : (words : List (List ℕ)) (asked : Asked) (s : Status) (before now : Option (List (List ℕ))) → WordsInOrder words asked
-    → (uses_door asked.command ≡ true → AskedListens asked s before now) → AsksFor uses_door words → ListensAt words s before now
-listens_of words asked s before now order listens door =
-    record { asked = asked; order = order; fact = listens (same_test uses_door words asked order door) }
-
--- an input whose heads are answered
-pub served_of : (AsItWas : Type 0) (words : List (List ℕ)) (asked : Asked) (files : Option (List (List ℕ × List ℕ))) (left left' held held' : Option (List ℕ)) (s : Status)
-    → WordsInOrder words asked → (answers_heads asked.command ≡ true → AskedServes AsItWas asked files s left left' held held')
-    → AsksFor answers_heads words → ServesInput AsItWas words files s left left' held held'
-served_of AsItWas words asked files left left' held held' s order serves heads =
-    record { asked = asked; order = order; fact = serves (same_test answers_heads words asked order heads) }
-
-pub rejected_of : (words : List (List ℕ)) (asked : Asked) (world : World) (before now : Counts) (left : Option (List ℕ)) (outcome : Outcome)
-    → WordsInOrder words asked → AskedRan asked world before now left outcome
-    → OnTrue (is_status outcome.status status.Refused) (IsRejected words world.files)
-rejected_of words asked world before now left outcome order r = when_map (is_status outcome.status status.Refused)
-    (λ x. record { asked = asked; order = order; fact = x }) r.rejection
-
-cause_of : (words : List (List ℕ)) (asked : Asked) (world : World) (before now : Counts) → WordsInOrder words asked
-    → ReadCause asked world before now
-    → (Rises before.input_errors now.input_errors ⊎ Rises before.door_errors now.door_errors) ⊎ (Rises before.file_errors now.file_errors ⊎ IsMissing words world.files)
-cause_of words asked world before now order (inl rises) = inl rises
-cause_of words asked world before now order (inr (inl rises)) = inr (inl rises)
-cause_of words asked world before now order (inr (inr gives)) = inr (inr (record { asked = asked; order = order; fact = gives }))
-
-pub read_error_of : (words : List (List ℕ)) (asked : Asked) (world : World) (before now : Counts) (left : Option (List ℕ)) (outcome : Outcome)
-    → WordsInOrder words asked → AskedRan asked world before now left outcome
-    → OnTrue (is_status outcome.status status.ReadFault) ((Rises before.input_errors now.input_errors ⊎ Rises before.door_errors now.door_errors) ⊎ (Rises before.file_errors now.file_errors ⊎ IsMissing words world.files))
-read_error_of words asked world before now left outcome order r = when_map (is_status outcome.status status.ReadFault)
-    (cause_of words asked world before now order) r.read_error
-
--- the output after a read error
-ended_words : (Same Counted : Type 0) (words : List (List ℕ)) (asked : Asked) (files : Option (List (List ℕ × List ℕ))) (before now held holds : Option (List ℕ))
-    → WordsInOrder words asked → WritesAfterError Same Counted held holds (AskedEnded asked files before now)
-    → WritesAfterError Same Counted held holds (EndedRun words files before now)
-ended_words Same Counted words asked files before now held holds order (inl same) = inl same
-ended_words Same Counted words asked files before now held holds order (inr (counted, a)) = inr
-    (counted, (a.0, a.1, record { asked = asked; order = order; fact = a.2 }))
-
-pub ended_of : (Same Counted : Type 0) (words : List (List ℕ)) (asked : Asked) (files : Option (List (List ℕ × List ℕ))) (before now held holds : Option (List ℕ)) (s : Status)
-    → WordsInOrder words asked
-    → OnTrue (is_status s status.ReadFault) (WritesAfterError Same Counted held holds (AskedEnded asked files before now))
-    → OnTrue (is_status s status.ReadFault) (WritesAfterError Same Counted held holds (EndedRun words files before now))
-ended_of Same Counted words asked files before now held holds s order e = when_map (is_status s status.ReadFault)
-    (ended_words Same Counted words asked files before now held holds order) e
-
 -- the arguments ask for a command that does not pass a test
-pub asks_not : (test : Command → Bool) (words : List (List ℕ)) (asked : Asked) → WordsInOrder words asked → (AsksFor test words → ⊥)
+asks_not : (test : Command → Bool) (words : List (List ℕ)) (asked : Asked) → WordsInOrder words asked → (AsksFor test words → ⊥)
     → test asked.command ≡ false
 asks_not test words asked order none = false_from_ne_true (test asked.command) (λ passes. none (record { asked = asked; order = order; fact = passes }))
 
@@ -130,50 +38,143 @@ no_names : (names : List (List ℕ)) → ((name : List ℕ) → Contains names n
 no_names [] none = refl
 no_names (name ∷ names) none = absurd (none name (0, omega arith, refl))
 
-pub unopened_of : (words : List (List ℕ)) (asked : Asked) → WordsInOrder words asked → NamesNoFile words → names_in_order asked.files ≡ []
-unopened_of words asked order none = no_names (names_in_order asked.files) (λ name named. none name (record { asked = asked; order = order; fact = named }))
+-- ---- the count of a sink
+
+pub written_error : (before now : SinkState) (output : List ℕ) (s : Status) → now ≡ written_to before output (is_status s status.WriteFault)
+    → OnTrue (is_status s status.WriteFault) (Rises before.errors now.errors)
+written_error before now output s e = rises_if (is_status s status.WriteFault) before.errors now.errors (ap (λ (sink : SinkState). sink.errors) e)
+
+pub written_counts : (before now : SinkState) (output : List ℕ) (s : Status) → now ≡ written_to before output (is_status s status.WriteFault)
+    → before.errors ≤ now.errors
+written_counts before now output s e = never_falls (is_status s status.WriteFault) before.errors now.errors (ap (λ (sink : SinkState). sink.errors) e)
+
+-- ---- arguments that ask for something
+
+cause_of : (words : List (List ℕ)) (asked : Asked) (before now : Moment) → WordsInOrder words asked → ReadCause asked before now
+    → RunCause words before.files.files before now
+cause_of words asked before now order (inl rises) = inl rises
+cause_of words asked before now order (inr (inl rises)) = inr (inl rises)
+cause_of words asked before now order (inr (inr gives)) = inr (inr (record { asked = asked; order = order; fact = gives }))
+
+module _ {words : List (List ℕ)} {asked : Asked} (order : WordsInOrder words asked) {SameFiles SameInput SameDoor : Type 0} {before now : Moment} {s : Status}
+    (r : RequestRan asked SameFiles SameInput SameDoor before now s) where
+  pub defined_of : OnTrue (is_written s) (Leaves before.output.held now.output.held before.door.aside.finished now.door.aside.finished s (DefinedRun words (world_at before)))
+  defined_of = let a = r.ran in let w = a.2 in when_map (is_written s)
+      (λ run. (a.0, a.1, (w.0, ap (λ (sink : SinkState). sink.held) w.1, inl (record { asked = asked; order = order; fact = run })))) w.2.written
+
+  pub begun_of : OnTrue (is_cut_short s) (Appends before.output.held now.output.held (BeginsRun words (world_at before)))
+  begun_of = let a = r.ran in let w = a.2 in when_map (is_cut_short s)
+      (λ (b : BeginsOne (AskedRun asked (world_at before)) w.0). (w.0, ap (λ (sink : SinkState). sink.held) w.1, record { outcome = b.outcome; is = inl (record { asked = asked; order = order; fact = b.is }); begins = b.begins })) w.2.begun
+
+  pub finished_of : OnTrue (is_cut_short s) (Leaves before.output.held now.output.held before.door.aside.finished now.door.aside.finished s (FinishedRun words (world_at before)))
+  finished_of = let a = r.ran in let w = a.2 in when_map (is_cut_short s)
+      (λ f. (a.0, a.1, (w.0, ap (λ (sink : SinkState). sink.held) w.1, inl (record { asked = asked; order = order; fact = f })))) w.2.finished
+
+  pub cut_of : OnTrue (is_status s status.WriteFault) (Leaves before.output.held now.output.held before.door.aside.finished now.door.aside.finished s (CutRun words (world_at before)))
+  cut_of = let a = r.ran in let w = a.2 in when_map (is_status s status.WriteFault)
+      (λ (c : CutShort (AskedRun asked (world_at before)) (record { output = w.0; finished = a.0; status = s })).
+      (a.0, a.1, (w.0, ap (λ (sink : SinkState). sink.held) w.1, record { outcome = c.outcome; is = inl (record { asked = asked; order = order; fact = c.is }); begins = c.begins; same_finished = c.same_finished }))) w.2.cut
+
+  pub few_of : AsksFor answers_lines words → TakesAtMost (input_limit + 1) before.input.left now.input.left
+  few_of lines = let a = r.ran in let w = a.2 in w.2.few (same_test answers_lines words asked order lines)
+
+  -- the input is read to its end
+  pub to_end_of : AsksFor answers_lines words → OnTrue (is_answered s) (IsAtEnd now.input.left)
+  to_end_of lines = let a = r.ran in let w = a.2 in when_map (is_answered s) (λ ends. ends (same_test answers_lines words asked order lines)) w.2.to_end
+
+  -- if not all files are loaded, nothing is touched
+  pub loads_of : (SameInput × SameDoor) ⊎ LoadsSome words before.files.files
+  loads_of = elim r.untouched [
+    | inl same ↦ inl same
+    | inr loads ↦ inr (record { asked = asked; order = order; fact = loads })
+  ]
+
+  -- a listener is opened at the requested address
+  pub listens_of : AsksFor uses_door words → ListensAt words s before.door.aside.addresses now.door.aside.addresses
+  listens_of door = record { asked = asked; order = order; fact = r.listens (same_test uses_door words asked order door) }
+
+  -- an input whose heads are answered
+  pub served_of : AsksFor answers_heads words → ServesInput SameInput words before.files.files s before.input.left now.input.left before.output.held now.output.held
+  served_of heads = record { asked = asked; order = order; fact = r.served (same_test answers_heads words asked order heads) }
+
+  pub rejected_of : OnTrue (is_status s status.Refused) (IsRejected words before.files.files)
+  rejected_of = let a = r.ran in let w = a.2 in when_map (is_status s status.Refused) (λ gives. record { asked = asked; order = order; fact = gives }) w.2.rejection
+
+  pub read_error_of : OnTrue (is_status s status.ReadFault) (RunCause words before.files.files before now)
+  read_error_of = let a = r.ran in let w = a.2 in when_map (is_status s status.ReadFault) (cause_of words asked before now order) w.2.read_error
+
+  pub write_error_of : OnTrue (is_status s status.WriteFault) (Rises before.output.errors now.output.errors)
+  write_error_of = let a = r.ran in let w = a.2 in written_error before.output now.output w.0 s w.1
+
+  pub output_counts_of : before.output.errors ≤ now.output.errors
+  output_counts_of = let a = r.ran in let w = a.2 in written_counts before.output now.output w.0 s w.1
+
+  -- the output after a read error
+  ended_words : WritesAfterError SameInput (Rises before.input.errors now.input.errors) before.output.held now.output.held (AskedEnded asked before.files.files before.input.left now.input.left)
+      → WritesAfterError SameInput (Rises before.input.errors now.input.errors) before.output.held now.output.held (EndedRun words before.files.files before.input.left now.input.left)
+  ended_words (inl same) = inl same
+  ended_words (inr (counted, a)) = inr (counted, (a.0, a.1, record { asked = asked; order = order; fact = a.2 }))
+
+  pub ended_of : OnTrue (is_status s status.ReadFault)
+      (WritesAfterError SameInput (Rises before.input.errors now.input.errors) before.output.held now.output.held (EndedRun words before.files.files before.input.left now.input.left))
+  ended_of = when_map (is_status s status.ReadFault) ended_words r.read_error
+
+  pub unread_of : (AsksFor reads_input words → ⊥) → SameInput
+  unread_of none = r.unread (asks_not reads_input words asked order none)
+
+  pub unserved_of : (AsksFor uses_door words → ⊥) → SameDoor
+  unserved_of none = r.unserved (asks_not uses_door words asked order none)
+
+  pub unopened_of : NamesNoFile words → SameFiles
+  unopened_of none = r.unopened (no_names (names_in_order asked.files) (λ name named. none name (record { asked = asked; order = order; fact = named })))
+
+  pub all_opened_of : OpensAll s words before.files.opened now.files.opened
+  all_opened_of = when_map (is_answered s) (λ all. record { asked = asked; order = order; fact = all }) r.all_opened
 
 -- ---- the usage line
 
-pub usage_defined : (words : List (List ℕ)) (world : World) (held holds : Option (List ℕ)) (ended : Option (List Finished)) (s : Status)
-    → NotInOrder words → Appends held holds (λ out. PrintedAs status.Usage usage_line out s)
-    → OnTrue (is_written s) (Leaves held holds ended ended s (DefinedRun words world))
-usage_defined words world held holds ended s not a = by (printed_case status.Usage usage_line a.0 s a.2)
-  where
-    by : PrintedCase status.Usage usage_line a.0 s → OnTrue (is_written s) (Leaves held holds ended ended s (DefinedRun words world))
-    by (whole e f) = rw e (leaves_door held holds ended status.Usage (DefinedRun words world) (a.0, a.1, inr (not, rw f refl)))
-    by (error e p) = rw e tt
-    by (no_memory e p) = rw e tt
+module _ {words : List (List ℕ)} (not : NotInOrder words) (world : World) (before now : SinkState) (door : ConnState) (s : Status)
+    (w : WritesLine status.Usage usage_line s before now) where
+  -- the outcome without finished connections
+  leaves_usage : (fact : Outcome → Type 0) → fact (outcome_of w.0 s) → Leaves before.held now.held door.aside.finished door.aside.finished s fact
+  leaves_usage fact is = ([], none_more door.aside.finished, (w.0, ap (λ (sink : SinkState). sink.held) w.1, is))
 
-begins_usage : (words : List (List ℕ)) (world : World) (output : List ℕ) → NotInOrder words → IsInitialPart output usage_line → BeginsRun words world output
-begins_usage words world output not part = record { outcome = outcome_of usage_line status.Usage; is = inr (not, refl); begins = part }
+  usage_begins : IsInitialPart w.0 usage_line → BeginsRun words world w.0
+  usage_begins part = record { outcome = outcome_of usage_line status.Usage; is = inr (not, refl); begins = part }
 
-pub usage_begun : (words : List (List ℕ)) (world : World) (held holds : Option (List ℕ)) (s : Status) → NotInOrder words
-    → Appends held holds (λ out. PrintedAs status.Usage usage_line out s)
-    → OnTrue (is_cut_short s) (Appends held holds (BeginsRun words world))
-usage_begun words world held holds s not a = by (printed_case status.Usage usage_line a.0 s a.2)
-  where
-    by : PrintedCase status.Usage usage_line a.0 s → OnTrue (is_cut_short s) (Appends held holds (BeginsRun words world))
-    by (whole e f) = rw e tt
-    by (error e p) = rw e (a.0, a.1, begins_usage words world a.0 not p)
-    by (no_memory e p) = rw e (a.0, a.1, begins_usage words world a.0 not p)
+  usage_cuts : IsInitialPart w.0 usage_line → CutRun words world (outcome_of w.0 s)
+  usage_cuts part = record { outcome = outcome_of usage_line status.Usage; is = inr (not, refl); begins = part; same_finished = refl }
 
-cut_usage : (words : List (List ℕ)) (world : World) (output : List ℕ) → NotInOrder words → IsInitialPart output usage_line
-    → CutRun words world (outcome_of output status.WriteFault)
-cut_usage words world output not part = record { outcome = outcome_of usage_line status.Usage; is = inr (not, refl); begins = part; same_finished = refl }
+  -- the line, or a prefix of it
+  abbrev Case : Type 0
+  Case = PrintedCase status.Usage usage_line w.0 s
 
-pub usage_cut : (words : List (List ℕ)) (world : World) (held holds : Option (List ℕ)) (ended : Option (List Finished)) (s : Status)
-    → NotInOrder words → Appends held holds (λ out. PrintedAs status.Usage usage_line out s)
-    → OnTrue (is_status s status.WriteFault) (Leaves held holds ended ended s (CutRun words world))
-usage_cut words world held holds ended s not a = by (printed_case status.Usage usage_line a.0 s a.2)
-  where
-    by : PrintedCase status.Usage usage_line a.0 s → OnTrue (is_status s status.WriteFault) (Leaves held holds ended ended s (CutRun words world))
-    by (whole e f) = rw e tt
-    by (error e p) = rw e (leaves_door held holds ended status.WriteFault (CutRun words world) (a.0, a.1, cut_usage words world a.0 not p))
-    by (no_memory e p) = rw e tt
+  printed : Case
+  printed = printed_case status.Usage usage_line w.0 s w.2
 
-pub usage_finished : (words : List (List ℕ)) (world : World) (held holds : Option (List ℕ)) (ended : Option (List Finished)) (s : Status)
-    → NotInOrder words → Appends held holds (λ out. PrintedAs status.Usage usage_line out s)
-    → OnTrue (is_cut_short s) (Leaves held holds ended ended s (FinishedRun words world))
-usage_finished words world held holds ended s not a = when_always (is_cut_short s)
-    (leaves_door held holds ended s (FinishedRun words world) (a.0, a.1, inr (not, refl)))
+  pub usage_defined : OnTrue (is_written s) (Leaves before.held now.held door.aside.finished door.aside.finished s (DefinedRun words world))
+  usage_defined = by printed
+    where
+      by : Case → OnTrue (is_written s) (Leaves before.held now.held door.aside.finished door.aside.finished s (DefinedRun words world))
+      by (whole e f) = when_always (is_written s) (leaves_usage (DefinedRun words world) (inr (not, ap (λ out. outcome_of out s) f ∙ ap (outcome_of usage_line) e)))
+      by (error e p) = rw e tt
+      by (no_memory e p) = rw e tt
+
+  pub usage_begun : OnTrue (is_cut_short s) (Appends before.held now.held (BeginsRun words world))
+  usage_begun = by printed
+    where
+      by : Case → OnTrue (is_cut_short s) (Appends before.held now.held (BeginsRun words world))
+      by (whole e f) = rw e tt
+      by (error e p) = when_always (is_cut_short s) (w.0, ap (λ (sink : SinkState). sink.held) w.1, usage_begins p)
+      by (no_memory e p) = when_always (is_cut_short s) (w.0, ap (λ (sink : SinkState). sink.held) w.1, usage_begins p)
+
+  pub usage_cut : OnTrue (is_status s status.WriteFault) (Leaves before.held now.held door.aside.finished door.aside.finished s (CutRun words world))
+  usage_cut = by printed
+    where
+      by : Case → OnTrue (is_status s status.WriteFault) (Leaves before.held now.held door.aside.finished door.aside.finished s (CutRun words world))
+      by (whole e f) = rw e tt
+      by (error e p) = when_always (is_status s status.WriteFault) (leaves_usage (CutRun words world) (usage_cuts p))
+      by (no_memory e p) = rw e tt
+
+  pub usage_finished : OnTrue (is_cut_short s) (Leaves before.held now.held door.aside.finished door.aside.finished s (FinishedRun words world))
+  usage_finished = when_always (is_cut_short s) (leaves_usage (FinishedRun words world) (inr (not, refl)))

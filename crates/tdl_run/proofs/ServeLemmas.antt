@@ -1,31 +1,32 @@
 -- The effect of serving connections.
 use Rattle.std.proofs.Common.{◌≡◌, ◌≢◌, ◌⊎◌, inl, inr, ℕ, ◌≤◌, zero, suc, Bool, true, false, List, [], ◌∷◌, ◌++◌, length, take, Option, None, Some, append-nil, refl, sym, ◌∙◌, ap, arith}
 use Rattle.std.specs.Prelude.{IfSome, option_map}
-use Rattle.std.specs.Bool.{OnTrue}
+use Rattle.std.proofs.lemmas.Bool.{false≢true}
 use Rattle.std.proofs.lemmas.List.{take_all, length-map}
 use Rattle.std.proofs.Math.Seq.{take-append_seam}
 use Rattle.gs_http.specs.ServedStreams.{reads_when, writes_when}
+use Rattle.gs_http.specs.Sites.{SiteData}
+use Rattle.gs_port.specs.Asides.{Aside}
+use Rattle.gs_port.specs.Counts.{count_if}
+use Rattle.gs_port.specs.Outputs.{Writes}
+use Rattle.gs_port.specs.States.{ConnState, SinkState, SourceState}
 use Rattle.tdl_lines.specs.declared.status.Status.{Status}
 use Rattle.tdl_lines.specs.declared.status.Status.TheVariants as status
-use Rattle.tdl_lines.specs.Outputs.{Appends}
 use Rattle.tdl_lines.specs.Printers.{IsInitialPart}
 use Rattle.tdl_lines.specs.Statuses.{is_status}
-use Rattle.gs_port.specs.Connections.{Aside}
-use Rattle.gs_port.specs.Counts.{Rises}
-use Rattle.tdl_serve.specs.Doors.{IsOver, ServeRan, line_of}
-use Rattle.gs_http.specs.Sites.{SiteData}
+use Rattle.tdl_serve.specs.Doors.{CountsErrors, IsOver, OpensAt, ServeRan, line_of}
 use Rattle.tdl_serve.specs.Sites.{AreSiteReplies, Replied}
-use Rattle.tdl_serve.specs.Visits.{AreVisits, DoorState, IsVisit, Visit, Visited, entries_of, inputs_of, is_done, no_visit, one_visit, wants_memory}
+use Rattle.tdl_serve.specs.Visits.{AreVisits, IsVisit, Visit, Visited, entries_of, inputs_of, is_done, no_visit, one_visit, wants_memory}
 use Rattle.tdl_serve.proofs.DoneVisits.{done_visit, is_done_visit}
 use Rattle.gs_translate.specs.StepsSupport.{HasSome}
 use Rattle.tdl_arguments.specs.declared.command.Command.TheVariants.{Serve}
 use Rattle.tdl_arguments.specs.Requests.{Values}
 use Rattle.tdl_loads.specs.declared.loads.Loaded.{Loaded}
-use Rattle.tdl_run.specs.CommandRuns.{BeginsOne, CutShort, Moment}
-use Rattle.tdl_run.specs.RanSupport.{CommandRan, UsesDoor}
+use Rattle.tdl_run.specs.CommandRuns.{BeginsOne, CutShort}
+use Rattle.tdl_run.specs.RanSupport.{CommandLeft, CommandRan, UsesDoor, ends_of}
 use Rattle.tdl_run.specs.Runs.{AlikeServed, AlikeVisits, more_visits, no_visits}
-use Rattle.tdl_run.specs.Works.{Doorway, FinishesFirst, Leaves, Outcome, Serves, ServesFirst, doorway_of, served_outcome, site_of}
-use Rattle.tdl_run.proofs.RanLemmas.{none_more, same_count}
+use Rattle.tdl_run.specs.Works.{Doorway, FinishesFirst, Outcome, Serves, ServesFirst, doorway_of, served_outcome, site_of}
+use Rattle.tdl_run.proofs.RanLemmas.{never_falls, none_more, rises_if}
 use Rattle.tdl_run.proofs.SiteLemmas.{no_lines, one_replies_of_site}
 
 -- ---- some connections are served
@@ -127,9 +128,9 @@ over_of : (visits : List Visit) (count : ℕ) (none : Type 0) → (length visits
 over_of visits count none (inl is) = inl (count_inputs visits ∙ is)
 over_of visits count none (inr x) = inr x
 
-serves_of : (site : SiteData) (count : ℕ) (door door' : DoorState) (visits : List Visit) → Visited site door door' visits
+serves_of : (site : SiteData) (count : ℕ) (door door' : ConnState) (visits : List Visit) → Visited site door door' visits
     → length visits ≤ count → IsOver count door' visits
-    → Serves site count (doorway_of door.aside door.reads door.writes) (served_outcome visits)
+    → Serves site count (doorway_of door) (served_outcome visits)
 serves_of site count door door' visits visited few over =
     let number = count_inputs visits in
     record {
@@ -143,10 +144,10 @@ serves_of site count door door' visits visited few over =
       is = refl;
     }
 
-module _ (loaded : Loaded) (values : Values) (errors errors' : ℕ) (before now : Moment) (door door' : DoorState) where
+module _ (loaded : Loaded) (values : Values) (input : SourceState) (before now : SinkState) (door door' : ConnState) where
   -- the known facts of the listener before
   abbrev Way : Doorway
-  Way = doorway_of door.aside door.reads door.writes
+  Way = doorway_of door
 
   first_served : (output : List ℕ) (s : Status) (r : ServeRan (site_of loaded) values.count door door' output s)
       → (s ≢ status.Memory → wants_memory r.visits ≡ false) → ServesFirst (site_of loaded) values.count Way s (entries_of r.visits)
@@ -184,37 +185,51 @@ module _ (loaded : Loaded) (values : Values) (errors errors' : ℕ) (before now 
   begins_either output r (inl both) = begins_line r.visits output r.visited r.few both.0 both.1
   begins_either output r (inr none) = begins_nothing output none
 
-  served_as : (output : List ℕ) (s : Status) (r : ServeRan (site_of loaded) values.count door door' output s) → before.input ≡ now.input
-      → before.input_errors ≡ now.input_errors → OnTrue (is_status s status.ReadFault) (Rises errors errors') → OnTrue
-      (is_status s status.WriteFault) (Rises before.output_errors now.output_errors) → before.output_errors ≤ now.output_errors
-      → CommandRan Serve values loaded Way errors errors' before now
-      (record { output = output; finished = entries_of r.visits; status = s })
-  served_as output status.Done r same inputs read write outputs =
+  served_as : (output : List ℕ) (s : Status) (r : ServeRan (site_of loaded) values.count door door' output s)
+      → door'.aside.errors ≡ count_if (is_status s status.ReadFault) door.aside.errors
+      → CommandLeft Serve values loaded (ends_of input before door) (ends_of input now door') (record { output = output; finished = entries_of r.visits; status = s })
+  served_as output status.Done r count =
       let p = r.prints in
-      record { written = rw p.1 (serves_of (site_of loaded) values.count door door' r.visits r.visited r.few p.0); begun = tt; finished = tt; cut = tt; read_error = tt; ended = tt; write_error = tt; to_end = λ e. no_lines e; long = tt; few = λ e. no_lines e; input_counts = same_count _ _ inputs; output_counts = outputs; no_usage = λ e. cc; no_rejection = λ e. cc }
-  served_as output status.ReadFault r same inputs read write outputs =
+      record { written = rw p.1 (serves_of (site_of loaded) values.count door door' r.visits r.visited r.few p.0); begun = tt; finished = tt; cut = tt; read_error = tt; ended = tt; to_end = λ e. no_lines e; long = tt; few = λ e. no_lines e; input_counts = omega arith; no_usage = λ e. cc; no_rejection = λ e. cc }
+  served_as output status.ReadFault r count =
       let p = r.prints in
-      record { written = tt; begun = begins_nothing output p.1; finished = first_served output status.ReadFault r (λ e. p.0); cut = tt; read_error = read; ended = p.1; write_error = tt; to_end = tt; long = tt; few = λ e. no_lines e; input_counts = same_count _ _ inputs; output_counts = outputs; no_usage = λ e. cc; no_rejection = λ e. cc }
-  served_as output status.WriteFault r same inputs read write outputs =
+      record { written = tt; begun = begins_nothing output p.1; finished = first_served output status.ReadFault r (λ e. p.0); cut = tt; read_error = rises_if true _ _ count; ended = p.1; to_end = tt; long = tt; few = λ e. no_lines e; input_counts = omega arith; no_usage = λ e. cc; no_rejection = λ e. cc }
+  served_as output status.WriteFault r count =
       let p = r.prints in
       let over = p.0 in
-      record { written = tt; begun = begins_line r.visits output r.visited r.few p.0 p.1; finished = first_served output status.WriteFault r (λ e. over.served); cut = cut_line r.visits output r.visited r.few p.0 p.1; read_error = tt; ended = tt; write_error = write; to_end = tt; long = tt; few = λ e. no_lines e; input_counts = same_count _ _ inputs; output_counts = outputs; no_usage = λ e. cc; no_rejection = λ e. cc }
-  served_as output status.Memory r same inputs read write outputs =
-      record { written = tt; begun = begins_either output r r.prints; finished = first_served output status.Memory r (λ e. absurd (e refl)); cut = tt; read_error = tt; ended = tt; write_error = tt; to_end = tt; long = tt; few = λ e. no_lines e; input_counts = same_count _ _ inputs; output_counts = outputs; no_usage = λ e. cc; no_rejection = λ e. cc }
-  served_as output status.SomeRefused r same inputs read write outputs = absurd r.prints
-  served_as output status.Usage r same inputs read write outputs = absurd r.prints
-  served_as output status.Refused r same inputs read write outputs = absurd r.prints
-  served_as output status.InputLong r same inputs read write outputs = absurd r.prints
+      record { written = tt; begun = begins_line r.visits output r.visited r.few p.0 p.1; finished = first_served output status.WriteFault r (λ e. over.served); cut = cut_line r.visits output r.visited r.few p.0 p.1; read_error = tt; ended = tt; to_end = tt; long = tt; few = λ e. no_lines e; input_counts = omega arith; no_usage = λ e. cc; no_rejection = λ e. cc }
+  served_as output status.Memory r count =
+      record { written = tt; begun = begins_either output r r.prints; finished = first_served output status.Memory r (λ e. absurd (e refl)); cut = tt; read_error = tt; ended = tt; to_end = tt; long = tt; few = λ e. no_lines e; input_counts = omega arith; no_usage = λ e. cc; no_rejection = λ e. cc }
+  served_as output status.SomeRefused r count = absurd r.prints
+  served_as output status.Usage r count = absurd r.prints
+  served_as output status.Refused r count = absurd r.prints
+  served_as output status.InputLong r count = absurd r.prints
 
-  pub serve_ran : (held holds : Option (List ℕ)) (s : Status)
-      → Appends held holds (λ output. ServeRan (site_of loaded) values.count door door' output s) → before.input ≡ now.input
-      → before.input_errors ≡ now.input_errors → OnTrue (is_status s status.ReadFault) (Rises errors errors')
-      → OnTrue (is_status s status.WriteFault) (Rises before.output_errors now.output_errors) → before.output_errors ≤ now.output_errors
-      → Leaves held holds door.aside.finished door'.aside.finished s (CommandRan Serve values loaded Way errors errors' before now)
-  serve_ran held holds s a same inputs read write outputs =
+  pub serve_ran : {SameInput SameDoor : Type 0} (s : Status)
+      → Writes (is_status s status.WriteFault) before now (λ output. ServeRan (site_of loaded) values.count door door' output s)
+      → OpensAt (is_status s status.Memory) values.listen door.aside door'.aside → CountsErrors s door.aside door'.aside → door'.is_open ≡ false
+      → SameInput → CommandRan Serve values loaded SameInput SameDoor (ends_of input before door) (ends_of input now door') s
+  serve_ran s a opens count closed same =
       let r = a.2 in
       let visited = r.visited in
-      (entries_of r.visits, visited.finished, (a.0, a.1, served_as a.0 s r same inputs read write outputs))
+      record {
+        ran = (entries_of r.visits, visited.finished, (a.0, a.1, served_as a.0 s r count));
+        served = λ heads. absurd (false≢true heads);
+        unread = λ none. same;
+        unserved = λ none. absurd (false≢true (sym none));
+        used = λ uses. record {
+          closed = closed;
+          waiting = record {
+            inputs = inputs_of r.visits;
+            entries = entries_of r.visits;
+            waited = visited.waited;
+            finished = visited.finished;
+            as_many = count_inputs r.visits ∙ sym (length-map r.visits (λ (visit : Visit). visit.entry));
+          };
+          listens = opens;
+        };
+        door_counts = never_falls (is_status s status.ReadFault) _ _ count;
+      }
 
 -- ---- the connections that wait
 
@@ -227,24 +242,11 @@ pub none_finish : (aside : Aside) → FinishesFirst aside aside
 none_finish aside = record { inputs = []; entries = []; waited = still_wait aside.waiting; finished = none_more aside.finished; as_many = refl }
 
 -- a listener after a command, which is unchanged if the command does not use it
-pub door_left : {Door : Type 0} {lost : Bool} (is_open : Door → Bool) (aside : Door → Aside) (before now : Door) (uses : Bool) (listen : List ℕ)
-    → is_open before ≡ false → (uses ≡ false → now ≡ before) → (uses ≡ true → UsesDoor lost listen (is_open now) (aside before) (aside now))
-    → (is_open now ≡ false) × FinishesFirst (aside before) (aside now)
-door_left is_open aside before now true listen none same used = let u = used refl in (u.closed, u.waiting)
-door_left is_open aside before now false listen none same used = rw (same refl) (none, none_finish (aside before))
-
-pub visits_finish : (site : SiteData) (count : ℕ) (door door' : DoorState) (held holds : Option (List ℕ)) (s : Status)
-    → Appends held holds (λ output. ServeRan site count door door' output s) → FinishesFirst door.aside door'.aside
-visits_finish site count door door' held holds s a =
-    let r = a.2 in
-    let visited = r.visited in
-    record {
-      inputs = inputs_of r.visits;
-      entries = entries_of r.visits;
-      waited = visited.waited;
-      finished = visited.finished;
-      as_many = count_inputs r.visits ∙ sym (length-map r.visits (λ (visit : Visit). visit.entry));
-    }
+pub door_left : (lost : Bool) (before now : ConnState) (uses : Bool) (listen : List ℕ) → before.is_open ≡ false → (uses ≡ false → now ≡ before)
+    → (uses ≡ true → UsesDoor lost listen now.is_open before.aside now.aside)
+    → (now.is_open ≡ false) × FinishesFirst before.aside now.aside
+door_left lost before now true listen none same used = let u = used refl in (u.closed, u.waiting)
+door_left lost before now false listen none same used = rw (same refl) (none, none_finish before.aside)
 
 -- ---- two outcomes of one service
 

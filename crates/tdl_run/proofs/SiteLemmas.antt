@@ -1,13 +1,12 @@
 -- The replies to a stream, and the effect of resolving it.
-use Rattle.std.proofs.Common.{◌≡◌, ℕ, ◌≤◌, true, false, List, [], Option, None, Some, refl, sym, ◌∙◌, ap}
-use Rattle.std.specs.Bool.{OnTrue}
+use Rattle.std.proofs.Common.{◌≡◌, ℕ, true, false, List, [], Option, None, Some, refl, sym, ◌∙◌, ap}
 use Rattle.gs_http.specs.Streams.{heads_of, replies_of}
 use Rattle.gs_http.proofs.StreamLaws.{one_replies, some_replies}
 use Rattle.tdl_lines.specs.declared.status.Status.{Status}
 use Rattle.tdl_lines.specs.declared.status.Status.TheVariants as status
 use Rattle.tdl_lines.specs.Inputs.{IsKnown}
 use Rattle.tdl_lines.specs.Statuses.{is_status}
-use Rattle.gs_port.specs.Counts.{Rises}
+use Rattle.gs_port.specs.Counts.{count_if}
 use Rattle.tdl_serve.specs.Resolutions.{Resolved, Resolves}
 use Rattle.gs_http.specs.Sites.{SiteData}
 use Rattle.tdl_serve.specs.Sites.{AreSiteReplies}
@@ -15,9 +14,10 @@ use Rattle.gs_translate.specs.StepsSupport.{HasOne, HasSome}
 use Rattle.tdl_arguments.specs.declared.command.Command.TheVariants.{Resolve}
 use Rattle.tdl_arguments.specs.Requests.{Values}
 use Rattle.tdl_loads.specs.declared.loads.Loaded.{Loaded}
-use Rattle.tdl_run.specs.CommandRuns.{BeginsOne, CutShort, Moment}
-use Rattle.tdl_run.specs.RanSupport.{CommandRan}
-use Rattle.tdl_run.specs.Works.{Doorway, LeavesOutput, outcome_of, site_of}
+use Rattle.tdl_run.specs.CommandRuns.{BeginsOne, CutShort}
+use Rattle.tdl_run.specs.RanSupport.{CommandLeft, Ends}
+use Rattle.tdl_run.specs.Works.{LeavesOutput, outcome_of, site_of}
+use Rattle.tdl_run.proofs.RanLemmas.{never_falls, rises_if}
 
 -- ---- a stream has one answer
 
@@ -80,16 +80,14 @@ replies_whole site input output r =
 pub no_lines : {fact : Type 0} → false ≡ true → fact
 no_lines e = absurd (let f : false ≡ true = e in cc)
 
-module _ (loaded : Loaded) (values : Values) (door : Doorway) (errors errors' : ℕ) (before now : Moment) (output : List ℕ) where
-  pub resolve_ran : (s : Status) → Resolved (site_of loaded) before.input output s
-      → OnTrue (is_status s status.ReadFault) (Rises before.input_errors now.input_errors)
-      → OnTrue (is_status s status.WriteFault) (Rises before.output_errors now.output_errors) → before.input_errors ≤ now.input_errors
-      → before.output_errors ≤ now.output_errors → CommandRan Resolve values loaded door errors errors' before now (outcome_of output s)
-  resolve_ran status.Done r read write inputs outputs = record { written = replies_whole (site_of loaded) before.input output r; begun = tt; finished = tt; cut = tt; read_error = tt; ended = tt; write_error = tt; to_end = λ e. no_lines e; long = tt; few = λ e. no_lines e; input_counts = inputs; output_counts = outputs; no_usage = λ e. cc; no_rejection = λ e. cc }
-  resolve_ran status.ReadFault r read write inputs outputs = record { written = tt; begun = replies_begin (site_of loaded) before.input output status.ReadFault r; finished = refl; cut = tt; read_error = read; ended = r; write_error = tt; to_end = tt; long = tt; few = λ e. no_lines e; input_counts = inputs; output_counts = outputs; no_usage = λ e. cc; no_rejection = λ e. cc }
-  resolve_ran status.WriteFault r read write inputs outputs = record { written = tt; begun = replies_begin (site_of loaded) before.input output status.WriteFault r; finished = refl; cut = replies_cut (site_of loaded) before.input output r; read_error = tt; ended = tt; write_error = write; to_end = tt; long = tt; few = λ e. no_lines e; input_counts = inputs; output_counts = outputs; no_usage = λ e. cc; no_rejection = λ e. cc }
-  resolve_ran status.Memory r read write inputs outputs = record { written = tt; begun = replies_begin (site_of loaded) before.input output status.Memory r; finished = refl; cut = tt; read_error = tt; ended = tt; write_error = tt; to_end = tt; long = tt; few = λ e. no_lines e; input_counts = inputs; output_counts = outputs; no_usage = λ e. cc; no_rejection = λ e. cc }
-  resolve_ran status.SomeRefused r read write inputs outputs = absurd (let e : status.SomeRefused ≡ status.Done = r.done in cc)
-  resolve_ran status.Usage r read write inputs outputs = absurd (let e : status.Usage ≡ status.Done = r.done in cc)
-  resolve_ran status.Refused r read write inputs outputs = absurd (let e : status.Refused ≡ status.Done = r.done in cc)
-  resolve_ran status.InputLong r read write inputs outputs = absurd (let e : status.InputLong ≡ status.Done = r.done in cc)
+module _ (loaded : Loaded) (values : Values) (before now : Ends) (output : List ℕ) where
+  pub resolve_ran : (s : Status) → Resolved (site_of loaded) before.input.left output s
+      → now.input.errors ≡ count_if (is_status s status.ReadFault) before.input.errors → CommandLeft Resolve values loaded before now (outcome_of output s)
+  resolve_ran status.Done r count = record { written = replies_whole (site_of loaded) before.input.left output r; begun = tt; finished = tt; cut = tt; read_error = tt; ended = tt; to_end = λ e. no_lines e; long = tt; few = λ e. no_lines e; input_counts = never_falls false _ _ count; no_usage = λ e. cc; no_rejection = λ e. cc }
+  resolve_ran status.ReadFault r count = record { written = tt; begun = replies_begin (site_of loaded) before.input.left output status.ReadFault r; finished = refl; cut = tt; read_error = rises_if true _ _ count; ended = r; to_end = tt; long = tt; few = λ e. no_lines e; input_counts = never_falls true _ _ count; no_usage = λ e. cc; no_rejection = λ e. cc }
+  resolve_ran status.WriteFault r count = record { written = tt; begun = replies_begin (site_of loaded) before.input.left output status.WriteFault r; finished = refl; cut = replies_cut (site_of loaded) before.input.left output r; read_error = tt; ended = tt; to_end = tt; long = tt; few = λ e. no_lines e; input_counts = never_falls false _ _ count; no_usage = λ e. cc; no_rejection = λ e. cc }
+  resolve_ran status.Memory r count = record { written = tt; begun = replies_begin (site_of loaded) before.input.left output status.Memory r; finished = refl; cut = tt; read_error = tt; ended = tt; to_end = tt; long = tt; few = λ e. no_lines e; input_counts = never_falls false _ _ count; no_usage = λ e. cc; no_rejection = λ e. cc }
+  resolve_ran status.SomeRefused r count = absurd (let e : status.SomeRefused ≡ status.Done = r.done in cc)
+  resolve_ran status.Usage r count = absurd (let e : status.Usage ≡ status.Done = r.done in cc)
+  resolve_ran status.Refused r count = absurd (let e : status.Refused ≡ status.Done = r.done in cc)
+  resolve_ran status.InputLong r count = absurd (let e : status.InputLong ≡ status.Done = r.done in cc)

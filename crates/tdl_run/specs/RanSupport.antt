@@ -1,22 +1,23 @@
 -- Definitions next to those of Runs.antt, for proofs and private functions.
-use Rattle.std.specs.Prelude.{◌≡◌, ◌⊎◌, ℕ, Bool, false, List, [], ◌∷◌, Option, None, Ok}
+use Rattle.std.specs.Prelude.{◌≡◌, ◌⊎◌, ℕ, ◌≤◌, Bool, true, false, List, [], ◌∷◌, ◌++◌, Option, Ok, option_map}
 use Rattle.std.specs.Bool.{OnTrue}
 use Rattle.tdl_lines.specs.declared.status.Status.{Status}
-use Rattle.tdl_lines.specs.declared.status.Status.TheVariants.{Memory}
+use Rattle.tdl_lines.specs.declared.status.Status.TheVariants.{Memory, WriteFault}
 use Rattle.tdl_lines.specs.Statuses.{is_answered, is_status}
-use Rattle.gs_port.specs.Connections.{Aside, Finished}
+use Rattle.gs_port.specs.Asides.{Aside, Finished}
 use Rattle.gs_port.specs.Counts.{Rises}
 use Rattle.gs_port.specs.Files.{AddsNames, with_names}
+use Rattle.gs_port.specs.Outputs.{Writes}
+use Rattle.gs_port.specs.States.{ConnState, SinkState, SourceState}
 use Rattle.tdl_serve.specs.Doors.{OpensAt}
-use Rattle.tdl_serve.specs.Resolutions.{StreamServed}
+use Rattle.tdl_serve.specs.Resolutions.{StreamServed, stream_of}
 use Rattle.tdl_arguments.specs.declared.command.Command.{Command}
-use Rattle.tdl_arguments.specs.Commands.{Work, answers_lines, on_door, work_of}
-use Rattle.tdl_arguments.specs.Requests.{Asked, Values, all_named}
-use Rattle.tdl_arguments.specs.declared.request.Request.{Request}
+use Rattle.tdl_arguments.specs.Commands.{Work, answers_heads, answers_lines, on_door, reads_input, uses_door, work_of}
+use Rattle.tdl_arguments.specs.Requests.{Asked, Values, names_in_order}
 use Rattle.tdl_loads.specs.declared.loads.Loaded.{Loaded}
 use Rattle.tdl_loads.specs.Loads.{FilesGive, FilesInMemory, Loading, Stopping}
-use Rattle.tdl_run.specs.Works.{DoingEnded, DoingFinished, DoingRun, Doorway, FinishesFirst, Outcome, doing_of, site_of}
-use Rattle.tdl_run.specs.CommandRuns.{Moment, Ran}
+use Rattle.tdl_run.specs.Works.{DoingEnded, DoingFinished, DoingRun, Doorway, FinishesFirst, Outcome, doing_of, doorway_of, site_of}
+use Rattle.tdl_run.specs.CommandRuns.{Ran}
 use Rattle.tdl_run.specs.Runs.{World, stopped}
 
 -- holds if the command may leave this outcome (DoingRun)
@@ -58,12 +59,12 @@ AskedListens asked ending before now = AddsNames (is_status ending Memory) befor
 -- holds if the fact of ServesInput holds, by the request
 abbrev pub AskedServes : Type 0 → Asked → Option FilesInMemory → Status → Option (List ℕ) → Option (List ℕ) → Option (List ℕ) → Option (List ℕ) → Type 0
 AskedServes AsItWas asked files ending left left' held held' =
-    Loading files asked (λ loaded. StreamServed (site_of loaded) ending left left' None None held held')
+    Loading files asked (λ loaded. StreamServed (site_of loaded) ending (stream_of left held) (stream_of left' held'))
     ⊎ (AsItWas × (is_answered ending ≡ false))
 
 -- holds if all files of a request were opened, in their order, once the whole input was answered
-abbrev pub OpensAsked : Status → Request → Option (List (List ℕ)) → Option (List (List ℕ)) → Type 0
-OpensAsked ending request before now = OnTrue (is_answered ending) (now ≡ with_names before (all_named request))
+abbrev pub OpensAsked : Status → Asked → Option (List (List ℕ)) → Option (List (List ℕ)) → Type 0
+OpensAsked ending asked before now = OnTrue (is_answered ending) (now ≡ with_names before (names_in_order asked.files))
 
 -- holds if a read error has its cause, by the work of a command: the listener itself or the input counted an error
 abbrev pub WorkCause : Work → Type 0 → Type 0 → Type 0
@@ -77,10 +78,36 @@ pub record UsesDoor (lost : Bool) (listen : List ℕ) (open_now : Bool) (before 
   pub waiting : FinishesFirst before now
   pub listens : OpensAt lost listen before now
 
--- holds if a command left this outcome between two moments, over the loaded contents; `errors` and `errors'` are the listener's
--- own counts
-abbrev pub CommandRan : Command → Values → Loaded → Doorway → ℕ → ℕ → Moment → Moment → Outcome → Type 0
-CommandRan command values loaded door errors errors' before now outcome =
-    Ran (CommandRun command values loaded before.input door) (CommandEnded command values loaded before.input now.input)
-    (CommandFinished command values loaded door)
-    (WorkCause (work_of command) (Rises before.input_errors now.input_errors) (Rises errors errors')) (answers_lines command) before now outcome
+-- the objects that a command uses, at a moment: its input, its output and its listener
+pub record Ends : Type 0 where
+  pub input : SourceState
+  pub output : SinkState
+  pub door : ConnState
+
+-- these objects at a moment
+abbrev pub ends_of : SourceState → SinkState → ConnState → Ends
+ends_of input output door = record { input = input; output = output; door = door }
+
+-- holds if a command left this outcome between two moments, over the loaded contents
+abbrev pub CommandLeft : Command → Values → Loaded → Ends → Ends → Outcome → Type 0
+CommandLeft command values loaded before now outcome =
+    Ran (CommandRun command values loaded before.input.left (doorway_of before.door)) (CommandEnded command values loaded before.input.left now.input.left)
+    (CommandFinished command values loaded (doorway_of before.door))
+    (WorkCause (work_of command) (Rises before.input.errors now.input.errors) (Rises before.door.aside.errors now.door.aside.errors)) (answers_lines command) before.input now.input outcome
+
+-- holds if the sink gained the output of an outcome of which `fact` holds, and the listener its finished connections; a failed
+-- write was counted
+abbrev pub LeavesOutcome : SinkState → SinkState → ConnState → ConnState → Status → (Outcome → Type 0) → Type 0
+LeavesOutcome output output' door door' status fact =
+    (finished : List Finished) × (door'.aside.finished ≡ option_map (λ before. before ++ finished) door.aside.finished)
+    × Writes (is_status status WriteFault) output output' (λ out. fact (record { output = out; finished = finished; status = status }))
+
+-- holds if a command ran between two moments, over the loaded contents, and ended with this status; it leaves an input or a
+-- listener that it does not use unchanged
+pub record CommandRan (command : Command) (values : Values) (loaded : Loaded) (SameInput SameDoor : Type 0) (before now : Ends) (ending : Status) : Type 0 where
+  pub ran : LeavesOutcome before.output now.output before.door now.door ending (CommandLeft command values loaded before now)
+  pub served : answers_heads command ≡ true → StreamServed (site_of loaded) ending (stream_of before.input.left before.output.held) (stream_of now.input.left now.output.held)
+  pub unread : reads_input command ≡ false → SameInput
+  pub unserved : uses_door command ≡ false → SameDoor
+  pub used : uses_door command ≡ true → UsesDoor (is_status ending Memory) values.listen now.door.is_open before.door.aside now.door.aside
+  pub door_counts : before.door.aside.errors ≤ now.door.aside.errors

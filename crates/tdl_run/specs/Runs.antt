@@ -4,13 +4,12 @@ use Rattle.std.specs.Bool.{OnTrue}
 use Rattle.tdl_lines.specs.declared.status.Status.{Status}
 use Rattle.tdl_lines.specs.declared.status.Status.TheVariants as status
 use Rattle.tdl_lines.specs.Inputs.{IsAtEnd, TakesAtMost}
-use Rattle.tdl_lines.specs.Outputs.{Appends}
 use Rattle.tdl_lines.specs.Statuses.{is_answered, is_status}
 use Rattle.gs_http.specs.Sites.{SiteData}
-use Rattle.gs_port.specs.Connections.{Aside}
 use Rattle.gs_port.specs.Counts.{Rises}
 use Rattle.gs_port.specs.Files.{AddsNames, with_names}
-use Rattle.tdl_serve.specs.Resolutions.{StreamServed}
+use Rattle.gs_port.specs.States.{ConnState, FilesState, SinkState, SourceState}
+use Rattle.tdl_serve.specs.Resolutions.{StreamServed, stream_of}
 use Rattle.tdl_serve.specs.Visits.{Visit, is_done}
 use Rattle.tdl_messages.specs.declared.file_kind.FileKind.{FileKind}
 use Rattle.tdl_messages.specs.declared.rejection.Rejection.{Rejection}
@@ -20,7 +19,7 @@ use Rattle.tdl_arguments.specs.Requests.{Asking, AskingOr, AsksFor, names_in_ord
 use Rattle.tdl_loads.specs.declared.loads.Loaded.{Loaded}
 use Rattle.tdl_loads.specs.Loads.{Ambiguity, FilesGive, FilesInMemory, Loading, OpensUpTo, Stop, Stopping, ambiguous, missing, rejected}
 use Rattle.tdl_run.specs.CommandRuns.{BeginsOne, CutShort}
-use Rattle.tdl_run.specs.Works.{DoingEnded, DoingFinished, DoingRun, Doorway, Outcome, Serves, doing_of, doorway_of, input_limit, outcome_of, site_of}
+use Rattle.tdl_run.specs.Works.{Appends, DoingEnded, DoingFinished, DoingRun, Doorway, Outcome, Serves, doing_of, doorway_of, input_limit, outcome_of, site_of}
 
 -- trusted, own: the known world of a run: its files, its input and its listener, each if it is known
 pub record World : Type 0 where
@@ -28,26 +27,25 @@ pub record World : Type 0 where
   pub input : Option (List ℕ)
   pub door : Doorway
 
--- trusted, own: the world with these files, this input, and a listener that sets this aside, at these counts of its reads and
--- writes
-abbrev pub world_of : Option FilesInMemory → Option (List ℕ) → Aside → ℕ → ℕ → World
-world_of files input aside reads writes = record { files = files; input = input; door = doorway_of aside reads writes }
+-- trusted, own: the world with these files, this input and this listener
+abbrev pub world_of : Option FilesInMemory → Option (List ℕ) → ConnState → World
+world_of files input door = record { files = files; input = input; door = doorway_of door }
 
 -- trusted, own: the world whose files, input and waiting connections are known to be these
 abbrev pub known_world : FilesInMemory → List ℕ → List (List ℕ) → ℕ → ℕ → World
 known_world files input waiting reads writes =
     record { files = Some files; input = Some input; door = record { waiting = Some waiting; reads = reads; writes = writes } }
 
--- trusted, own: the counts of errors at a moment: of the files, the input, the output and the listener itself
-pub record Counts : Type 0 where
-  pub file_errors : ℕ
-  pub input_errors : ℕ
-  pub output_errors : ℕ
-  pub door_errors : ℕ
+-- trusted, own: a moment of a run: its files, its input, its output and its listener
+pub record Moment : Type 0 where
+  pub files : FilesState
+  pub input : SourceState
+  pub output : SinkState
+  pub door : ConnState
 
--- trusted, own: the counts of the files, the input, the output, and a listener that sets this aside
-abbrev pub counts_of : ℕ → ℕ → ℕ → Aside → Counts
-counts_of files input output aside = record { file_errors = files; input_errors = input; output_errors = output; door_errors = aside.errors }
+-- trusted, own: the moment with these files, this input, this output and this listener
+abbrev pub moment_of : FilesState → SourceState → SinkState → ConnState → Moment
+moment_of files input output door = record { files = files; input = input; output = output; door = door }
 
 -- trusted, own: the outcome of a run that stops at its files: nothing is written of a missing file, and one line of a rejected one
 abbrev pub stopped : Stop → Outcome
@@ -118,10 +116,10 @@ IsRejected words files = Asking words (λ asked. (rejection : Rejection) × File
 
 -- trusted, own: Holds if a read error has a cause between two moments. The input, the listener itself or the files counted an
 -- error, or a file is missing.
-abbrev pub RunCause : List (List ℕ) → Option FilesInMemory → Counts → Counts → Type 0
+abbrev pub RunCause : List (List ℕ) → Option FilesInMemory → Moment → Moment → Type 0
 RunCause words files before now =
-    (Rises before.input_errors now.input_errors ⊎ Rises before.door_errors now.door_errors)
-    ⊎ (Rises before.file_errors now.file_errors ⊎ IsMissing words files)
+    (Rises before.input.errors now.input.errors ⊎ Rises before.door.aside.errors now.door.aside.errors)
+    ⊎ (Rises before.files.errors now.files.errors ⊎ IsMissing words files)
 
 -- trusted, own: holds if, once the whole input was answered, nothing is left of it, or `words` do not ask for answers to its
 -- lines
@@ -162,7 +160,7 @@ LoadsSome words files = Asking words (λ asked. (loaded : Loaded) × FilesGive f
 -- connection. Or the run stops at its files, and the input is unchanged.
 abbrev pub ServesInput : Type 0 → List (List ℕ) → Option FilesInMemory → Status → Option (List ℕ) → Option (List ℕ) → Option (List ℕ) → Option (List ℕ) → Type 0
 ServesInput AsItWas words files ending left left' held held' = Asking words (λ asked.
-    Loading files asked (λ loaded. StreamServed (site_of loaded) ending left left' None None held held')
+    Loading files asked (λ loaded. StreamServed (site_of loaded) ending (stream_of left held) (stream_of left' held'))
     ⊎ (AsItWas × (is_answered ending ≡ false)))
 
 -- trusted, own: holds if `words` are valid, and the run does not stop at a file or at a default row
@@ -180,11 +178,11 @@ abbrev pub InputFits : List (List ℕ) → Option (List ℕ) → Type 0
 InputFits words input = AsksFor answers_lines words → IsWithin input_limit input
 
 -- trusted, own: holds if no count rose between two moments: of the files, the input, the output and the listener itself
-pub record NoneRises (before now : Counts) : Type 0 where
-  pub files : Rises before.file_errors now.file_errors → ⊥
-  pub input : Rises before.input_errors now.input_errors → ⊥
-  pub output : Rises before.output_errors now.output_errors → ⊥
-  pub door : Rises before.door_errors now.door_errors → ⊥
+pub record NoneRises (before now : Moment) : Type 0 where
+  pub files : Rises before.files.errors now.files.errors → ⊥
+  pub input : Rises before.input.errors now.input.errors → ⊥
+  pub output : Rises before.output.errors now.output.errors → ⊥
+  pub door : Rises before.door.aside.errors now.door.aside.errors → ⊥
 
 -- trusted, own: holds if the whole input was answered, or memory ran out
 abbrev pub IsDoneOrMemory : Status → Type 0

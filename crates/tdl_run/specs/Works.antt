@@ -4,9 +4,11 @@ use Rattle.tdl_lines.specs.declared.status.Status.{Status}
 use Rattle.tdl_gen.specs.Counts.{Generated}
 use Rattle.tdl_lines.specs.declared.status.Status.TheVariants.{Done, Memory, ReadFault}
 use Rattle.tdl_lines.specs.Inputs.{TakesMoreThan}
-use Rattle.tdl_lines.specs.Outputs.{AnswersEnded, AnswersInput, Appends, LineAnswer}
-use Rattle.tdl_lines.specs.Printers.{PrintedAs}
-use Rattle.gs_port.specs.Connections.{Aside, Finished}
+use Rattle.tdl_lines.specs.Outputs.{AnswersEnded, AnswersInput, LineAnswer}
+use Rattle.tdl_lines.specs.Printers.{WritesLine}
+use Rattle.gs_port.specs.Asides.{Aside, Finished}
+use Rattle.gs_port.specs.Contents.{append_known}
+use Rattle.gs_port.specs.States.{ConnState, SinkState}
 use Rattle.tdl_serve.specs.Doors.{line_of}
 use Rattle.tdl_serve.specs.Resolutions.{Resolved, Resolves}
 use Rattle.gs_http.specs.Sites.{SiteData}
@@ -39,6 +41,10 @@ pub record Outcome : Type 0 where
 -- trusted, own: the outcome without finished connections
 abbrev pub outcome_of : List ℕ → Status → Outcome
 outcome_of output status = record { output = output; finished = []; status = status }
+
+-- trusted, own: holds if the sink gained an output with this property, or its contents are unknown
+abbrev pub Appends : Option (List ℕ) → Option (List ℕ) → (List ℕ → Type 0) → Type 0
+Appends before now fact = (output : List ℕ) × (now ≡ append_known before output) × fact output
 
 -- trusted, own: Holds if the sink gained the output of an outcome of which `fact` holds, and the listener its finished
 -- connections. Contents that were unknown stay unknown.
@@ -76,13 +82,9 @@ merged_line loaded = written loaded.merged ++ 10 ∷ []
 abbrev pub migrated_line : Loaded → List ℕ
 migrated_line loaded = migrated loaded.source ++ 10 ∷ []
 
--- holds if the sink gained the line, or a prefix of it after an error
-abbrev pub PrintsLine : List ℕ → Status → Option (List ℕ) → Option (List ℕ) → Type 0
-PrintsLine line ending held held' = Appends held held' (λ output. PrintedAs Done line output ending)
-
 -- holds if the sink gained the line that was made, or a prefix of it after an error; and nothing if none was made
-abbrev pub PrintsMade : {E : Type 0} → Result (List ℕ) E → Status → Option (List ℕ) → Option (List ℕ) → Type 0
-PrintsMade made ending held held' = (line : List ℕ) → IfOk made (λ text. text ≡ line) → PrintsLine line ending held held'
+abbrev pub PrintsMade : {E : Type 0} → Result (List ℕ) E → Status → SinkState → SinkState → Type 0
+PrintsMade made ending before now = (line : List ℕ) → IfOk made (λ text. text ≡ line) → WritesLine Done line ending before now
 
 -- trusted, own: holds if more than 4,294,967,296 bytes were taken from the input between `before` and `now`
 abbrev pub PassesLimit : Option (List ℕ) → Option (List ℕ) → Type 0
@@ -126,9 +128,9 @@ pub record Doorway : Type 0 where
   pub reads : ℕ
   pub writes : ℕ
 
--- trusted, own: the listener that sets this aside, at these counts
-abbrev pub doorway_of : Aside → ℕ → ℕ → Doorway
-doorway_of aside reads writes = record { waiting = aside.waiting; reads = reads; writes = writes }
+-- trusted, own: the known facts of a listener at a moment
+abbrev pub doorway_of : ConnState → Doorway
+doorway_of door = record { waiting = door.aside.waiting; reads = door.reads; writes = door.writes }
 
 -- trusted, own: the outcome of served connections: the line of their numbers, with them finished, and `Done`
 abbrev pub served_outcome : List Visit → Outcome

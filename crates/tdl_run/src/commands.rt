@@ -1,14 +1,10 @@
-ghost use Rattle.std.specs.Prelude.{◌≡◌, ◌≤◌, None, false, true};
-ghost use Rattle.tdl_lines.specs.Statuses.{is_status};
-ghost use Rattle.tdl_serve.specs.Resolutions.{StreamServed};
+ghost use Rattle.std.specs.Prelude.{◌≡◌, false};
 ghost use Rattle.gs_tables.specs.Judgements.{IsLoaded};
 ghost use Rattle.gs_translate.specs.Translations.{AreInOrder};
-ghost use Rattle.tdl_arguments.specs.Commands.{answers_heads, reads_input, uses_door};
 ghost use Rattle.tdl_arguments.specs.Requests.{options_of, known_values};
-ghost use Rattle.tdl_run.specs.CommandRuns.{moment_of};
 ghost use Rattle.tdl_loads.specs.LoadsSupport.{AreKept, HasSource};
-ghost use Rattle.tdl_run.specs.RanSupport.{CommandRan, UsesDoor};
-ghost use Rattle.tdl_run.specs.Works.{Leaves, doorway_of, site_of};
+ghost use Rattle.tdl_run.specs.RanSupport.{CommandRan, ends_of};
+ghost use Rattle.tdl_run.specs.Works.{site_of};
 
 use crate::line_commands::{
     canonize, link_classes, show_dumps, translate_loaded, write_classes, write_dumps,
@@ -44,26 +40,15 @@ pub fn run_command<S: Source, K: Sink, D: Door>(
     output: &mut K,
     door: &mut D,
 ) -> Status
-    requires none_open { D.is_open door.old ≡ false }
+    requires none_open { (D.state door.old).is_open ≡ false }
     requires loaded { IsLoaded loaded.now.tables }
     requires classes { AreKept loaded.now.tables.ais loaded.now.classes }
     requires source { HasSource command loaded.now }
     requires options { AreInOrder (options_of (known_values values)) }
-    ensures ran { Leaves (K.held output.old) (K.held output.new)
-        (D.aside door.old).finished (D.aside door.new).finished result
-        (CommandRan command (known_values values.entry) loaded.now
-        (doorway_of (D.aside door.old) (D.reads door.old) (D.writes door.old))
-        (D.aside door.old).errors (D.aside door.new).errors
-        (moment_of (S.left input.old) (S.errors input.old) (K.errors output.old))
-        (moment_of (S.left input.new) (S.errors input.new) (K.errors output.new))) }
-    ensures served { answers_heads command ≡ true → StreamServed (site_of loaded.now) result
-        (S.left input.old) (S.left input.new) None None (K.held output.old) (K.held output.new) }
-    ensures unread { reads_input command ≡ false → input.new ≡ input.old }
-    ensures unserved { uses_door command ≡ false → door.new ≡ door.old }
-    ensures used { uses_door command ≡ true
-        → UsesDoor (is_status result Status.Memory) (known_values values.entry).listen
-        (D.is_open door.new) (D.aside door.old) (D.aside door.new) }
-    ensures door_counts { (D.aside door.old).errors ≤ (D.aside door.new).errors }
+    ensures { CommandRan command (known_values values.entry) loaded.now
+        (input.new ≡ input.old) (door.new ≡ door.old)
+        (ends_of (S.state input.old) (K.state output.old) (D.state door.old))
+        (ends_of (S.state input.new) (K.state output.new) (D.state door.new)) result }
 {
     match command {
         Command::Canon(form) => canonize(alloc, form, values, loaded, input, output),

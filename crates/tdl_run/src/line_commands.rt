@@ -7,7 +7,7 @@ ghost use Rattle.tdl_answers.specs.TranslatedAnswers.{IsTranslatedLine};
 ghost use Rattle.tdl_arguments.specs.Requests.{options_of, known_values};
 ghost use Rattle.tdl_lines.specs.OutputsSupport.{HasAnswers};
 ghost use Rattle.tdl_loads.specs.LoadsSupport.{AreKept};
-ghost use Rattle.tdl_run.specs.CommandRuns.{AnswersLines, moment_of};
+ghost use Rattle.tdl_run.specs.CommandRuns.{AnswersLines};
 ghost use Rattle.tdl_run.specs.Works.{canonizing, translating, writing_classes};
 
 use gs_chars::{Memory, Text};
@@ -30,9 +30,8 @@ fn answer_input<A: Answerer, S: Source, K: Sink>(
     output: &mut K,
 ) -> Status
     requires { HasAnswers (A.is_answer answerer.now) }
-    ensures { AnswersLines (A.is_answer answerer.now) result (K.held output.old) (K.held output.new)
-        (moment_of (S.left input.old) (S.errors input.old) (K.errors output.old))
-        (moment_of (S.left input.new) (S.errors input.new) (K.errors output.new)) }
+    ensures { AnswersLines (A.is_answer answerer.now) result
+        (S.state input.old) (S.state input.new) (K.state output.old) (K.state output.new) }
 {
     answer_lines(alloc, answerer, input, output, INPUT_LIMIT)
 }
@@ -65,9 +64,7 @@ pub fn translate_loaded<S: Source, K: Sink>(
     requires options { AreInOrder (options_of (known_values values)) }
     ensures { AnswersLines
         (IsTranslatedLine (translating loaded.now (known_values values.entry) from to)) result
-        (K.held output.old) (K.held output.new)
-        (moment_of (S.left input.old) (S.errors input.old) (K.errors output.old))
-        (moment_of (S.left input.new) (S.errors input.new) (K.errors output.new)) }
+        (S.state input.old) (S.state input.new) (K.state output.old) (K.state output.new) }
 {
     match options_of(alloc, values) {
         Ok(options) => {
@@ -97,9 +94,7 @@ pub fn canonize<S: Source, K: Sink>(
     requires loaded { IsLoaded loaded.now.tables }
     requires options { AreInOrder (options_of (known_values values)) }
     ensures { AnswersLines (IsTranslatedLine (canonizing loaded.now form)) result
-        (K.held output.old) (K.held output.new)
-        (moment_of (S.left input.old) (S.errors input.old) (K.errors output.old))
-        (moment_of (S.left input.new) (S.errors input.new) (K.errors output.new)) }
+        (S.state input.old) (S.state input.new) (K.state output.old) (K.state output.new) }
 {
     let whole = NamedValues {
         keys_only: false,
@@ -117,9 +112,7 @@ pub fn link_classes<S: Source, K: Sink>(
 ) -> Status
     requires { AreKept loaded.now.tables.ais loaded.now.classes }
     ensures { AnswersLines (IsClassCanonLine (reading_by loaded.now.tables.ais loaded.now.classes)) result
-        (K.held output.old) (K.held output.new)
-        (moment_of (S.left input.old) (S.errors input.old) (K.errors output.old))
-        (moment_of (S.left input.new) (S.errors input.new) (K.errors output.new)) }
+        (S.state input.old) (S.state input.new) (K.state output.old) (K.state output.new) }
 {
     let answerer = ClassCanonLines::new(loaded.tables.ais(), &loaded.classes);
     answer_input(alloc, &answerer, input, output)
@@ -136,9 +129,7 @@ pub fn write_classes<S: Source, K: Sink>(
 ) -> Status
     requires { AreKept loaded.now.tables.ais loaded.now.classes }
     ensures { AnswersLines (IsClassUriLine (writing_classes loaded.now (known_values values.entry))) result
-        (K.held output.old) (K.held output.new)
-        (moment_of (S.left input.old) (S.errors input.old) (K.errors output.old))
-        (moment_of (S.left input.new) (S.errors input.new) (K.errors output.new)) }
+        (S.state input.old) (S.state input.new) (K.state output.old) (K.state output.new) }
 {
     let answerer = ClassUriLines::new(
         &loaded.tables,
@@ -157,9 +148,8 @@ pub fn show_dumps<S: Source, K: Sink>(
     output: &mut K,
 ) -> Status
     requires { IsLoaded loaded.now.tables }
-    ensures { AnswersLines (IsDumpReadLine loaded.now.tables) result (K.held output.old) (K.held output.new)
-        (moment_of (S.left input.old) (S.errors input.old) (K.errors output.old))
-        (moment_of (S.left input.new) (S.errors input.new) (K.errors output.new)) }
+    ensures { AnswersLines (IsDumpReadLine loaded.now.tables) result
+        (S.state input.old) (S.state input.new) (K.state output.old) (K.state output.new) }
 {
     let answerer = DumpReadLines {
         set: &loaded.tables,
@@ -175,9 +165,8 @@ pub fn write_dumps<S: Source, K: Sink>(
     output: &mut K,
 ) -> Status
     requires { IsLoaded loaded.now.tables }
-    ensures { AnswersLines (IsDumpWriteLine loaded.now.tables) result (K.held output.old) (K.held output.new)
-        (moment_of (S.left input.old) (S.errors input.old) (K.errors output.old))
-        (moment_of (S.left input.new) (S.errors input.new) (K.errors output.new)) }
+    ensures { AnswersLines (IsDumpWriteLine loaded.now.tables) result
+        (S.state input.old) (S.state input.new) (K.state output.old) (K.state output.new) }
 {
     let answerer = DumpWriteLines {
         set: &loaded.tables,

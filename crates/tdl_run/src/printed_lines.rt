@@ -1,8 +1,5 @@
-ghost use Rattle.std.specs.Prelude.{◌≡◌, ◌≤◌, ◌++◌, IfOk, OnOk, decimal};
-ghost use Rattle.std.specs.Bool.{OnTrue};
-ghost use Rattle.gs_port.specs.Counts.{Rises};
+ghost use Rattle.std.specs.Prelude.{◌≡◌, ◌++◌, IfOk, OnOk, decimal};
 ghost use Rattle.gs_tables.specs.MigratedSets.{Loads};
-ghost use Rattle.tdl_lines.specs.Statuses.{is_status};
 ghost use Rattle.tdl_run.specs.Works.{PrintsMade, counts_line, merged_line, migrated_line};
 
 use gs_chars::{Memory, Text};
@@ -65,10 +62,7 @@ pub fn migrated_line(alloc: Global, loaded: &Loaded) -> Result<Text, Memory>
 
 /// Writes the line that was made, and returns `Done`. Writes nothing if memory ran out before.
 pub fn print_made<K: Sink>(made: Result<Text, Memory>, output: &mut K) -> Status
-    ensures written { PrintsMade made result (K.held output.old) (K.held output.new) }
-    ensures error { OnTrue (is_status result Status.WriteFault)
-        (Rises (K.errors output.old) (K.errors output.new)) }
-    ensures counts { K.errors output.old ≤ K.errors output.new }
+    ensures { PrintsMade made result (K.state output.old) (K.state output.new) }
 {
     match made {
         Ok(line) => print_line(output, line.as_bytes(), Status::Done),

@@ -1,12 +1,11 @@
 ghost use Rattle.std.specs.Prelude.{◌≡◌, ◌≤◌, ◌⊎◌, false};
 ghost use Rattle.std.specs.Bool.{OnTrue};
-ghost use Rattle.tdl_lines.specs.Outputs.{Appends};
 ghost use Rattle.tdl_lines.specs.Statuses.{is_cut_short, is_status, is_written};
 ghost use Rattle.gs_port.specs.Counts.{Rises};
 ghost use Rattle.tdl_arguments.specs.Commands.{answers_heads, reads_input, uses_door};
 ghost use Rattle.tdl_arguments.specs.Requests.{AsksFor, NamesNoFile, NotInOrder, known_words};
-ghost use Rattle.tdl_run.specs.Runs.{BeginsRun, CutRun, DefinedRun, EndedRun, FinishedRun, InputFits, IsDoneOrMemory, IsRejected, ListensAt, LoadsAll, LoadsSome, NoneRises, OpensAll, OpensNamed, ReadsToEnd, RunCause, ServesInput, TakesFew, WritesAfterError, counts_of, world_of};
-ghost use Rattle.tdl_run.specs.Works.{FinishesFirst, Leaves, PassesLimit};
+ghost use Rattle.tdl_run.specs.Runs.{BeginsRun, CutRun, DefinedRun, EndedRun, FinishedRun, InputFits, IsDoneOrMemory, IsRejected, ListensAt, LoadsAll, LoadsSome, NoneRises, OpensAll, OpensNamed, ReadsToEnd, RunCause, ServesInput, TakesFew, WritesAfterError, moment_of, world_of};
+ghost use Rattle.tdl_run.specs.Works.{Appends, FinishesFirst, Leaves, PassesLimit};
 
 use crate::requests::run_request;
 use gs_port::{Door, Files, Sink, Source};
@@ -47,91 +46,93 @@ pub fn run<F: Files, S: Source, K: Sink, D: Door>(
     output: &mut K,
     door: &mut D,
 ) -> Status
-    requires none_open { D.is_open door.old ≡ false }
+    requires none_open { (D.state door.old).is_open ≡ false }
 
     // The headline: output, finished connections and status are the defined ones, whatever count rose.
-    ensures defined { OnTrue (is_written result) (Leaves (K.held output.old) (K.held output.new)
-        (D.aside door.old).finished (D.aside door.new).finished result
+    ensures defined { OnTrue (is_written result) (Leaves (K.state output.old).held (K.state output.new).held
+        (D.state door.old).aside.finished (D.state door.new).aside.finished result
         (DefinedRun (known_words words.now)
-        (world_of (F.files files.old) (S.left input.old)
-        (D.aside door.old) (D.reads door.old) (D.writes door.old)))) }
-    ensures read_to_end { ReadsToEnd (known_words words.now) result (S.left input.new) }
+        (world_of (F.state files.old).files (S.state input.old).left (D.state door.old)))) }
+    ensures read_to_end { ReadsToEnd (known_words words.now) result (S.state input.new).left }
 
     // The arguments decide whether the usage line comes, and the files whether one is rejected.
     ensures usage { OnTrue (is_status result Status.Usage) (NotInOrder (known_words words.now)) }
     ensures not_in_order { NotInOrder (known_words words.now)
         → OnTrue (is_written result) (result ≡ Status.Usage) }
     ensures rejected { OnTrue (is_status result Status.Refused)
-        (IsRejected (known_words words.now) (F.files files.old)) }
+        (IsRejected (known_words words.now) (F.state files.old).files) }
 
     // An input whose heads are answered is served as one connection.
     ensures served { AsksFor answers_heads (known_words words.now)
-        → ServesInput (input.new ≡ input.old) (known_words words.now) (F.files files.old) result
-        (S.left input.old) (S.left input.new) (K.held output.old) (K.held output.new) }
+        → ServesInput (input.new ≡ input.old) (known_words words.now) (F.state files.old).files result
+        (S.state input.old).left (S.state input.new).left
+        (K.state output.old).held (K.state output.new).held }
 
     // A command leaves an input or a listener that it does not use unchanged, and both are unchanged if a file does not load.
     ensures unread { (AsksFor reads_input (known_words words.now) → ⊥) → input.new ≡ input.old }
     ensures unread_rejected { OnTrue (is_status result Status.Refused) (input.new ≡ input.old) }
-    ensures few { TakesFew (known_words words.now) (S.left input.old) (S.left input.new) }
+    ensures few { TakesFew (known_words words.now) (S.state input.old).left (S.state input.new).left }
     ensures unserved { (AsksFor uses_door (known_words words.now) → ⊥) → door.new ≡ door.old }
     ensures unserved_rejected { OnTrue (is_status result Status.Refused) (door.new ≡ door.old) }
     ensures untouched { ((input.new ≡ input.old) × (door.new ≡ door.old))
-        ⊎ LoadsSome (known_words words.now) (F.files files.old) }
+        ⊎ LoadsSome (known_words words.now) (F.state files.old).files }
     ensures unopened { NamesNoFile (known_words words.now) → files.new ≡ files.old }
-    ensures opened { OpensNamed (known_words words.now) result (F.files files.old)
-        (F.opened files.old) (F.opened files.new) }
-    ensures all_opened { OpensAll result (known_words words.now) (F.opened files.old) (F.opened files.new) }
-    ensures known { F.files files.new ≡ F.files files.old }
+    ensures opened { OpensNamed (known_words words.now) result (F.state files.old).files
+        (F.state files.old).opened (F.state files.new).opened }
+    ensures all_opened { OpensAll result (known_words words.now)
+        (F.state files.old).opened (F.state files.new).opened }
+    ensures known { (F.state files.new).files ≡ (F.state files.old).files }
 
     // The listener is opened at the address of the arguments, finished connections no longer wait, and none is left open.
     ensures listens { AsksFor uses_door (known_words words.now) → ListensAt (known_words words.now) result
-        (D.aside door.old).addresses (D.aside door.new).addresses }
-    ensures waiting { FinishesFirst (D.aside door.old) (D.aside door.new) }
-    ensures closed { D.is_open door.new ≡ false }
+        (D.state door.old).aside.addresses (D.state door.new).aside.addresses }
+    ensures waiting { FinishesFirst (D.state door.old).aside (D.state door.new).aside }
+    ensures closed { (D.state door.new).is_open ≡ false }
 
     // Each cause.
     ensures read_error { OnTrue (is_status result Status.ReadFault)
-        (RunCause (known_words words.now) (F.files files.old)
-        (counts_of (F.errors files.old) (S.errors input.old) (K.errors output.old) (D.aside door.old))
-        (counts_of (F.errors files.new) (S.errors input.new) (K.errors output.new) (D.aside door.new))) }
+        (RunCause (known_words words.now) (F.state files.old).files
+        (moment_of (F.state files.old) (S.state input.old) (K.state output.old) (D.state door.old))
+        (moment_of (F.state files.new) (S.state input.new) (K.state output.new) (D.state door.new))) }
     ensures write_error { OnTrue (is_status result Status.WriteFault)
-        (Rises (K.errors output.old) (K.errors output.new)) }
+        (Rises (K.state output.old).errors (K.state output.new).errors) }
     ensures input_long { OnTrue (is_status result Status.InputLong)
-        (PassesLimit (S.left input.old) (S.left input.new)) }
+        (PassesLimit (S.state input.old).left (S.state input.new).left) }
 
     // Completeness: with valid arguments, files that load, an input that fits and no new error, all was written, or memory ran out.
-    ensures complete { LoadsAll (known_words words.now) (F.files files.old)
-        → InputFits (known_words words.now) (S.left input.old)
+    ensures complete { LoadsAll (known_words words.now) (F.state files.old).files
+        → InputFits (known_words words.now) (S.state input.old).left
         → NoneRises
-        (counts_of (F.errors files.old) (S.errors input.old) (K.errors output.old) (D.aside door.old))
-        (counts_of (F.errors files.new) (S.errors input.new) (K.errors output.new) (D.aside door.new))
+        (moment_of (F.state files.old) (S.state input.old) (K.state output.old) (D.state door.old))
+        (moment_of (F.state files.new) (S.state input.new) (K.state output.new) (D.state door.new))
         → IsDoneOrMemory result }
 
     // The output then.
     ensures ended { OnTrue (is_status result Status.ReadFault) (WritesAfterError (input.new ≡ input.old)
-        (Rises (S.errors input.old) (S.errors input.new)) (K.held output.old) (K.held output.new)
-        (EndedRun (known_words words.now) (F.files files.old) (S.left input.old) (S.left input.new))) }
-    ensures begun { OnTrue (is_cut_short result) (Appends (K.held output.old) (K.held output.new)
+        (Rises (S.state input.old).errors (S.state input.new).errors)
+        (K.state output.old).held (K.state output.new).held
+        (EndedRun (known_words words.now) (F.state files.old).files
+        (S.state input.old).left (S.state input.new).left)) }
+    ensures begun { OnTrue (is_cut_short result) (Appends (K.state output.old).held (K.state output.new).held
         (BeginsRun (known_words words.now)
-        (world_of (F.files files.old) (S.left input.old)
-        (D.aside door.old) (D.reads door.old) (D.writes door.old)))) }
-    ensures finished { OnTrue (is_cut_short result) (Leaves (K.held output.old) (K.held output.new)
-        (D.aside door.old).finished (D.aside door.new).finished result
+        (world_of (F.state files.old).files (S.state input.old).left (D.state door.old)))) }
+    ensures finished { OnTrue (is_cut_short result) (Leaves
+        (K.state output.old).held (K.state output.new).held
+        (D.state door.old).aside.finished (D.state door.new).aside.finished result
         (FinishedRun (known_words words.now)
-        (world_of (F.files files.old) (S.left input.old)
-        (D.aside door.old) (D.reads door.old) (D.writes door.old)))) }
-    ensures cut { OnTrue (is_status result Status.WriteFault) (Leaves (K.held output.old) (K.held output.new)
-        (D.aside door.old).finished (D.aside door.new).finished result
+        (world_of (F.state files.old).files (S.state input.old).left (D.state door.old)))) }
+    ensures cut { OnTrue (is_status result Status.WriteFault) (Leaves
+        (K.state output.old).held (K.state output.new).held
+        (D.state door.old).aside.finished (D.state door.new).aside.finished result
         (CutRun (known_words words.now)
-        (world_of (F.files files.old) (S.left input.old)
-        (D.aside door.old) (D.reads door.old) (D.writes door.old)))) }
-    ensures input_counts { S.errors input.old ≤ S.errors input.new }
-    ensures file_counts { F.errors files.old ≤ F.errors files.new }
-    ensures output_counts { K.errors output.old ≤ K.errors output.new }
-    ensures door_counts { (D.aside door.old).errors ≤ (D.aside door.new).errors }
+        (world_of (F.state files.old).files (S.state input.old).left (D.state door.old)))) }
+    ensures input_counts { (S.state input.old).errors ≤ (S.state input.new).errors }
+    ensures file_counts { (F.state files.old).errors ≤ (F.state files.new).errors }
+    ensures output_counts { (K.state output.old).errors ≤ (K.state output.new).errors }
+    ensures door_counts { (D.state door.old).aside.errors ≤ (D.state door.new).aside.errors }
 {
     match read_arguments(words) {
-        Some(request) => run_request(alloc, request, files, input, output, door),
-        None => print_line(output, USAGE, Status::Usage),
+        Ok(request) => run_request(alloc, request, files, input, output, door),
+        Err(_) => print_line(output, USAGE, Status::Usage),
     }
 }

@@ -1,7 +1,6 @@
 -- Counts of entries.
-use Rattle.std.proofs.Common.{◌≡◌, ◌<◌, ◌≤◌, ℕ, ◌+◌, ◌-◌, ◌==◌, min, not, Bool, List, ◌∷◌, map, refl, ap, ◌∙◌, subst, inl, inr, arith}
-use Rattle.std.proofs.Math.Nat.{min-eq_left, min-eq_right}
-use Rattle.std.proofs.lemmas.Bool.{cases_order}
+use Rattle.std.proofs.Common.{◌≡◌, ◌<◌, ◌≤◌, ℕ, ◌+◌, ◌-◌, ◌==◌, max, min, not, Bool, List, ◌∷◌, map, refl, ap, ◌∙◌, arith}
+use Rattle.std.proofs.Math.Nat.{le-max_left, max-eq_right, min-eq_left}
 use Rattle.gs_http.specs.declared.connection.Served.{Served}
 use Rattle.gs_http.specs.declared.connection.Served.TheVariants.{Done, ReadFault, WriteFault, Memory}
 use Rattle.gs_http.specs.ServedStreams.{reads_when, writes_when}
@@ -9,17 +8,11 @@ use Rattle.gs_port.specs.Counts.{last_count}
 use Rattle.gs_http.specs.Sites.{SiteData}
 use Rattle.tdl_serve.specs.Visits.{AreVisits, RisesTellErrors, Visit, has_rise, is_error, no_visit, one_visit}
 
-below_end : (last count : ℕ) → min (count + 1) last < last → min (count + 1) last ≡ count + 1
-below_end last count low = elim (cases_order (count + 1) last) [
-  | inl same ↦ min-eq_left (omega arith)
-  | inr apart ↦ elim apart [
-    | inl below ↦ min-eq_left (omega arith)
-    | inr above ↦
-        let e : min (count + 1) last ≡ last = min-eq_right (omega arith) in
-        let no : last < last = subst (λ n. n < last) e low in
-        absurd (omega arith)
-  ]
-]
+below_end : (last count : ℕ) → max count (min (count + 1) last) < last → max count (min (count + 1) last) ≡ count + 1
+below_end last count low =
+    let kept = le-max_left count (min (count + 1) last) in
+    let few : min (count + 1) last ≡ count + 1 = min-eq_left (omega arith) in
+    ap (max count) few ∙ max-eq_right (omega arith)
 
 abbrev read_errors : Served → ℕ
 read_errors Done = 0
@@ -33,7 +26,8 @@ write_errors ReadFault = 0
 write_errors WriteFault = 1
 write_errors Memory = 0
 
-one_more : (last count : ℕ) → min (count + 1) last < last → (count ≤ min (count + 1) last) × (min (count + 1) last - count ≡ 1)
+one_more : (last count : ℕ) → max count (min (count + 1) last) < last
+    → (count ≤ max count (min (count + 1) last)) × (max count (min (count + 1) last) - count ≡ 1)
 one_more last count low = let e = below_end last count low in (omega arith, omega arith)
 
 none_more : (count : ℕ) → (count ≤ count) × (count - count ≡ 0)

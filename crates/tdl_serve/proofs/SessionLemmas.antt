@@ -1,14 +1,20 @@
 -- The turns at a listener.
-use Rattle.std.proofs.Common.{append-nil, ◌≡◌, ◌<◌, ℕ, ◌+◌, ◌≤◌, Bool, true, false, List, [], ◌∷◌, ◌++◌, length, refl, sym, ap, ◌∙◌, inr, arith}
-use Rattle.tdl_serve.specs.declared.sessions.Session.TheVariants as session
-use Rattle.tdl_serve.specs.Doors.{NoneWaits}
+use Rattle.std.proofs.Common.{◌≡◌, ◌⊎◌, ◌<◌, ℕ, ◌+◌, ◌-◌, ◌≤◌, Bool, true, false, List, [], ◌∷◌, ◌++◌, Ok, Err, length, refl, sym, ap, ◌∙◌, inl, inr, arith}
+use Rattle.gs_chars.specs.declared.memory.Memory.{Memory as Want}
 use Rattle.gs_http.specs.Sites.{SiteData}
-use Rattle.tdl_serve.specs.Turns.{OneVisit, SessionDid, error_number}
-use Rattle.tdl_serve.specs.Visits.{DoorState, Visit, Visited, errors_of, wants_memory}
+use Rattle.gs_port.specs.Connections.{after_accept}
+use Rattle.gs_port.specs.States.{ConnState}
+use Rattle.gs_port.specs.declared.door.AcceptAnswer.TheVariants as accepting
+use Rattle.tdl_lines.specs.declared.status.Status.TheVariants.{ReadFault, Memory}
+use Rattle.tdl_serve.specs.Doors.{NoneWaits, ServeRan}
+use Rattle.tdl_serve.specs.Turns.{Tallies, error_number}
+use Rattle.tdl_serve.specs.Visits.{Visit, Visited, errors_of, wants_memory}
+use Rattle.tdl_serve.proofs.RunLemmas.{still_served}
+use Rattle.tdl_serve.proofs.TurnLemmas.{OneVisit}
 use Rattle.tdl_serve.proofs.VisitLemmas.{but_last, one_more, one_more_error, one_more_served, visited_none, visited_twice}
 
 -- the numbers of connections that were served and that ended by an error, and that memory ran out at none
-pub record SoFar (site : SiteData) (before now : DoorState) (finished errors : ℕ) : Type 0 where
+pub record SoFar (site : SiteData) (before now : ConnState) (finished errors : ℕ) : Type 0 where
   pub visits : List Visit
   pub visited : Visited site before now visits
   pub number : length visits ≡ finished
@@ -16,65 +22,58 @@ pub record SoFar (site : SiteData) (before now : DoorState) (finished errors : �
   pub served : wants_memory visits ≡ false
   pub within : errors ≤ finished
 
-pub at_start : (site : SiteData) (before : DoorState) → SoFar site before before 0 0
+pub at_start : (site : SiteData) (before : ConnState) → SoFar site before before 0 0
 at_start site before = record { visits = []; visited = visited_none site before before refl refl refl refl; number = refl; failed = refl; served = refl; within = omega arith }
 
 at_most_one : (errored : Bool) → error_number errored ≤ 1
 at_most_one true = omega arith
 at_most_one false = omega arith
 
-pub goes_on : (site : SiteData) (a b c : DoorState) (finished errors : ℕ) (errored : Bool) → SoFar site a b finished errors → OneVisit site b c errored false
+pub goes_on : (site : SiteData) (a b c : ConnState) (finished errors : ℕ) (errored : Bool) → SoFar site a b finished errors → OneVisit site (Ok errored) b c
     → SoFar site a c (finished + 1) (errors + error_number errored)
-goes_on site a b c finished errors errored x y = record {
+goes_on site a b c finished errors errored x y = let tells = y.tells in record {
   visits = x.visits ++ y.visit ∷ [];
   visited = visited_twice site a b c x.visits (y.visit ∷ []) x.visited y.visited;
   number = one_more x.visits y.visit ∙ ap (λ n. n + 1) x.number;
-  failed = one_more_error x.visits y.visit errored y.is_errored ∙ ap (λ n. n + error_number errored) x.failed;
-  served = one_more_served x.visits y.visit x.served y.is_cut;
+  failed = one_more_error x.visits y.visit errored tells.0 ∙ ap (λ n. n + error_number errored) x.failed;
+  served = one_more_served x.visits y.visit x.served tells.1;
   within = let few = at_most_one errored in let less = x.within in omega arith;
 }
 
--- no more connections arrived
-pub none_came : (site : SiteData) (a b c : DoorState) (finished errors count : ℕ) → SoFar site a b finished errors
-    → Visited site b c [] × NoneWaits c → finished ≤ count → c.aside.opened ≡ true
-    → SessionDid (session.Over (record { finished = finished; errors = errors })) site count a c
-none_came site a b c finished errors count x y low opened = record {
-  visits = x.visits ++ [];
-  visited = visited_twice site a b c x.visits [] x.visited y.0;
-  few = let e = number in omega arith;
-  are = (record { reached = inr y.1; served = same_wants; opened = opened }, sym number, sym same_errors);
+-- that many connections were served, or no more arrive
+pub tallied : (site : SiteData) (a b : ConnState) (finished errors count : ℕ) → SoFar site a b finished errors → (finished ≡ count) ⊎ NoneWaits b
+    → finished ≤ count → b.aside.opened ≡ true → Tallies site count a b (record { finished = finished; errors = errors })
+tallied site a b finished errors count x over low opened = record {
+  visits = x.visits;
+  visited = x.visited;
+  few = let e = x.number in omega arith;
+  over = record { reached = reached over; served = x.served; opened = opened };
+  number = sym x.number;
+  failed = sym x.failed;
 }
   where
-    number : length (x.visits ++ []) ≡ finished
-    number = ap length (append-nil x.visits) ∙ x.number
-
-    same_wants : wants_memory (x.visits ++ []) ≡ false
-    same_wants = ap wants_memory (append-nil x.visits) ∙ x.served
-
-    same_errors : errors_of (x.visits ++ []) ≡ errors
-    same_errors = ap errors_of (append-nil x.visits) ∙ x.failed
+    reached : (finished ≡ count) ⊎ NoneWaits b → (length x.visits ≡ count) ⊎ NoneWaits b
+    reached (inl all) = inl (x.number ∙ all)
+    reached (inr none) = inr none
 
 -- no connection could be accepted
-pub none_accepted : (site : SiteData) (a b c : DoorState) (finished errors count : ℕ) → SoFar site a b finished errors → Visited site b c []
-    → finished ≤ count → SessionDid session.Failed site count a c
-none_accepted site a b c finished errors count x y low = record {
-  visits = x.visits ++ [];
-  visited = visited_twice site a b c x.visits [] x.visited y;
-  few = let e = ap length (append-nil x.visits) ∙ x.number in omega arith;
-  are = ap wants_memory (append-nil x.visits) ∙ x.served;
+pub none_accepted : (site : SiteData) (a b : ConnState) (finished errors count : ℕ) → SoFar site a b finished errors → finished ≤ count
+    → ServeRan site count a (after_accept accepting.Failed b) [] ReadFault
+none_accepted site a b finished errors count x low = let visited = x.visited in record {
+  visits = x.visits;
+  visited = record { waited = visited.waited; finished = visited.finished; are_visits = visited.are_visits };
+  few = let e = x.number in omega arith;
+  last = still_served (length x.visits - 1) x.visits x.served;
+  prints = (x.served, refl);
 }
 
 -- memory ran out at the last connection
-pub memory_ran_out : (site : SiteData) (a b c : DoorState) (finished errors count : ℕ) → SoFar site a b finished errors
-    → OneVisit site b c false true → finished < count
-    → SessionDid session.Memory site count a c
-memory_ran_out site a b c finished errors count x y low = record {
+pub memory_ran_out : (site : SiteData) (a b c : ConnState) (finished errors count : ℕ) (want : Want) → SoFar site a b finished errors
+    → OneVisit site (Err want) b c → finished < count → ServeRan site count a c [] Memory
+memory_ran_out site a b c finished errors count want x y low = record {
   visits = x.visits ++ y.visit ∷ [];
   visited = visited_twice site a b c x.visits (y.visit ∷ []) x.visited y.visited;
   few = let e = one_more x.visits y.visit in let n = x.number in omega arith;
-  are = ap wants_memory (but_last x.visits y.visit) ∙ x.served;
+  last = ap wants_memory (but_last x.visits y.visit) ∙ x.served;
+  prints = inr refl;
 }
-
--- memory ran out before the first connection
-pub none_served : (site : SiteData) (count : ℕ) (a : DoorState) → SessionDid session.Memory site count a a
-none_served site count a = record { visits = []; visited = visited_none site a a refl refl refl refl; few = omega arith; are = refl }

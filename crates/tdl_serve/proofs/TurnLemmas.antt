@@ -1,88 +1,81 @@
--- One turn at a listener.
-use Rattle.std.proofs.Common.{◌≡◌, ◌≢◌, ℕ, ◌-◌, false, List, [], ◌∷◌, ◌++◌, Option, Some, None, refl, sym, ap, ◌∙◌, subst}
+-- One connection at a listener.
+use Rattle.std.proofs.Common.{◌≡◌, ◌≢◌, ℕ, ◌-◌, List, [], ◌∷◌, ◌++◌, Option, Some, None, Result, Bool, false, refl, sym, ap, ◌∙◌}
 use Rattle.std.specs.Prelude.{is_some, option_map}
-use Rattle.gs_http.specs.declared.connection.Served.{Served}
-use Rattle.gs_http.specs.declared.connection.Served.TheVariants as served
-use Rattle.gs_http.specs.ServedStreams.{reads_when, writes_when}
-use Rattle.tdl_lines.specs.Inputs.{IsKnown}
-use Rattle.gs_port.specs.Connections.{Aside, after_accept, behind_first, finished_now, first_begun, first_input}
-use Rattle.gs_port.specs.Contents.{append_known}
-use Rattle.gs_port.specs.declared.door.AcceptAnswer.TheVariants as accepting
-use Rattle.tdl_serve.specs.declared.sessions.Turn.{Turn}
+use Rattle.gs_chars.specs.declared.memory.Memory.{Memory}
+use Rattle.gs_http.specs.ServedStreams.{after_serving, reads_when, writes_when}
 use Rattle.gs_http.specs.Sites.{SiteData}
-use Rattle.tdl_serve.specs.Resolutions.{count_if}
-use Rattle.tdl_serve.specs.Turns.{OpenServed, TurnDid, is_failure, turn_of}
-use Rattle.tdl_serve.specs.Visits.{AreVisits, DoorState, IsVisit, Visit, Visited, is_error, is_want, no_visit, one_visit, known_if}
+use Rattle.gs_port.specs.Asides.{Aside}
+use Rattle.gs_port.specs.Connections.{after_accept, after_finish, behind_first, finished_now, first_begun, first_input}
+use Rattle.gs_port.specs.Contents.{append_known}
+use Rattle.gs_port.specs.States.{ConnState}
+use Rattle.gs_port.specs.declared.door.AcceptAnswer.TheVariants as accepting
+use Rattle.tdl_lines.specs.Inputs.{IsKnown}
+use Rattle.tdl_serve.specs.Turns.{OpenServed, TellsError, after_turns}
+use Rattle.tdl_serve.specs.Visits.{AreVisits, IsVisit, Visit, Visited, no_visit, one_visit, known_if}
 use Rattle.tdl_serve.proofs.StreamLemmas.{as_answered, front_is_part, replied, known_whole}
 
-begun_known : (waiting : Option (List (List ℕ))) (before now : Option (List ℕ)) (bytes : List ℕ) → waiting ≢ Some []
-    → before ≡ first_begun waiting → now ≡ append_known before bytes
-    → now ≡ known_if (is_some waiting) bytes
-begun_known None before now bytes some e n = n ∙ ap (λ known. append_known known bytes) e
-begun_known (Some []) before now bytes some e n = absurd (some refl)
-begun_known (Some (input ∷ rest)) before now bytes some e n = n ∙ ap (λ known. append_known known bytes) e
+begun_known : (waiting : Option (List (List ℕ))) (bytes : List ℕ) → waiting ≢ Some [] → append_known (first_begun waiting) bytes ≡ known_if (is_some waiting) bytes
+begun_known None bytes some = refl
+begun_known (Some []) bytes some = absurd (some refl)
+begun_known (Some (input ∷ rest)) bytes some = refl
 
-first_waited : (waiting : Option (List (List ℕ))) (left : Option (List ℕ)) (bytes : List ℕ) → waiting ≢ Some [] → left ≡ first_input waiting
-    → IsKnown left bytes
+first_waited : (waiting : Option (List (List ℕ))) (bytes : List ℕ) → waiting ≢ Some [] → IsKnown (first_input waiting) bytes
     → waiting ≡ option_map (λ rest. bytes ∷ rest) (behind_first waiting)
-first_waited None left bytes some e is_known = refl
-first_waited (Some []) left bytes some e is_known = absurd (some refl)
-first_waited (Some (input ∷ rest)) left bytes some e is_known =
-    let same : bytes ≡ input = subst (λ known. IsKnown known bytes) e is_known in
+first_waited None bytes some is_known = refl
+first_waited (Some []) bytes some is_known = absurd (some refl)
+first_waited (Some (input ∷ rest)) bytes some is_known =
+    let same : bytes ≡ input = is_known in
     ap (λ first. Some (first ∷ rest)) (sym same)
 
-by_served : (site : SiteData) (before now : DoorState) (served : Served) (visit : Visit) → visit.served ≡ served
-    → Visited site before now (visit ∷ []) → TurnDid (turn_of served) site before now
-by_served site before now served.Done visit e visited = record { visit = visit; visited = visited; is_errored = ap is_error e; is_cut = ap is_want e }
-by_served site before now served.ReadFault visit e visited = record { visit = visit; visited = visited; is_errored = ap is_error e; is_cut = ap is_want e }
-by_served site before now served.WriteFault visit e visited = record { visit = visit; visited = visited; is_errored = ap is_error e; is_cut = ap is_want e }
-by_served site before now served.Memory visit e visited = record { visit = visit; visited = visited; is_errored = ap is_error e; is_cut = ap is_want e }
+-- a listener before its first turn
+pub stays_closed : (door : ConnState) → door.is_open ≡ false → door ≡ after_turns false door door
+stays_closed door none = ap (λ open_now. record door { is_open = open_now }) none
+
+-- the listener after one more connection
+pub turned : (site : SiteData) (answer : Result Bool Memory) (a b c : ConnState) → b ≡ after_turns false b a
+    → OpenServed site answer (after_accept accepting.Accepted b) c → c ≡ after_turns false c a
+turned site answer a b c before x =
+    let accepted : ConnState → ConnState = λ door. after_finish (after_serving x.served x.last (after_accept accepting.Accepted door)) in
+    let is : c ≡ accepted (after_turns false b a) = x.ended ∙ ap after_finish x.rest ∙ ap accepted before in
+    is ∙ ap (λ door. after_turns false door a) (sym is)
+
+-- one connection was served and finished
+pub record OneVisit (site : SiteData) (answer : Result Bool Memory) (before now : ConnState) : Type 0 where
+  pub visit : Visit
+  pub visited : Visited site before now (visit ∷ [])
+  pub tells : TellsError answer visit.served
 
 -- the first of the waiting connections was accepted, served and finished
-pub accepted : (site : SiteData) (turn : Turn) (before mid now : DoorState) (left taken held : Option (List ℕ)) → before.aside.waiting ≢ Some []
-    → left ≡ first_input before.aside.waiting → taken ≡ first_begun before.aside.waiting → held ≡ first_begun before.aside.waiting
-    → mid.aside ≡ after_accept accepting.Accepted before.reads before.writes before.aside → mid.reads ≡ before.reads → mid.writes ≡ before.writes
-    → OpenServed site turn left taken held mid now → TurnDid turn site before now
-accepted site turn before mid now left taken held some whole unread unwritten aside reads writes x =
+pub accepted : (site : SiteData) (answer : Result Bool Memory) (before now : ConnState) → before.aside.waiting ≢ Some []
+    → OpenServed site answer (after_accept accepting.Accepted before) now → OneVisit site answer before now
+accepted site answer before now some x =
     let is = x.is_served in
-    let entry = finished_now x.taken' x.held' now.reads now.writes mid.aside in
-    let visit : Visit = record { input = is.read ++ is.rest; served = x.served; entry = entry } in
     let known = is_some before.aside.waiting in
-    let from_reads : mid.aside.reads_then ≡ before.reads = ap (λ (a : Aside). a.reads_then) aside in
-    let from_writes : mid.aside.writes_then ≡ before.writes = ap (λ (a : Aside). a.writes_then) aside in
-    let new_reads : now.reads ≡ reads_when x.served before.reads = x.read_count ∙ ap (reads_when x.served) reads in
-    let new_writes : now.writes ≡ writes_when x.served before.writes = x.write_count ∙ ap (writes_when x.served) writes in
+    let aside = ap (λ (c : ConnState). c.aside) x.rest in
+    let reads : x.last.reads ≡ reads_when x.served before.reads = ap (λ (c : ConnState). c.reads) x.rest in
+    let writes : x.last.writes ≡ writes_when x.served before.writes = ap (λ (c : ConnState). c.writes) x.rest in
+    let waits : behind_first before.aside.waiting ≡ x.last.aside.waiting = sym (ap (λ (a : Aside). a.waiting) aside) in
+    let whole = known_whole (first_input before.aside.waiting) x.last.left is.read is.rest is.moved is.is_rest in
+    let visit : Visit = record { input = is.read ++ is.rest; served = x.served; entry = finished_now x.last } in
     let is_visit : IsVisit site known before.reads before.writes visit = record {
       read = is.read;
       written = is.written;
-      is_read = begun_known before.aside.waiting taken x.taken' is.read some unread is.took;
-      is_written = begun_known before.aside.waiting held x.held' is.written some unwritten is.wrote;
+      is_read = is.took ∙ begun_known before.aside.waiting is.read some;
+      is_written = is.wrote ∙ begun_known before.aside.waiting is.written some;
       of_input = front_is_part is.read is.rest;
-      replied = replied site x.served left x.left' taken x.taken' held x.held' is;
-      as_answered = as_answered site x.served left x.left' taken x.taken' held x.held' is;
-      read_count = ap (λ n. n - mid.aside.reads_then) new_reads ∙ ap (λ n. reads_when x.served before.reads - n) from_reads;
-      write_count = ap (λ n. n - mid.aside.writes_then) new_writes ∙ ap (λ n. writes_when x.served before.writes - n) from_writes;
+      replied = replied site x.served _ _ is;
+      as_answered = as_answered site x.served _ _ is;
+      read_count = ap (λ n. n - x.last.aside.reads_then) reads ∙ ap (λ (a : Aside). reads_when x.served before.reads - a.reads_then) aside;
+      write_count = ap (λ n. n - x.last.aside.writes_then) writes ∙ ap (λ (a : Aside). writes_when x.served before.writes - a.writes_then) aside;
     } in
-    let alone : AreVisits site known before.reads before.writes (visit ∷ []) (reads_when x.served before.reads) (writes_when x.served before.writes) =
-    one_visit before.reads before.writes visit [] _ _ is_visit (no_visit _ _) in
-    let still : now.aside.waiting ≡ behind_first before.aside.waiting = ap (λ (a : Aside). a.waiting) x.aside ∙ ap (λ (a : Aside). a.waiting) aside in
-    let visited : Visited site before now (visit ∷ []) = record {
-      waited =
-          first_waited before.aside.waiting left (is.read ++ is.rest) some whole (known_whole left x.left' is.read is.rest is.moved is.is_rest)
-          ∙ ap (option_map (λ rest. (is.read ++ is.rest) ∷ rest)) (sym still);
-      finished =
-          ap (λ (a : Aside). a.finished) x.aside ∙ ap (λ known. option_map (λ earlier. earlier ++ entry ∷ []) known) (ap (λ (a : Aside). a.finished) aside);
-      are_visits = subst (λ r. AreVisits site known before.reads before.writes (visit ∷ []) r now.writes) (sym new_reads)
-          (subst (λ w. AreVisits site known before.reads before.writes (visit ∷ []) (reads_when x.served before.reads) w) (sym new_writes) alone);
-    } in
-    subst (λ t. TurnDid t site before now) (sym x.is_turn) (by_served site before now x.served visit refl visited)
-
-never_fails : (served : Served) → is_failure (turn_of served) ≡ false
-never_fails served.Done = refl
-never_fails served.ReadFault = refl
-never_fails served.WriteFault = refl
-never_fails served.Memory = refl
-
--- the listener itself counts no error for a connection that was served
-pub counts_of_turn : (turn : Turn) (served : Served) → turn ≡ turn_of served → (before now : ℕ) → now ≡ before → now ≡ count_if (is_failure turn) before
-counts_of_turn turn served is before now e = rw (is, never_fails served) e
+    let none : AreVisits site known (reads_when x.served before.reads) (writes_when x.served before.writes) [] x.last.reads x.last.writes =
+    rw (reads, writes) (no_visit _ _) in
+    record {
+      visit = visit;
+      visited = rw x.ended (record {
+        waited = first_waited before.aside.waiting (is.read ++ is.rest) some whole ∙ ap (option_map (λ rest. (is.read ++ is.rest) ∷ rest)) waits;
+        finished = ap (λ (a : Aside). option_map (λ earlier. earlier ++ finished_now x.last ∷ []) a.finished) aside;
+        are_visits = one_visit before.reads before.writes visit [] _ _ is_visit none;
+      });
+      tells = x.tells;
+    }

@@ -6,10 +6,11 @@ use Rattle.std.proofs.Math.Seq.{take-append_seam}
 use Rattle.std.proofs.lemmas.List.{map-append}
 use Rattle.std.proofs.lemmas.List.Elements.{filter-append}
 use Rattle.std.proofs.lemmas.List.Folds.{list_any-append}
-use Rattle.gs_port.specs.Connections.{Finished}
+use Rattle.gs_port.specs.Asides.{Finished}
+use Rattle.gs_port.specs.States.{ConnState}
 use Rattle.gs_http.specs.Sites.{SiteData}
 use Rattle.tdl_serve.specs.Turns.{error_number}
-use Rattle.tdl_serve.specs.Visits.{AreVisits, DoorState, Visit, Visited, entries_of, errors_of, inputs_of, is_error, is_want, no_visit, one_visit, wants_memory}
+use Rattle.tdl_serve.specs.Visits.{AreVisits, Visit, Visited, entries_of, errors_of, inputs_of, is_error, is_want, no_visit, one_visit, wants_memory}
 
 -- ---- lists of connections
 
@@ -40,7 +41,7 @@ still_known xs a None p = ap is_some (sym p)
 still_known xs a (Some rest) p = ap is_some (sym p)
 
 -- connections, and then connections
-pub visited_twice : (site : SiteData) (a b c : DoorState) (xs ys : List Visit) → Visited site a b xs → Visited site b c ys → Visited site a c (xs ++ ys)
+pub visited_twice : (site : SiteData) (a b c : ConnState) (xs ys : List Visit) → Visited site a b xs → Visited site b c ys → Visited site a c (xs ++ ys)
 visited_twice site a b c xs ys p q = record {
   waited = waited_twice xs ys _ _ _ p.waited q.waited;
   finished = finished_twice xs ys _ _ _ p.finished q.finished;
@@ -57,7 +58,7 @@ same_finished None b e = e
 same_finished (Some earlier) b e = e ∙ ap Some (sym (append-nil earlier))
 
 -- no connection
-pub visited_none : (site : SiteData) (a b : DoorState) → b.aside.waiting ≡ a.aside.waiting → b.aside.finished ≡ a.aside.finished
+pub visited_none : (site : SiteData) (a b : ConnState) → b.aside.waiting ≡ a.aside.waiting → b.aside.finished ≡ a.aside.finished
     → b.reads ≡ a.reads → b.writes ≡ a.writes → Visited site a b []
 visited_none site a b waiting finished reads writes = record {
   waited = same_waiting _ _ waiting;

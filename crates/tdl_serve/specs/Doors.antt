@@ -4,11 +4,12 @@ use Rattle.tdl_lines.specs.declared.status.Status.{Status}
 use Rattle.tdl_lines.specs.declared.status.Status.TheVariants.{Done, ReadFault, WriteFault, Memory}
 use Rattle.tdl_lines.specs.Printers.{IsInitialPart}
 use Rattle.tdl_lines.specs.Statuses.{is_status}
-use Rattle.gs_port.specs.Connections.{Aside}
+use Rattle.gs_port.specs.Asides.{Aside}
+use Rattle.gs_port.specs.Counts.{count_if}
 use Rattle.gs_port.specs.Files.{AddsNames}
-use Rattle.tdl_serve.specs.Resolutions.{count_if}
+use Rattle.gs_port.specs.States.{ConnState}
 use Rattle.gs_http.specs.Sites.{SiteData}
-use Rattle.tdl_serve.specs.Visits.{DoorState, Visit, Visited, errors_of, wants_memory}
+use Rattle.tdl_serve.specs.Visits.{Visit, Visited, errors_of, wants_memory}
 
 -- trusted, own: the line with the numbers of finished connections, and of those that ended by an error
 abbrev pub served_line : ℕ → ℕ → List ℕ
@@ -19,12 +20,12 @@ abbrev pub line_of : List Visit → List ℕ
 line_of visits = served_line (length visits) (errors_of visits)
 
 -- trusted, own: holds if no connection waits, or the waiting ones are unknown
-abbrev pub NoneWaits : DoorState → Type 0
+abbrev pub NoneWaits : ConnState → Type 0
 NoneWaits now = IfSome now.aside.waiting (λ waiting. waiting ≡ [])
 
 -- trusted, own: holds if the listener was opened, and `count` connections were served, or all if no more wait; memory did not
 -- run out
-pub record IsOver (count : ℕ) (now : DoorState) (visits : List Visit) : Type 0 where
+pub record IsOver (count : ℕ) (now : ConnState) (visits : List Visit) : Type 0 where
   pub reached : (length visits ≡ count) ⊎ NoneWaits now
   pub served : wants_memory visits ≡ false
   pub opened : now.aside.opened ≡ true
@@ -32,7 +33,7 @@ pub record IsOver (count : ℕ) (now : DoorState) (visits : List Visit) : Type 0
 -- trusted, own: Holds if `output` is the output for the connections that belongs to the status. It is the line with `Done`, a
 -- prefix of it with `WriteFault`, and nothing with `ReadFault`. With `Memory` it is a prefix of the line if all were served, or
 -- nothing.
-abbrev pub ServePrints : Status → ℕ → DoorState → List Visit → List ℕ → Type 0
+abbrev pub ServePrints : Status → ℕ → ConnState → List Visit → List ℕ → Type 0
 ServePrints Done count now visits output = IsOver count now visits × (output ≡ line_of visits)
 ServePrints ReadFault count now visits output = (wants_memory visits ≡ false) × (output ≡ [])
 ServePrints WriteFault count now visits output = IsOver count now visits × IsInitialPart output (line_of visits)
@@ -50,7 +51,7 @@ OpensAt lost address before now = AddsNames lost before.addresses (address ∷ [
 
 -- trusted, own: Holds if at most `count` of the waiting connections were served between two moments, and `output` is the one
 -- that belongs to the status. Memory ran out at most at the last of them.
-pub record ServeRan (site : SiteData) (count : ℕ) (before now : DoorState) (output : List ℕ) (status : Status) : Type 0 where
+pub record ServeRan (site : SiteData) (count : ℕ) (before now : ConnState) (output : List ℕ) (status : Status) : Type 0 where
   pub visits : List Visit
   pub visited : Visited site before now visits
   pub few : length visits ≤ count

@@ -1,5 +1,5 @@
 -- Streams that were answered.
-use Rattle.std.specs.Prelude.{◌≡◌, ℕ, Bool, true, false, List, Option}
+use Rattle.std.specs.Prelude.{◌≡◌, ℕ, true, List, None, Option}
 use Rattle.std.specs.Bool.{OnTrue}
 use Rattle.gs_http.specs.declared.connection.Served.{Served}
 use Rattle.gs_http.specs.declared.connection.Served.TheVariants as served
@@ -8,7 +8,8 @@ use Rattle.tdl_lines.specs.declared.status.Status.{Status}
 use Rattle.tdl_lines.specs.declared.status.Status.TheVariants.{Done, ReadFault, WriteFault, Memory}
 use Rattle.tdl_lines.specs.Inputs.{IsKnown}
 use Rattle.tdl_lines.specs.Statuses.{is_written}
-use Rattle.gs_port.specs.Counts.{counted}
+use Rattle.gs_port.specs.Asides.{no_aside}
+use Rattle.gs_port.specs.States.{ConnState}
 use Rattle.gs_http.specs.Sites.{SiteData}
 use Rattle.tdl_serve.specs.Sites.{AreSiteReplies, Replied}
 
@@ -32,13 +33,13 @@ status_of served.ReadFault = ReadFault
 status_of served.WriteFault = WriteFault
 status_of served.Memory = Memory
 
+-- trusted, own: a stream as a connection: these bytes are left of the input, and these are written
+abbrev pub stream_of : Option (List ℕ) → Option (List ℕ) → ConnState
+stream_of left held =
+    record { ends = None; is_open = true; left = left; taken = None; held = held; reads = 0; writes = 0; aside = no_aside }
+
 -- trusted, own: holds if the stream was served as a connection is, with `status`
-pub record StreamServed (site : SiteData) (status : Status) (left left' taken taken' held held' : Option (List ℕ)) : Type 0 where
+pub record StreamServed (site : SiteData) (status : Status) (before now : ConnState) : Type 0 where
   pub served : Served
   pub has_status : status ≡ status_of served
-  pub is_served : IsServed 1000 site.table site.links site.settings served left left' taken taken' held held'
-
--- trusted, own: the count after a call, by whether it had an error
-abbrev pub count_if : Bool → ℕ → ℕ
-count_if true count = counted count
-count_if false count = count
+  pub is_served : IsServed 1000 site.table site.links site.settings served before now

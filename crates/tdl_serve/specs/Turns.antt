@@ -1,86 +1,72 @@
--- The work at a listener, turn by turn.
-use Rattle.std.specs.Prelude.{◌≡◌, ℕ, ◌≤◌, ◌-◌, Bool, true, false, List, [], ◌∷◌, Option, length, take}
+-- The work at a listener, connection by connection.
+use Rattle.std.specs.Prelude.{◌≡◌, ℕ, ◌≤◌, Bool, true, false, List, [], Result, Ok, Err, length}
+use Rattle.gs_chars.specs.declared.memory.Memory.{Memory}
 use Rattle.gs_http.specs.declared.connection.Served.{Served}
-use Rattle.gs_http.specs.declared.connection.Served.TheVariants as served
-use Rattle.gs_http.specs.ServedStreams.{IsServed, reads_when, writes_when}
-use Rattle.gs_port.specs.Connections.{Aside, after_finish, finished_now}
-use Rattle.tdl_serve.specs.Resolutions.{count_if}
-use Rattle.tdl_serve.specs.declared.sessions.Session.{Session}
-use Rattle.tdl_serve.specs.declared.sessions.Session.TheVariants as session
-use Rattle.tdl_serve.specs.declared.sessions.Turn.{Turn}
-use Rattle.tdl_serve.specs.declared.sessions.Turn.TheVariants.{Finished, Closed, Failed, Memory}
-use Rattle.tdl_serve.specs.Doors.{IsOver, NoneWaits}
+use Rattle.gs_http.specs.ServedStreams.{IsServed, after_serving}
 use Rattle.gs_http.specs.Sites.{SiteData}
-use Rattle.tdl_serve.specs.Visits.{DoorState, Visit, Visited, errors_of, is_error, is_want, wants_memory}
+use Rattle.gs_port.specs.Connections.{after_finish}
+use Rattle.gs_port.specs.Counts.{count_if}
+use Rattle.gs_port.specs.States.{ConnState}
+use Rattle.tdl_lines.specs.declared.status.Status.{Status}
+use Rattle.tdl_lines.specs.declared.status.Status.TheVariants.{ReadFault, WriteFault}
+use Rattle.tdl_lines.specs.Statuses.{is_status}
+use Rattle.tdl_serve.specs.declared.sessions.Tally.{Tally}
+use Rattle.tdl_serve.specs.Doors.{IsOver, ServeRan}
+use Rattle.tdl_serve.specs.Visits.{Visit, Visited, errors_of, is_error, is_want}
 
--- the turn of a connection that was served so
-abbrev pub turn_of : Served → Turn
-turn_of served.Done = Finished false
-turn_of served.ReadFault = Finished true
-turn_of served.WriteFault = Finished true
-turn_of served.Memory = Memory
+-- holds if this says whether serving ended by an error, or that memory ran out
+abbrev pub TellsError : Result Bool Memory → Served → Type 0
+TellsError (Ok errored) served = (is_error served ≡ errored) × (is_want served ≡ false)
+TellsError (Err short) served = is_want served ≡ true
 
--- holds if no connection could be accepted
-abbrev pub is_failure : Turn → Bool
-is_failure (Finished errored) = false
-is_failure Closed = false
-is_failure Failed = true
-is_failure Memory = false
-
--- holds if the open connection was served and finished; this was left, read and written of it
-pub record OpenServed (site : SiteData) (turn : Turn) (left taken held : Option (List ℕ)) (before now : DoorState) : Type 0 where
+-- holds if the open connection was served with this answer, and finished
+pub record OpenServed (site : SiteData) (answer : Result Bool Memory) (before now : ConnState) : Type 0 where
   pub served : Served
-  pub left' : Option (List ℕ)
-  pub taken' : Option (List ℕ)
-  pub held' : Option (List ℕ)
-  pub is_turn : turn ≡ turn_of served
-  pub is_served : IsServed 1000 site.table site.links site.settings served left left' taken taken' held held'
-  pub aside : now.aside ≡ after_finish (finished_now taken' held' now.reads now.writes before.aside) before.aside
-  pub read_count : now.reads ≡ reads_when served before.reads
-  pub write_count : now.writes ≡ writes_when served before.writes
-
--- holds if one connection was served, and whether that ended by an error, or out of memory
-pub record OneVisit (site : SiteData) (before now : DoorState) (errored want : Bool) : Type 0 where
-  pub visit : Visit
-  pub visited : Visited site before now (visit ∷ [])
-  pub is_errored : is_error visit.served ≡ errored
-  pub is_cut : is_want visit.served ≡ want
-
--- holds if this is the effect of a turn
-abbrev pub TurnDid : Turn → SiteData → DoorState → DoorState → Type 0
-TurnDid (Finished errored) site before now = OneVisit site before now errored false
-TurnDid Closed site before now = Visited site before now [] × NoneWaits now
-TurnDid Failed site before now = Visited site before now []
-TurnDid Memory site before now = OneVisit site before now false true
+  pub last : ConnState
+  pub tells : TellsError answer served
+  pub is_served : IsServed 1000 site.table site.links site.settings served before last
+  pub rest : last ≡ after_serving served last before
+  pub ended : now ≡ after_finish last
 
 -- one more if there was an error
 abbrev pub error_number : Bool → ℕ
 error_number true = 1
 error_number false = 0
 
--- holds if at most that many of the waiting connections were served, and a fact holds of them
-pub record SomeVisits (site : SiteData) (count : ℕ) (before now : DoorState) (fact : List Visit → Type 0) : Type 0 where
+-- holds if that many connections, or all, were served, and the tally is theirs
+pub record Tallies (site : SiteData) (count : ℕ) (before now : ConnState) (tally : Tally) : Type 0 where
   pub visits : List Visit
   pub visited : Visited site before now visits
   pub few : length visits ≤ count
-  pub are : fact visits
+  pub over : IsOver count now visits
+  pub number : tally.finished ≡ length visits
+  pub failed : tally.errors ≡ errors_of visits
 
--- holds if this is the effect of the turns, by how they ended
-abbrev pub SessionDid : Session → SiteData → ℕ → DoorState → DoorState → Type 0
-SessionDid (session.Over tally) site count before now =
-    SomeVisits site count before now (λ visits. IsOver count now visits × (tally.finished ≡ length visits) × (tally.errors ≡ errors_of visits))
-SessionDid session.Failed site count before now = SomeVisits site count before now (λ visits. wants_memory visits ≡ false)
-SessionDid session.Memory site count before now =
-    SomeVisits site count before now (λ visits. wants_memory (take (length visits - 1) visits) ≡ false)
+-- holds if this is the effect of the turns, by how they ended; nothing was written yet
+abbrev pub SessionDid : Result Tally Status → SiteData → ℕ → ConnState → ConnState → Type 0
+SessionDid (Ok tally) site count before now = Tallies site count before now tally
+SessionDid (Err status) site count before now = ServeRan site count before now [] status × (is_status status WriteFault ≡ false)
 
--- holds if no connection could be accepted at last
-abbrev pub is_failed : Session → Bool
-is_failed (session.Over tally) = false
-is_failed session.Failed = true
-is_failed session.Memory = false
+-- whether no connection could be accepted at last
+abbrev pub is_failed : Result Tally Status → Bool
+is_failed (Ok tally) = false
+is_failed (Err status) = is_status status ReadFault
 
--- holds if this is the effect of turns on the listener itself: one more error if the last of them failed, and the same addresses
-pub record LeavesDoor (failed : Bool) (before now : Aside) : Type 0 where
-  pub own_count : now.errors ≡ count_if failed before.errors
-  pub own_counts : before.errors ≤ now.errors
-  pub same_addresses : now.addresses ≡ before.addresses
+-- The listener after the turns: none is open, with one more of its own errors if the last of them failed. The connections and the
+-- counts of reads and writes are those now.
+abbrev pub after_turns : Bool → ConnState → ConnState → ConnState
+after_turns failed now before = record before {
+  is_open = false;
+  left = now.left;
+  taken = now.taken;
+  held = now.held;
+  reads = now.reads;
+  writes = now.writes;
+  aside = record before.aside {
+    errors = count_if failed before.aside.errors;
+    waiting = now.aside.waiting;
+    finished = now.aside.finished;
+    reads_then = now.aside.reads_then;
+    writes_then = now.aside.writes_then;
+  };
+}

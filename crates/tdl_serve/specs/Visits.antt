@@ -8,7 +8,8 @@ use Rattle.gs_http.specs.ServedStreams.{OnDone, reads_when, writes_when}
 use Rattle.gs_chars.specs.Answers.{BeginsWith}
 use Rattle.gs_http.specs.Streams.{AreReplies, all_bytes, bytes_of, has_closing, heads_of}
 use Rattle.tdl_lines.specs.Printers.{IsInitialPart}
-use Rattle.gs_port.specs.Connections.{Aside, Finished}
+use Rattle.gs_port.specs.Asides.{Finished}
+use Rattle.gs_port.specs.States.{ConnState}
 use Rattle.gs_http.specs.Sites.{SiteData}
 use Rattle.tdl_serve.specs.Sites.{Replied}
 
@@ -90,20 +91,9 @@ pub data AreVisits (site : SiteData) (known : Bool) : ℕ → ℕ → List Visit
   one_visit : (reads writes : ℕ) (visit : Visit) (visits : List Visit) (reads' writes' : ℕ) → IsVisit site known reads writes visit
       → AreVisits site known (reads_when visit.served reads) (writes_when visit.served writes) visits reads' writes' → AreVisits site known reads writes (visit ∷ visits) reads' writes'
 
--- trusted, own: the known state of a listener: the state that reads and writes preserve, and the counts of the reads and of the
--- writes that failed
-pub record DoorState : Type 0 where
-  pub aside : Aside
-  pub reads : ℕ
-  pub writes : ℕ
-
--- trusted, own: the known state of a listener that sets this aside, at these counts
-abbrev pub state_of : Aside → ℕ → ℕ → DoorState
-state_of aside reads writes = record { aside = aside; reads = reads; writes = writes }
-
 -- trusted, own: holds if, from `before` to `now`, the first waiting connections were served, in their order, and follow those
 -- finished before
-pub record Visited (site : SiteData) (before now : DoorState) (visits : List Visit) : Type 0 where
+pub record Visited (site : SiteData) (before now : ConnState) (visits : List Visit) : Type 0 where
   pub waited : before.aside.waiting ≡ option_map (λ rest. inputs_of visits ++ rest) now.aside.waiting
   pub finished : now.aside.finished ≡ option_map (λ earlier. earlier ++ entries_of visits) before.aside.finished
   pub are_visits : AreVisits site (is_some before.aside.waiting) before.reads before.writes visits now.reads now.writes

@@ -10,7 +10,6 @@
 use crate::bits::buffer;
 use crate::grammars::{is_bits, options_of};
 use gs_chars::{Memory, Text};
-use gs_grammar::MOST_SYMBOLS;
 use gs_grammar_level::{Level, Reading, Shared, read_bits, read_text};
 use std::alloc::Global;
 use vectors_cases::{Done, Line, Rejection, behind, bytes_at, named};
@@ -111,10 +110,7 @@ fn bits_read(alloc: Global, line: &mut Line, digits: &[u8], words: &[Text]) -> D
     match level.first_share(alloc) {
         Ok(Some(pair)) => add_pair(line, pair),
         Err(Memory) => line.want_memory(),
-        Ok(None) => {
-            let mut room = [0; MOST_SYMBOLS];
-            add_reading(line, read_bits(alloc, &level, &bits, &mut room));
-        }
+        Ok(None) => add_reading(line, read_bits(alloc, &level, &bits)),
     }
     Ok(())
 }

@@ -17,9 +17,9 @@ use vectors_cases::{Done, Line, door_of, section, sink_of, source_of};
 
 /// Writes the answer of a turn.
 fn add_turn<C: Conn>(line: &mut Line, conn: &mut C)
-    requires { C.is_open conn.old ≡ true }
-    ensures open { C.is_open conn.new ≡ true }
-    ensures aside { C.aside conn.new ≡ C.aside conn.old }
+    requires { (C.state conn.old).is_open ≡ true }
+    ensures open { (C.state conn.new).is_open ≡ true }
+    ensures aside { (C.state conn.new).aside ≡ (C.state conn.old).aside }
 {
     let mut block = [0; 4];
     match conn.read(&mut block) {
@@ -33,9 +33,9 @@ fn add_turn<C: Conn>(line: &mut Line, conn: &mut C)
 
 /// Writes the answers of three turns.
 fn add_turns<C: Conn>(line: &mut Line, conn: &mut C)
-    requires { C.is_open conn.old ≡ true }
-    ensures open { C.is_open conn.new ≡ true }
-    ensures aside { C.aside conn.new ≡ C.aside conn.old }
+    requires { (C.state conn.old).is_open ≡ true }
+    ensures open { (C.state conn.new).is_open ≡ true }
+    ensures aside { (C.state conn.new).aside ≡ (C.state conn.old).aside }
 {
     add_turn(line, conn);
     add_turn(line, conn);

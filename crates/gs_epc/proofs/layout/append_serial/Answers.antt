@@ -6,14 +6,14 @@ use Rattle.gs_epc.specs.Layout.{serial_elements}
 use Rattle.gs_epc.proofs.LaidLinks.{no_step, one_step}
 use Rattle.gs_epc.proofs.layout.append_serial.Goals as goal
 
-pub returns-in-Some : goal.returns-in-Some
-returns-in-Some c =
+pub returns-in-Some-clause-written : goal.returns-in-Some-clause-written
+returns-in-Some-clause-written c =
     let serial = c.epc.inside.serial.now in
     let elements = serial_elements c.args.set.now.ais c.args.kind.now.serial serial in
     let coded = rw (← c.epc.view_is) at c.in-Some.ensures in
     rw (← c.epc.view_is) (IfOk-weaker c.append_element.result (λ _. c.append_element.new.out.items ≡ c.args.out.now.items ++ (47 ∷ (c.in-Some.code.now ++ 47 ∷ percent_encoded serial))) (λ _. c.append_element.new.out.items ≡ c.args.out.now.items ++ flat_map path_step elements)
     (λ _ e. one_step elements serial c.in-Some.code.now c.args.out.now.items c.append_element.new.out.items coded e) c.append_element.ensures.written)
 
-pub returns-in-None : goal.returns-in-None
-returns-in-None c =
+pub returns-in-None-clause-written : goal.returns-in-None-clause-written
+returns-in-None-clause-written c =
     no_step (serial_elements c.args.set.now.ais c.args.kind.now.serial c.args.epc.now.serial) c.args.epc.now.serial c.args.out.now.items c.in-None.ensures

@@ -1,4 +1,5 @@
-use Rattle.std.proofs.Common.{◌∙◌, ap, arith, refl, sym}
+use Rattle.std.proofs.Common.{◌∙◌, [], ap, append-nil, arith, refl, sym}
+use Rattle.gs_ident.proofs.BeginLemmas.{begins_more}
 use Rattle.gs_tables.specs.Numbers.{numbers_of}
 use Rattle.gs_tables.specs.Tables.{level_rows}
 use Rattle.gs_epc.specs.Writes.{text_by}
@@ -38,23 +39,29 @@ try_candidate-requires-clause-candidate c =
     turn_candidate _ _ _ _ _ _ _ _ at _ c.info-info.ensures.rows c.index-info-i.is c.info-info.ensures.shaped
     (sym c.if-not-is_asked.false ∙ (c.is_asked.ensures ∙ ap (λ (e : Epc). is_asked c.args.level e.encoding c.as_bytes.result.now) c.epc.view_is ∙ ap (is_asked c.args.level c.args.epc.now.encoding) c.as_bytes.ensures))
 
-pub returns-in-Ok : goal.returns-in-Ok
-returns-in-Ok c =
+pub returns-in-Ok-clause-written : goal.returns-in-Ok-clause-written
+returns-in-Ok-clause-written c =
     let at = turn _ _ _ _ _ _ _ _ c.info-info.ensures.rows c.loop-number.invariant.tried c.loop-number-test.true refl in
     let candidate = turn_candidate _ _ _ _ _ _ _ _ at _ c.info-info.ensures.rows c.index-info-i.is c.info-info.ensures.shaped (sym c.if-not-is_asked.false ∙ (c.is_asked.ensures ∙ ap (λ (e : Epc). is_asked c.args.level e.encoding c.as_bytes.result.now) c.epc.view_is ∙ ap (is_asked c.args.level c.args.epc.now.encoding) c.as_bytes.ensures)) in
-    let tried = c.in-Ok.ensures candidate in
+    let tried = c.in-Ok.ensures.tried candidate in
     (text_by _ _ _ candidate, rw c.loop-number.invariant.same at tried.1, writes _ _ _ _ _ candidate at.rejected tried.0)
 
 pub loop-number-preserved : goal.loop-number-preserved
 loop-number-preserved c =
     let at = turn _ _ _ _ _ _ _ _ c.info-info.ensures.rows c.loop-number.invariant.tried c.loop-number-test.true refl in
     let candidate = turn_candidate _ _ _ _ _ _ _ _ at _ c.info-info.ensures.rows c.index-info-i.is c.info-info.ensures.shaped (sym c.if-not-is_asked.false ∙ (c.is_asked.ensures ∙ ap (λ (e : Epc). is_asked c.args.level e.encoding c.as_bytes.result.now) c.epc.view_is ∙ ap (is_asked c.args.level c.args.epc.now.encoding) c.as_bytes.ensures)) in
-    let tried = rw c.in-Err-CannotHold.field-0-is at (c.in-Err-CannotHold.ensures candidate) in
+    let tried = rw c.in-Err-CannotHold.field-0-is at (c.in-Err-CannotHold.ensures.tried candidate) in
     record {
       tried = turn_rejected _ _ _ _ _ _ _ _ _ at (rejected_next _ _ _ _ _ candidate _ _ at.rejected tried.0);
       same = tried.1 ∙ c.loop-number.invariant.same;
     }
 
-pub returns : goal.returns
-returns c = appends_none _ _ _ _ _ _ c.loop-number.invariant.same
+pub returns-clause-written : goal.returns-clause-written
+returns-clause-written c = appends_none _ _ _ _ _ _ c.loop-number.invariant.same
     (all_tried _ _ _ _ _ _ _ c.info-info.ensures.rows c.loop-number-test.false c.loop-number.invariant.tried)
+
+pub returns-in-Err-Memory-clause-begun : goal.returns-in-Err-Memory-clause-begun
+returns-in-Err-Memory-clause-begun c = rw c.loop-number.invariant.same at c.in-Err-Memory.ensures.begun
+
+pub returns-clause-begun : goal.returns-clause-begun
+returns-clause-begun c = begins_more _ _ [] (c.loop-number.invariant.same ∙ sym (append-nil _))

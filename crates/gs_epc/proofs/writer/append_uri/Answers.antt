@@ -23,5 +23,5 @@ appends level items values before now (Ok done) wrote held rejected unchanged e 
 appends level items values before now (Err (CannotHold k why)) wrote held rejected unchanged e = (rejected, unchanged)
 appends level items values before now (Err Memory) wrote held rejected unchanged e = tt
 
-pub returns : goal.returns
-returns c = λ text. appends _ _ _ _ _ _ c.append_text.ensures.written c.append_text.ensures.held c.append_text.ensures.rejected c.append_text.ensures.unchanged text
+pub returns-clause-written : goal.returns-clause-written
+returns-clause-written c = λ text. appends _ _ _ _ _ _ c.append_text.ensures.written c.append_text.ensures.held c.append_text.ensures.rejected c.append_text.ensures.unchanged text

@@ -2,7 +2,7 @@ use Rattle.std.proofs.Common.{◌≡◌, ◌<◌, Result, Ok, Err, false, true, 
 use Rattle.std.specs.Result.{OnOk, is_err}
 use Rattle.std.proofs.lemmas.List.{take_all}
 use Rattle.gs_chars.specs.declared.memory.Memory.{Memory}
-use Rattle.gs_grammar.proofs.WritingLemmas.{bounds_at, front_step, held_step, held_all, rejected_at, word_step, words_end}
+use Rattle.gs_grammar.proofs.WritingLemmas.{begins_by_front, bounds_at, front_step, held_step, held_all, rejected_at, word_step, words_end}
 use Rattle.gs_grammar.proofs.text_writer.append_text.Goals as goal
 
 pub push_word-requires-clause-item : goal.push_word-requires-clause-item
@@ -26,12 +26,15 @@ loop-number-preserved c =
     let item = rw same at c.item-item.is in
     let value = c.index-values-number.is in
     let bytes = c.as_bytes-value.ensures in
-    let pushed = went_well c.push_word.result c.push_word.ensures c.if-is_err.ensures.value in
+    let pushed = went_well c.push_word.result c.push_word.ensures.written c.if-is_err.ensures.value in
     record {
       held = held_step _ _ _ _ _ c.loop-number.invariant.held t within item value (rw bytes at c.in_default.ensures.reason);
       whole = rw (pushed, bytes) (word_step _ _ _ _ _ _ _ t within item value c.loop-number.invariant.whole);
       front = rw pushed (front_step _ _ _ c.loop-number.invariant.front);
     }
+
+pub returns-then-is_err-clause-begun : goal.returns-then-is_err-clause-begun
+returns-then-is_err-clause-begun c = begins_by_front c.push_word.result _ _ _ c.if-is_err.ensures.value c.push_word.ensures.begun c.loop-number.invariant.front
 
 pub returns-in-Err-clause-unchanged : goal.returns-in-Err-clause-unchanged
 returns-in-Err-clause-unchanged c =

@@ -9,9 +9,9 @@ listed : (slice : List Pair) (serial : Option Pair) → MatchOption serial (slic
 listed slice None e = append-nil slice ∙ e
 listed slice (Some pair) e = append-nil slice ∙ e
 
-pub returns-in-Canon : goal.returns-in-Canon
-returns-in-Canon c = λ identity laid.
-    let linked = rw c.as_bytes.ensures.value at (c.append_link.ensures identity laid) in
+pub returns-in-Canon-clause-written : goal.returns-in-Canon-clause-written
+returns-in-Canon-clause-written c = λ identity laid.
+    let linked = rw c.as_bytes.ensures.value at (c.append_link.ensures.written identity laid) in
     rw c.in-Canon.is linked
 
 pub append_raw_pairs-requires : goal.append_raw_pairs-requires

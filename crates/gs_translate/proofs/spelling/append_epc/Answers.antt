@@ -5,12 +5,12 @@ use Rattle.gs_translate.proofs.OneWriting.{appended_none}
 use Rattle.gs_translate.proofs.StepLaws.{gives_ok}
 use Rattle.gs_translate.proofs.spelling.append_epc.Goals as goal
 
-pub returns-in_err-append_lent : goal.returns-in_err-append_lent
-returns-in_err-append_lent c =
+pub returns-in_err-append_lent-clause-written : goal.returns-in_err-append_lent-clause-written
+returns-in_err-append_lent-clause-written c =
     let p = err_from_is_err_and c.from_residual.result c.from_residual.ensures.1 in
-    rw (p.1, p.2) (appended_none _ _ _ _ _ c.in_err-append_lent.field-0.0 c.in_err-append_lent.ensures)
+    rw (p.1, p.2) (appended_none _ _ _ _ _ c.in_err-append_lent.field-0.0 c.in_err-append_lent.ensures.written)
 
-pub returns : goal.returns
-returns c =
-    let appended = c.in_ok-append_lent.ensures in
+pub returns-clause-written : goal.returns-clause-written
+returns-clause-written c =
+    let appended = c.in_ok-append_lent.ensures.written in
     (appended.0, appended.1, gives_ok write.Memory write_reason _ _ appended.2)

@@ -2,38 +2,21 @@ use Rattle.std.proofs.Common.{[]}
 use Rattle.gs_tables.specs.Shapes.{BuiltInAnswer, LoadAnswer}
 use Rattle.tdl_messages.specs.declared.file_kind.FileKind.TheVariants as kind
 use Rattle.tdl_arguments.specs.Requests.{known_name}
-use Rattle.tdl_loads.specs.Loads.{BytesGive, JudgesTables, TablesGive}
-use Rattle.tdl_loads.specs.LoadsSupport.{files_known}
-use Rattle.tdl_loads.proofs.LoadSteps.{bytes_named, bytes_unloaded, loads_failed, loads_given, none_is_named}
+use Rattle.tdl_loads.specs.Loads.{JudgesTables}
+use Rattle.tdl_loads.proofs.LoadSteps.{named_loads, unnamed_loads, unread_loads}
 use Rattle.tdl_loads.proofs.ReadLemmas.{file_loaded}
 use Rattle.tdl_loads.proofs.named_files.load_tables.Goals as goal
 
 pub returns-in-Ok-Some : goal.returns-in-Ok-Some
 returns-in-Ok-Some g c =
-    let files = g.F.Files.files c.args.files.now in
-    let name = known_name c.args.name in
-    let before = files_known files (g.F.Files.opened c.args.files.now) (g.F.Files.errors c.args.files.now) in
-    let now = files_known (g.F.Files.files c.read_if_named.new.files) (g.F.Files.opened c.read_if_named.new.files) (g.F.Files.errors c.read_if_named.new.files) in
-    let l = rw c.in-Ok-Some.field-0-is at c.in-Ok-Some.ensures in
-    let n = bytes_named files kind.Tables name c.in-Ok-Some.source l.loaded in
-    loads_given (λ known. BytesGive known kind.Tables name) (λ known. TablesGive known name) _ _ before now _ c.tables_of.result l
-    (rw n.is_named (file_loaded files n.file c.in-Ok-Some.source _ _ c.load.result c.tables_of.result n.is_file n.few (rw c.as_bytes.ensures at c.load.ensures) c.tables_of.ensures))
+    named_loads kind.Tables (λ bytes. JudgesTables bytes (LoadAnswer bytes)) (JudgesTables [] BuiltInAnswer) (known_name c.args.name) c.in-Ok-Some.source c.tables_of.result
+    (rw c.in-Ok-Some.field-0-is at c.in-Ok-Some.ensures)
+    (λ file errored is few. file_loaded _ file c.in-Ok-Some.source errored c.load.result c.tables_of.result is few (rw c.as_bytes.ensures at c.load.ensures) c.tables_of.ensures)
 
 pub returns-in-Ok-None : goal.returns-in-Ok-None
-returns-in-Ok-None g c =
-    let files = g.F.Files.files c.args.files.now in
-    let name = known_name c.args.name in
-    let before = files_known files (g.F.Files.opened c.args.files.now) (g.F.Files.errors c.args.files.now) in
-    let now = files_known (g.F.Files.files c.read_if_named.new.files) (g.F.Files.opened c.read_if_named.new.files) (g.F.Files.errors c.read_if_named.new.files) in
-    let l = rw c.in-Ok-None.field-0-is at c.in-Ok-None.ensures in
-    loads_given (λ known. BytesGive known kind.Tables name) (λ known. TablesGive known name) _ _ before now _ c.load_builtin.result l
-    (rw (none_is_named files kind.Tables name l.loaded) (c.load_builtin.ensures files before.errors now.errors))
+returns-in-Ok-None g c = unnamed_loads kind.Tables (λ bytes. JudgesTables bytes (LoadAnswer bytes)) (JudgesTables [] BuiltInAnswer) (known_name c.args.name) c.load_builtin.result
+    (rw c.in-Ok-None.field-0-is at c.in-Ok-None.ensures) (λ errored. c.load_builtin.ensures (g.F.Files.state c.args.files.now).files errored)
 
 pub returns-in-Err : goal.returns-in-Err
 returns-in-Err g c =
-    let files = g.F.Files.files c.args.files.now in
-    let name = known_name c.args.name in
-    let before = files_known files (g.F.Files.opened c.args.files.now) (g.F.Files.errors c.args.files.now) in
-    let now = files_known (g.F.Files.files c.read_if_named.new.files) (g.F.Files.opened c.read_if_named.new.files) (g.F.Files.errors c.read_if_named.new.files) in
-    loads_failed (λ known. BytesGive known kind.Tables name) (λ known. TablesGive known name) _ _ before now c.in-Err.unloaded c.in-Err.ensures
-    (bytes_unloaded files kind.Tables (λ bytes. JudgesTables bytes (LoadAnswer bytes)) (JudgesTables [] BuiltInAnswer) name before.errors now.errors c.in-Err.unloaded c.in-Err.ensures.loaded)
+    unread_loads kind.Tables (λ bytes. JudgesTables bytes (LoadAnswer bytes)) (JudgesTables [] BuiltInAnswer) (known_name c.args.name) c.in-Err.unloaded c.in-Err.ensures

@@ -11,7 +11,7 @@ returns-then-is_of_classes c =
 pub returns-in_err-none : goal.returns-in_err-none
 returns-in_err-none c =
     let p = err_from_is_err_and c.from_residual.result c.from_residual.ensures.1 in
-    rw (p.1, p.2) (λ before now. tt)
+    rw (p.1, p.2) (λ errored. tt)
 
 pub returns : goal.returns
 returns c = none_loaded c.args.ais.now c.args.command c.in_ok-none.field-0 (sym c.if-is_of_classes.ensures) c.in_ok-none.ensures.none

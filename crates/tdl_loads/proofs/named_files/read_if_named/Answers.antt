@@ -1,15 +1,14 @@
-use Rattle.tdl_loads.specs.LoadsSupport.{files_known}
-use Rattle.tdl_loads.proofs.LoadSteps.{loads_read, loads_unread}
+use Rattle.tdl_loads.proofs.LoadSteps.{loads_failed, loads_over, loads_read}
 use Rattle.tdl_loads.proofs.named_files.read_if_named.Goals as goal
 
 pub returns-in-Ok : goal.returns-in-Ok
-returns-in-Ok g c =
-    let before = files_known (g.F.Files.files c.args.files.now) (g.F.Files.opened c.args.files.now) (g.F.Files.errors c.args.files.now) in
-    let now = files_known (g.F.Files.files c.read_named.new.files) (g.F.Files.opened c.read_named.new.files) (g.F.Files.errors c.read_named.new.files) in
-    rw c.in-Some.is (loads_read c.args.kind c.in-Some.name.now c.in-Ok.bytes _ before now c.in-Ok.ensures.read c.in-Ok.ensures.opened c.in-Ok.ensures.known c.in-Ok.ensures.counts)
+returns-in-Ok g c = rw c.in-Some.is (loads_read c.args.kind c.in-Some.name.now _ (g.F.Files.state c.args.files.now) (g.F.Files.state c.read_file.new.files) c.in-Ok.bytes c.in-Ok.ensures.whole
+    (rw c.limit.ensures at c.in-Ok.ensures.within) c.in-Ok.ensures.named c.in-Ok.ensures.rest)
 
-pub returns-in-Err : goal.returns-in-Err
-returns-in-Err g c =
-    let before = files_known (g.F.Files.files c.args.files.now) (g.F.Files.opened c.args.files.now) (g.F.Files.errors c.args.files.now) in
-    let now = files_known (g.F.Files.files c.read_named.new.files) (g.F.Files.opened c.read_named.new.files) (g.F.Files.errors c.read_named.new.files) in
-    rw c.in-Some.is (loads_unread c.args.kind c.in-Some.name.now _ before now c.in-Err.unloaded c.in-Err.ensures.read c.in-Err.ensures.opened c.in-Err.ensures.known c.in-Err.ensures.counts)
+pub returns-in-Err-Over : goal.returns-in-Err-Over
+returns-in-Err-Over g c = rw c.in-Some.is (loads_over c.args.kind c.in-Some.name.now _ (g.F.Files.state c.args.files.now) (g.F.Files.state c.read_file.new.files) _ (rw c.in-Err-Over.field-0-is at c.in-Err-Over.ensures.over)
+    (rw (c.in-Err-Over.field-0-is, c.limit.ensures) at c.in-Err-Over.ensures.over_length) (rw c.in-Err-Over.field-0-is at c.in-Err-Over.ensures.named) (rw c.in-Err-Over.field-0-is at c.in-Err-Over.ensures.rest))
+
+pub returns-in-Err-Failed : goal.returns-in-Err-Failed
+returns-in-Err-Failed g c = rw c.in-Some.is (loads_failed c.args.kind c.in-Some.name.now _ (g.F.Files.state c.args.files.now) (g.F.Files.state c.read_file.new.files)
+    (rw c.in-Err-Failed.field-0-is at c.in-Err-Failed.ensures.named) (rw c.in-Err-Failed.field-0-is at c.in-Err-Failed.ensures.rest))

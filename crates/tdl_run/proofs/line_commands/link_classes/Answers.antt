@@ -3,7 +3,7 @@ use Rattle.gs_ai.specs.declared.row.AiRow.{AiRow}
 use Rattle.tdl_answers.specs.ClassAnswers.{ClassReading, IsClassCanonLine, reading_by}
 use Rattle.tdl_answers.proofs.ClassLineLemmas.{some_class_read}
 use Rattle.tdl_lines.specs.OutputsSupport.{HasAnswers}
-use Rattle.tdl_run.specs.CommandRuns.{AnswersLines, Moment}
+use Rattle.tdl_run.specs.CommandRuns.{AnswersLines}
 use Rattle.tdl_run.proofs.line_commands.link_classes.Goals as goal
 
 pub new-answerer-requires : goal.new-answerer-requires
@@ -17,7 +17,5 @@ answer_input-requires g c =
 
 pub returns : goal.returns
 returns g c =
-    let before : Moment = record { input = g.S.Source.left c.args.input.now; input_errors = g.S.Source.errors c.args.input.now; output_errors = g.K.Sink.errors c.args.output.now } in
-    let now : Moment = record { input = g.S.Source.left c.answer_input.new.input; input_errors = g.S.Source.errors c.answer_input.new.input; output_errors = g.K.Sink.errors c.answer_input.new.output } in
     let is : c.new-answerer.result ≡ reading_by c.args.loaded.now.tables.ais c.args.loaded.now.classes = c.new-answerer.ensures ∙ ap (λ (ais : List AiRow). reading_by ais c.args.loaded.now.classes) c.ais.ensures.rows in
-    subst (λ (r : ClassReading). AnswersLines (IsClassCanonLine r) c.answer_input.result (g.K.Sink.held c.args.output.now) (g.K.Sink.held c.answer_input.new.output) before now) is c.answer_input.ensures
+    subst (λ (r : ClassReading). AnswersLines (IsClassCanonLine r) c.answer_input.result (g.S.Source.state c.args.input.now) (g.S.Source.state c.answer_input.new.input) (g.K.Sink.state c.args.output.now) (g.K.Sink.state c.answer_input.new.output)) is c.answer_input.ensures

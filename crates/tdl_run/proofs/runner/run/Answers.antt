@@ -1,200 +1,184 @@
 use Rattle.std.proofs.Common.{None, map, string_bytes, inl, inr, refl, arith}
-use Rattle.tdl_lines.specs.Statuses.{is_answered, is_status}
+use Rattle.tdl_lines.specs.Statuses.{is_status}
 use Rattle.tdl_lines.specs.declared.status.Status.TheVariants.{Refused, Usage}
-use Rattle.tdl_lines.proofs.StatusLemmas.{when_always, when_map}
-use Rattle.tdl_arguments.specs.Commands.{reads_input, uses_door}
+use Rattle.tdl_lines.proofs.StatusLemmas.{when_always}
 use Rattle.tdl_arguments.specs.Requests.{known_request}
 use Rattle.tdl_arguments.proofs.ValueLemmas.{options_fit, tables_fit, vocabulary_fits}
-use Rattle.tdl_run.proofs.CompleteLemmas.{complete_asked}
-use Rattle.tdl_run.proofs.RunLemmas.{asks_not, begun_of, cut_of, defined_of, ended_of, few_of, finished_of, listens_of, loads_of, read_error_of, rejected_of, served_of, unopened_of, usage_begun, usage_cut, usage_defined, usage_finished}
+use Rattle.tdl_run.proofs.CompleteLemmas.{complete_of}
+use Rattle.tdl_run.proofs.RunLemmas.{all_opened_of, begun_of, cut_of, defined_of, ended_of, few_of, finished_of, listens_of, loads_of, output_counts_of, read_error_of, rejected_of, served_of, to_end_of, unopened_of, unread_of, unserved_of, usage_begun, usage_cut, usage_defined, usage_finished, write_error_of, written_counts, written_error}
 use Rattle.tdl_run.proofs.ServeLemmas.{none_finish}
 use Rattle.tdl_run.proofs.runner.run.Goals as goal
 
 pub run_request-requires-clause-vocabulary : goal.run_request-requires-clause-vocabulary
-run_request-requires-clause-vocabulary g c = vocabulary_fits (map string_bytes c.args.words.now) (known_request c.in-Some.request) c.in-Some.ensures.request
+run_request-requires-clause-vocabulary g c = vocabulary_fits (map string_bytes c.args.words.now) (known_request c.in-Ok.request) c.in-Ok.ensures.request
 
 pub run_request-requires-clause-tables : goal.run_request-requires-clause-tables
-run_request-requires-clause-tables g c = tables_fit (map string_bytes c.args.words.now) (known_request c.in-Some.request) c.in-Some.ensures.request
+run_request-requires-clause-tables g c = tables_fit (map string_bytes c.args.words.now) (known_request c.in-Ok.request) c.in-Ok.ensures.request
 
 pub run_request-requires-clause-options : goal.run_request-requires-clause-options
-run_request-requires-clause-options g c = options_fit (map string_bytes c.args.words.now) (known_request c.in-Some.request) c.in-Some.ensures.request
+run_request-requires-clause-options g c = options_fit (map string_bytes c.args.words.now) (known_request c.in-Ok.request) c.in-Ok.ensures.request
 
-pub returns-in-Some-clause-defined : goal.returns-in-Some-clause-defined
-returns-in-Some-clause-defined g c =
-    defined_of (map string_bytes c.args.words.now) (known_request c.in-Some.request) _ _ _ _ _ _ _ _ c.run_request.result c.in-Some.ensures.request c.run_request.ensures.ran
+pub returns-in-Ok-clause-defined : goal.returns-in-Ok-clause-defined
+returns-in-Ok-clause-defined g c = defined_of c.in-Ok.ensures.request c.run_request.ensures
 
-pub returns-in-Some-clause-rejected : goal.returns-in-Some-clause-rejected
-returns-in-Some-clause-rejected g c =
-    rejected_of (map string_bytes c.args.words.now) (known_request c.in-Some.request) _ _ _ _ _ c.in-Some.ensures.request c.run_request.ensures.ran.2.2
+pub returns-in-Ok-clause-begun : goal.returns-in-Ok-clause-begun
+returns-in-Ok-clause-begun g c = begun_of c.in-Ok.ensures.request c.run_request.ensures
 
-pub returns-in-Some-clause-few : goal.returns-in-Some-clause-few
-returns-in-Some-clause-few g c =
-    few_of (map string_bytes c.args.words.now) (known_request c.in-Some.request) _ _ c.in-Some.ensures.request c.run_request.ensures.ran.2.2.few
+pub returns-in-Ok-clause-finished : goal.returns-in-Ok-clause-finished
+returns-in-Ok-clause-finished g c = finished_of c.in-Ok.ensures.request c.run_request.ensures
 
-pub returns-in-Some-clause-unopened : goal.returns-in-Some-clause-unopened
-returns-in-Some-clause-unopened g c =
-    λ none. c.run_request.ensures.unopened (unopened_of (map string_bytes c.args.words.now) (known_request c.in-Some.request) c.in-Some.ensures.request none)
+pub returns-in-Ok-clause-cut : goal.returns-in-Ok-clause-cut
+returns-in-Ok-clause-cut g c = cut_of c.in-Ok.ensures.request c.run_request.ensures
 
-pub returns-in-Some-clause-opened : goal.returns-in-Some-clause-opened
-returns-in-Some-clause-opened g c =
-    inl (record { asked = known_request c.in-Some.request; order = c.in-Some.ensures.request; fact = c.run_request.ensures.opened })
+pub returns-in-Ok-clause-few : goal.returns-in-Ok-clause-few
+returns-in-Ok-clause-few g c = few_of c.in-Ok.ensures.request c.run_request.ensures
 
-pub returns-in-Some-clause-all_opened : goal.returns-in-Some-clause-all_opened
-returns-in-Some-clause-all_opened g c =
-    when_map (is_answered c.run_request.result) (λ all. record { asked = known_request c.in-Some.request; order = c.in-Some.ensures.request; fact = all }) c.run_request.ensures.all_opened
+pub returns-in-Ok-clause-read_to_end : goal.returns-in-Ok-clause-read_to_end
+returns-in-Ok-clause-read_to_end g c = to_end_of c.in-Ok.ensures.request c.run_request.ensures
 
-pub returns-in-Some-clause-read_error : goal.returns-in-Some-clause-read_error
-returns-in-Some-clause-read_error g c =
-    read_error_of (map string_bytes c.args.words.now) (known_request c.in-Some.request) _ _ _ _ _ c.in-Some.ensures.request c.run_request.ensures.ran.2.2
+pub returns-in-Ok-clause-untouched : goal.returns-in-Ok-clause-untouched
+returns-in-Ok-clause-untouched g c = loads_of c.in-Ok.ensures.request c.run_request.ensures
 
-pub returns-in-Some-clause-begun : goal.returns-in-Some-clause-begun
-returns-in-Some-clause-begun g c =
-    begun_of (map string_bytes c.args.words.now) (known_request c.in-Some.request) _ _ _ _ _ _ _ _ c.run_request.result c.in-Some.ensures.request c.run_request.ensures.ran
+pub returns-in-Ok-clause-listens : goal.returns-in-Ok-clause-listens
+returns-in-Ok-clause-listens g c = listens_of c.in-Ok.ensures.request c.run_request.ensures
 
-pub returns-in-Some-clause-unserved : goal.returns-in-Some-clause-unserved
-returns-in-Some-clause-unserved g c =
-    λ none. c.run_request.ensures.unserved (asks_not uses_door (map string_bytes c.args.words.now) (known_request c.in-Some.request) c.in-Some.ensures.request none)
+pub returns-in-Ok-clause-served : goal.returns-in-Ok-clause-served
+returns-in-Ok-clause-served g c = served_of c.in-Ok.ensures.request c.run_request.ensures
 
-pub returns-in-None-clause-defined : goal.returns-in-None-clause-defined
-returns-in-None-clause-defined g c =
-    usage_defined (map string_bytes c.args.words.now) _ _ _ _ c.print_line.result c.in-None.ensures.none c.print_line.ensures.written
+pub returns-in-Ok-clause-rejected : goal.returns-in-Ok-clause-rejected
+returns-in-Ok-clause-rejected g c = rejected_of c.in-Ok.ensures.request c.run_request.ensures
 
-pub returns-in-None-clause-begun : goal.returns-in-None-clause-begun
-returns-in-None-clause-begun g c =
-    usage_begun (map string_bytes c.args.words.now) _ _ _ c.print_line.result c.in-None.ensures.none c.print_line.ensures.written
+pub returns-in-Ok-clause-read_error : goal.returns-in-Ok-clause-read_error
+returns-in-Ok-clause-read_error g c = read_error_of c.in-Ok.ensures.request c.run_request.ensures
 
-pub returns-in-Some-clause-finished : goal.returns-in-Some-clause-finished
-returns-in-Some-clause-finished g c =
-    finished_of (map string_bytes c.args.words.now) (known_request c.in-Some.request) _ _ _ _ _ _ _ _ c.run_request.result c.in-Some.ensures.request c.run_request.ensures.ran
+pub returns-in-Ok-clause-write_error : goal.returns-in-Ok-clause-write_error
+returns-in-Ok-clause-write_error g c = write_error_of c.in-Ok.ensures.request c.run_request.ensures
 
-pub returns-in-None-clause-finished : goal.returns-in-None-clause-finished
-returns-in-None-clause-finished g c =
-    usage_finished (map string_bytes c.args.words.now) (record { files = _; input = None; door = _ }) _ _ _ c.print_line.result c.in-None.ensures.none c.print_line.ensures.written
+pub returns-in-Ok-clause-output_counts : goal.returns-in-Ok-clause-output_counts
+returns-in-Ok-clause-output_counts g c = output_counts_of c.in-Ok.ensures.request c.run_request.ensures
 
-pub returns-in-Some-clause-ended : goal.returns-in-Some-clause-ended
-returns-in-Some-clause-ended g c =
-    ended_of _ _ (map string_bytes c.args.words.now) (known_request c.in-Some.request) (g.F.Files.files c.args.files.now)
-    (g.S.Source.left c.args.input.now) (g.S.Source.left c.run_request.new.input) (g.K.Sink.held c.args.output.now)
-    (g.K.Sink.held c.run_request.new.output) c.run_request.result c.in-Some.ensures.request c.run_request.ensures.read_error
+pub returns-in-Ok-clause-ended : goal.returns-in-Ok-clause-ended
+returns-in-Ok-clause-ended g c = ended_of c.in-Ok.ensures.request c.run_request.ensures
 
-pub returns-in-Some-clause-complete : goal.returns-in-Some-clause-complete
-returns-in-Some-clause-complete g c =
-    λ loads fits none. complete_asked (map string_bytes c.args.words.now)
-    (known_request c.in-Some.request) _ _ _ _ _ _ _ _ c.run_request.result c.in-Some.ensures.request c.run_request.ensures.ran loads fits none
+pub returns-in-Ok-clause-unread : goal.returns-in-Ok-clause-unread
+returns-in-Ok-clause-unread g c = unread_of c.in-Ok.ensures.request c.run_request.ensures
 
-pub returns-in-None-clause-complete : goal.returns-in-None-clause-complete
-returns-in-None-clause-complete g c = λ loads fits none. absurd (c.in-None.ensures.none loads.asked loads.order)
+pub returns-in-Ok-clause-unserved : goal.returns-in-Ok-clause-unserved
+returns-in-Ok-clause-unserved g c = unserved_of c.in-Ok.ensures.request c.run_request.ensures
 
-pub returns-in-Some-clause-served : goal.returns-in-Some-clause-served
-returns-in-Some-clause-served g c =
-    λ heads. served_of _ (map string_bytes c.args.words.now) (known_request c.in-Some.request) _ _ _ _ _ c.run_request.result c.in-Some.ensures.request c.run_request.ensures.served heads
+pub returns-in-Ok-clause-unopened : goal.returns-in-Ok-clause-unopened
+returns-in-Ok-clause-unopened g c = unopened_of c.in-Ok.ensures.request c.run_request.ensures
 
-pub returns-in-None-clause-served : goal.returns-in-None-clause-served
-returns-in-None-clause-served g c = λ heads. absurd (c.in-None.ensures.none heads.asked heads.order)
+pub returns-in-Ok-clause-all_opened : goal.returns-in-Ok-clause-all_opened
+returns-in-Ok-clause-all_opened g c = all_opened_of c.in-Ok.ensures.request c.run_request.ensures
 
-pub returns-in-Some-clause-write_error : goal.returns-in-Some-clause-write_error
-returns-in-Some-clause-write_error g c = c.run_request.ensures.ran.2.2.write_error
+pub returns-in-Ok-clause-complete : goal.returns-in-Ok-clause-complete
+returns-in-Ok-clause-complete g c = complete_of c.in-Ok.ensures.request c.run_request.ensures
 
-pub returns-in-Some-clause-input_long : goal.returns-in-Some-clause-input_long
-returns-in-Some-clause-input_long g c = c.run_request.ensures.ran.2.2.long
+pub returns-in-Ok-clause-opened : goal.returns-in-Ok-clause-opened
+returns-in-Ok-clause-opened g c = let r = c.run_request.ensures in inl (record { asked = known_request c.in-Ok.request; order = c.in-Ok.ensures.request; fact = r.opened })
 
-pub returns-in-Some-clause-input_counts : goal.returns-in-Some-clause-input_counts
-returns-in-Some-clause-input_counts g c = c.run_request.ensures.ran.2.2.input_counts
+pub returns-in-Ok-clause-not_in_order : goal.returns-in-Ok-clause-not_in_order
+returns-in-Ok-clause-not_in_order g c = λ none. absurd (none (known_request c.in-Ok.request) c.in-Ok.ensures.request)
 
-pub returns-in-Some-clause-file_counts : goal.returns-in-Some-clause-file_counts
-returns-in-Some-clause-file_counts g c = c.run_request.ensures.ran.2.2.file_counts
+pub returns-in-Ok-clause-input_long : goal.returns-in-Ok-clause-input_long
+returns-in-Ok-clause-input_long g c = let r = c.run_request.ensures in r.ran.2.2.long
 
-pub returns-in-Some-clause-output_counts : goal.returns-in-Some-clause-output_counts
-returns-in-Some-clause-output_counts g c = c.run_request.ensures.ran.2.2.output_counts
+pub returns-in-Ok-clause-input_counts : goal.returns-in-Ok-clause-input_counts
+returns-in-Ok-clause-input_counts g c = let r = c.run_request.ensures in r.ran.2.2.input_counts
 
-pub returns-in-Some-clause-door_counts : goal.returns-in-Some-clause-door_counts
-returns-in-Some-clause-door_counts g c = c.run_request.ensures.door_counts
+pub returns-in-Ok-clause-file_counts : goal.returns-in-Ok-clause-file_counts
+returns-in-Ok-clause-file_counts g c = let r = c.run_request.ensures in r.ran.2.2.file_counts
 
-pub returns-in-Some-clause-known : goal.returns-in-Some-clause-known
-returns-in-Some-clause-known g c = c.run_request.ensures.known
+pub returns-in-Ok-clause-door_counts : goal.returns-in-Ok-clause-door_counts
+returns-in-Ok-clause-door_counts g c = let r = c.run_request.ensures in r.door_counts
 
-pub returns-in-Some-clause-unread_rejected : goal.returns-in-Some-clause-unread_rejected
-returns-in-Some-clause-unread_rejected g c = c.run_request.ensures.unread_rejected
+pub returns-in-Ok-clause-known : goal.returns-in-Ok-clause-known
+returns-in-Ok-clause-known g c = let r = c.run_request.ensures in r.known
 
-pub returns-in-Some-clause-unserved_rejected : goal.returns-in-Some-clause-unserved_rejected
-returns-in-Some-clause-unserved_rejected g c = c.run_request.ensures.unserved_rejected
+pub returns-in-Ok-clause-unread_rejected : goal.returns-in-Ok-clause-unread_rejected
+returns-in-Ok-clause-unread_rejected g c = let r = c.run_request.ensures in r.unread_rejected
 
-pub returns-in-Some-clause-unread : goal.returns-in-Some-clause-unread
-returns-in-Some-clause-unread g c =
-    λ none. c.run_request.ensures.unread (asks_not reads_input (map string_bytes c.args.words.now) (known_request c.in-Some.request) c.in-Some.ensures.request none)
+pub returns-in-Ok-clause-unserved_rejected : goal.returns-in-Ok-clause-unserved_rejected
+returns-in-Ok-clause-unserved_rejected g c = let r = c.run_request.ensures in r.unserved_rejected
 
-pub returns-in-Some-clause-not_in_order : goal.returns-in-Some-clause-not_in_order
-returns-in-Some-clause-not_in_order g c = λ none. absurd (none (known_request c.in-Some.request) c.in-Some.ensures.request)
+pub returns-in-Ok-clause-closed : goal.returns-in-Ok-clause-closed
+returns-in-Ok-clause-closed g c = let r = c.run_request.ensures in r.closed
 
-pub returns-in-None-clause-opened : goal.returns-in-None-clause-opened
-returns-in-None-clause-opened g c = inr (c.in-None.ensures.none, refl)
+pub returns-in-Ok-clause-waiting : goal.returns-in-Ok-clause-waiting
+returns-in-Ok-clause-waiting g c = let r = c.run_request.ensures in r.waiting
 
-pub returns-in-None-clause-known : goal.returns-in-None-clause-known
-returns-in-None-clause-known g c = refl
+pub returns-in-Err-clause-defined : goal.returns-in-Err-clause-defined
+returns-in-Err-clause-defined g c =
+    usage_defined c.in-Err.ensures.none _ (g.K.Sink.state c.args.output.now) (g.K.Sink.state c.print_line.new.output) (g.D.Conn.state c.args.door.now) c.print_line.result c.print_line.ensures
 
-pub returns-in-None-clause-unread : goal.returns-in-None-clause-unread
-returns-in-None-clause-unread g c = λ none. refl
+pub returns-in-Err-clause-begun : goal.returns-in-Err-clause-begun
+returns-in-Err-clause-begun g c =
+    usage_begun c.in-Err.ensures.none _ (g.K.Sink.state c.args.output.now) (g.K.Sink.state c.print_line.new.output) (g.D.Conn.state c.args.door.now) c.print_line.result c.print_line.ensures
 
-pub returns-in-None-clause-unserved : goal.returns-in-None-clause-unserved
-returns-in-None-clause-unserved g c = λ none. refl
+pub returns-in-Err-clause-cut : goal.returns-in-Err-clause-cut
+returns-in-Err-clause-cut g c =
+    usage_cut c.in-Err.ensures.none _ (g.K.Sink.state c.args.output.now) (g.K.Sink.state c.print_line.new.output) (g.D.Conn.state c.args.door.now) c.print_line.result c.print_line.ensures
 
-pub returns-in-None-clause-unopened : goal.returns-in-None-clause-unopened
-returns-in-None-clause-unopened g c = λ none. refl
+pub returns-in-Err-clause-finished : goal.returns-in-Err-clause-finished
+returns-in-Err-clause-finished g c =
+    usage_finished c.in-Err.ensures.none (record { files = _; input = None; door = _ }) (g.K.Sink.state c.args.output.now) (g.K.Sink.state c.print_line.new.output) (g.D.Conn.state c.args.door.now) c.print_line.result c.print_line.ensures
 
-pub returns-in-None-clause-usage : goal.returns-in-None-clause-usage
-returns-in-None-clause-usage g c = when_always (is_status c.print_line.result Usage) c.in-None.ensures.none
+pub returns-in-Err-clause-write_error : goal.returns-in-Err-clause-write_error
+returns-in-Err-clause-write_error g c =
+    let w = c.print_line.ensures in written_error (g.K.Sink.state c.args.output.now) (g.K.Sink.state c.print_line.new.output) w.0 c.print_line.result w.1
 
-pub returns-in-None-clause-unread_rejected : goal.returns-in-None-clause-unread_rejected
-returns-in-None-clause-unread_rejected g c = when_always (is_status c.print_line.result Refused) refl
+pub returns-in-Err-clause-output_counts : goal.returns-in-Err-clause-output_counts
+returns-in-Err-clause-output_counts g c =
+    let w = c.print_line.ensures in written_counts (g.K.Sink.state c.args.output.now) (g.K.Sink.state c.print_line.new.output) w.0 c.print_line.result w.1
 
-pub returns-in-None-clause-unserved_rejected : goal.returns-in-None-clause-unserved_rejected
-returns-in-None-clause-unserved_rejected g c = when_always (is_status c.print_line.result Refused) refl
+pub returns-in-Err-clause-complete : goal.returns-in-Err-clause-complete
+returns-in-Err-clause-complete g c = λ loads fits none. absurd (c.in-Err.ensures.none loads.asked loads.order)
 
-pub returns-in-None-clause-input_counts : goal.returns-in-None-clause-input_counts
-returns-in-None-clause-input_counts g c = omega arith
+pub returns-in-Err-clause-served : goal.returns-in-Err-clause-served
+returns-in-Err-clause-served g c = λ heads. absurd (c.in-Err.ensures.none heads.asked heads.order)
 
-pub returns-in-None-clause-file_counts : goal.returns-in-None-clause-file_counts
-returns-in-None-clause-file_counts g c = omega arith
+pub returns-in-Err-clause-listens : goal.returns-in-Err-clause-listens
+returns-in-Err-clause-listens g c = λ door. absurd (c.in-Err.ensures.none door.asked door.order)
 
-pub returns-in-None-clause-door_counts : goal.returns-in-None-clause-door_counts
-returns-in-None-clause-door_counts g c = omega arith
+pub returns-in-Err-clause-opened : goal.returns-in-Err-clause-opened
+returns-in-Err-clause-opened g c = inr (c.in-Err.ensures.none, refl)
 
-pub returns-in-None-clause-output_counts : goal.returns-in-None-clause-output_counts
-returns-in-None-clause-output_counts g c = c.print_line.ensures.counts
+pub returns-in-Err-clause-known : goal.returns-in-Err-clause-known
+returns-in-Err-clause-known g c = refl
 
-pub returns-in-None-clause-write_error : goal.returns-in-None-clause-write_error
-returns-in-None-clause-write_error g c = c.print_line.ensures.error
+pub returns-in-Err-clause-unread : goal.returns-in-Err-clause-unread
+returns-in-Err-clause-unread g c = λ none. refl
 
-pub returns-in-Some-clause-untouched : goal.returns-in-Some-clause-untouched
-returns-in-Some-clause-untouched g c = loads_of _ (map string_bytes c.args.words.now)
-    (known_request c.in-Some.request) _ c.in-Some.ensures.request c.run_request.ensures.untouched
+pub returns-in-Err-clause-unserved : goal.returns-in-Err-clause-unserved
+returns-in-Err-clause-unserved g c = λ none. refl
 
-pub returns-in-Some-clause-closed : goal.returns-in-Some-clause-closed
-returns-in-Some-clause-closed g c = c.run_request.ensures.closed
+pub returns-in-Err-clause-unopened : goal.returns-in-Err-clause-unopened
+returns-in-Err-clause-unopened g c = λ none. refl
 
-pub returns-in-Some-clause-waiting : goal.returns-in-Some-clause-waiting
-returns-in-Some-clause-waiting g c = c.run_request.ensures.waiting
+pub returns-in-Err-clause-usage : goal.returns-in-Err-clause-usage
+returns-in-Err-clause-usage g c = when_always (is_status c.print_line.result Usage) c.in-Err.ensures.none
 
-pub returns-in-Some-clause-listens : goal.returns-in-Some-clause-listens
-returns-in-Some-clause-listens g c =
-    λ door. listens_of (map string_bytes c.args.words.now) (known_request c.in-Some.request) c.run_request.result _ _ c.in-Some.ensures.request c.run_request.ensures.listens door
+pub returns-in-Err-clause-unread_rejected : goal.returns-in-Err-clause-unread_rejected
+returns-in-Err-clause-unread_rejected g c = when_always (is_status c.print_line.result Refused) refl
 
-pub returns-in-Some-clause-cut : goal.returns-in-Some-clause-cut
-returns-in-Some-clause-cut g c =
-    cut_of (map string_bytes c.args.words.now) (known_request c.in-Some.request) _ _ _ _ _ _ _ _ c.run_request.result c.in-Some.ensures.request c.run_request.ensures.ran
+pub returns-in-Err-clause-unserved_rejected : goal.returns-in-Err-clause-unserved_rejected
+returns-in-Err-clause-unserved_rejected g c = when_always (is_status c.print_line.result Refused) refl
 
-pub returns-in-None-clause-untouched : goal.returns-in-None-clause-untouched
-returns-in-None-clause-untouched g c = inl (refl, refl)
+pub returns-in-Err-clause-input_counts : goal.returns-in-Err-clause-input_counts
+returns-in-Err-clause-input_counts g c = omega arith
 
-pub returns-in-None-clause-closed : goal.returns-in-None-clause-closed
-returns-in-None-clause-closed g c = c.requires.none_open
+pub returns-in-Err-clause-file_counts : goal.returns-in-Err-clause-file_counts
+returns-in-Err-clause-file_counts g c = omega arith
 
-pub returns-in-None-clause-waiting : goal.returns-in-None-clause-waiting
-returns-in-None-clause-waiting g c = none_finish _
+pub returns-in-Err-clause-door_counts : goal.returns-in-Err-clause-door_counts
+returns-in-Err-clause-door_counts g c = omega arith
 
-pub returns-in-None-clause-listens : goal.returns-in-None-clause-listens
-returns-in-None-clause-listens g c = λ door. absurd (c.in-None.ensures.none door.asked door.order)
+pub returns-in-Err-clause-untouched : goal.returns-in-Err-clause-untouched
+returns-in-Err-clause-untouched g c = inl (refl, refl)
 
-pub returns-in-None-clause-cut : goal.returns-in-None-clause-cut
-returns-in-None-clause-cut g c =
-    usage_cut (map string_bytes c.args.words.now) _ _ _ _ c.print_line.result c.in-None.ensures.none c.print_line.ensures.written
+pub returns-in-Err-clause-closed : goal.returns-in-Err-clause-closed
+returns-in-Err-clause-closed g c = c.requires.none_open
+
+pub returns-in-Err-clause-waiting : goal.returns-in-Err-clause-waiting
+returns-in-Err-clause-waiting g c = none_finish _

@@ -6,8 +6,8 @@ use Rattle.gs_epc.specs.Layout.{fields_in}
 use Rattle.gs_epc.proofs.LaidLinks.{laid_is}
 use Rattle.gs_epc.proofs.reading.EpcReading.append_link.Goals as goal
 
-pub returns : goal.returns
-returns c = λ identity laid.
+pub returns-clause-written : goal.returns-clause-written
+returns-clause-written c = λ identity laid.
     let named : slice_get c.args.set.now.kinds c.args.self.now.kind ≡ Some c.kind_at-kind.result.now = rw (← c.self.view_is) c.kind_at-kind.ensures.named in
-    IfOk-equal c.append_laid_out.result _ _ _ c.append_laid_out.ensures
+    IfOk-equal c.append_laid_out.result _ _ _ c.append_laid_out.ensures.written
     (ap (λ (i : Elements). c.args.out.now.items ++ spelled c.args.stem.now i) (laid_is c.args.set.now c.args.self.now identity c.kind_at-kind.result.now c.args.set.now.ais (fields_in c.epc-lent.result) named refl (ap fields_in c.epc-lent.ensures) laid))

@@ -1,0 +1,25 @@
+//! Sessions: translations by tables, prefixes and options that a value owns.
+//!
+//! - `open` makes a session of the numbers and bytes that a caller in C gives, or gives the first of them that is rejected, of which
+//!   `tell` says the status and the printed reason.
+//! - `Session::translate` translates a text into a buffer, and `Session::translate_lines` each line of a text.
+//! - `Session::retargeted` makes a session of other forms and options, which shares the tables and the company prefix lengths.
+//!
+//! # Differences from the standards
+//!
+//! - No standard has such sessions: the numbers and their order are this project's own.
+#![tactic(auto)]
+
+mod buffer;
+mod choice;
+mod line_status;
+mod opening;
+mod session;
+mod status;
+mod told;
+
+pub use choice::Choice;
+pub use opening::{Unopened, open};
+pub use session::Session;
+pub use status::{ARGUMENT, CLOSED, MEMORY, NO, OK, PREFIXES, SMALL, TABLES};
+pub use told::{nothing, status_of, tell};
