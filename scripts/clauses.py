@@ -179,7 +179,7 @@ class Sources:
         """Whether callers of its crate see an item."""
         exports = self.exports.get(item.crate, {})
         if not item.owner:
-            return exports.get(item.name) == item.module and item.is_open
+            return item.is_open and item.module in ("lib", exports.get(item.name))
         public_trait, trait, name = item.owner
         if not name:
             return public_trait and exports.get(trait) == item.module
