@@ -87,7 +87,7 @@ static void answer_each(tdl_handle *handle, bytes lines) {
     for (size_t at = 0; at < lines.length;) {
         uint8_t *end = memchr(lines.at + at, '\n', lines.length - at);
         size_t stop = end ? (size_t)(end - lines.at) : lines.length, length = stop - at, len = 0;
-        if (length && end && lines.at[stop - 1] == '\r')
+        if (length && lines.at[stop - 1] == '\r')
             length--;
         bytes asked = bytes_of(lines.at + at, length);
         uint32_t status = ask(handle, asked, out, &len);

@@ -11,7 +11,7 @@ from repository import TOP, crates
 IMPORT = re.compile(r"(?:pub |ghost )?use Rattle\.(\w+)\.specs\.([\w.]+?)(?:\.\{(.*)\}| as (\S+?));?")
 NAMES = re.compile(r"[^\s(){}\[\];,.]+")
 USE = re.compile(r"^(?:pub )?use ((?:\w+::)+)(?:\{([^}]*)\}|(\w+(?: as \w+)?));", re.MULTILINE)
-BEGUN = re.compile(r"( {4})?(pub(?:\(crate\))? )?(fn|struct|enum|trait|impl|ghost)\b(.*)")
+BEGUN = re.compile(r"( {4})?(pub(?:\(crate\))? )?(?:extern \"C\" )?(fn|struct|enum|trait|impl|ghost)\b(.*)")
 OWNER = re.compile(r"(?:<[^>]*>)? (?:(\w+)(?:<.*>)? for )?&?(?:'\w+ )?(?:mut )?(\w+)")
 CLAUSE = re.compile(r" +(?:requires|ensures)\b")
 
@@ -179,7 +179,7 @@ class Sources:
         """Whether callers of its crate see an item."""
         exports = self.exports.get(item.crate, {})
         if not item.owner:
-            return exports.get(item.name) == item.module and item.is_open
+            return item.is_open and item.module in ("lib", exports.get(item.name))
         public_trait, trait, name = item.owner
         if not name:
             return public_trait and exports.get(trait) == item.module

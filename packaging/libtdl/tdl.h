@@ -105,7 +105,7 @@ uint32_t tdl_share(tdl_handle *handle, tdl_handle *other, const tdl_choice *choi
 uint32_t tdl_translate(tdl_handle *handle, const uint8_t *text, size_t text_len,
                        uint8_t *out, size_t capacity, size_t *len);
 
-/* Translates each line, whose end is a line feed, or a carriage return and a line feed. The buffer gets `ok TEXT` or `no REASON` and a line
+/* Translates each line, whose end is a line feed, with or without a carriage return before it. The buffer gets `ok TEXT` or `no REASON` and a line
    feed for each, and *len the length of all.
 
    Returns TDL_OK, TDL_NO if a line is rejected, TDL_SMALL, TDL_MEMORY or TDL_SHUT. */
