@@ -30,6 +30,7 @@ from tdl.inspector.server import FILES, POLICY, Server, is_served, serve  # noqa
 from tdl.inspector.sets import Sets, sets_by_code  # noqa: E402
 from tdl.inspector.values import full_year, meaning  # noqa: E402
 from tdl.program import find_program  # noqa: E402
+from tdl.tables import SETS  # noqa: E402
 
 GS1 = Path(__file__).resolve().parents[3] / "tables" / "gs1.json"
 ROWS = Rows(str(GS1))
@@ -244,7 +245,7 @@ class Tables(unittest.TestCase):
         self.assertEqual([it["name"] for it in Sets().offered()], names)
         own = Sets(str(GS1.parent / "food.json"))
         self.assertEqual([it["title"] for it in own.offered()][0], "your file food.json")
-        self.assertEqual((own.path(""), own.path("gs1")), (str(GS1.parent / "food.json"), str(GS1)))
+        self.assertEqual((own.path(""), own.path("gs1")), (str(GS1.parent / "food.json"), SETS["gs1"]))
         self.assertEqual(sets_by_code()["01"], names[:-1])
 
 
