@@ -16,3 +16,4 @@ pub mod Options
 pub mod CountLemmas
 pub mod DecidedWords
 pub mod DecidedShares
+pub mod OwnWords

@@ -94,3 +94,8 @@ number_of_word (NumPad bits n) w = number_of w
 number_of_word (Num bits greatest) w = number_of w
 number_of_word (NumStr bits hi) w = number_of w
 number_of_word _ w = 0
+
+-- trusted, own: the value of a word that is written without escapes and not in bits: empty for a literal, otherwise the word itself
+abbrev pub own_value : Item → List ℕ → List ℕ
+own_value (Lit literal) w = []
+own_value _ w = w

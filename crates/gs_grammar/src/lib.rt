@@ -28,6 +28,7 @@ mod item;
 mod laws;
 mod numerals;
 mod opt;
+mod own_words;
 mod tally;
 mod text_writer;
 mod value_test;
@@ -45,6 +46,7 @@ pub use laws::{
 };
 pub use numerals::digits_behind;
 pub use opt::{MOST_SYMBOLS, Opt};
+pub use own_words::is_own_word;
 pub use tally::read_option;
 pub use text_writer::{append_text, write_text};
 pub use value_test::holds;

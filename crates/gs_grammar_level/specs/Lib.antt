@@ -8,4 +8,5 @@ pub mod Widths
 pub mod Fronts
 pub mod ShareSearches
 pub mod Cuttings
+pub mod OwnWords
 pub mod FirstShares

@@ -32,6 +32,7 @@ mod finder;
 mod fronts;
 mod laws;
 mod level;
+mod own_words;
 mod probe_groups;
 mod read;
 mod share;
@@ -41,5 +42,6 @@ pub use laws::{
     ambiguous_exactly_where_options_share, each_level_has_an_answer, no_list_has_two_readings,
 };
 pub use level::Level;
+pub use own_words::{Words, find_words};
 pub use read::{Reading, read_bits, read_bits_within, read_text};
 pub use share::Shared;

@@ -1,0 +1,152 @@
+ghost use Rattle.std.specs.Prelude.{◌≡◌, ◌→◌, ◌<◌, ◌≤◌, IsTrue, IfSome, [], length};
+ghost use Rattle.std.specs.List.{slice_index_or};
+ghost use Rattle.gs_grammar.specs.Levels.{item_lists};
+ghost use Rattle.gs_grammar.specs.Ambiguity.{IsUnambiguous};
+ghost use Rattle.gs_grammar.specs.DerivationsSupport.{HasValues};
+ghost use Rattle.gs_grammar_level.specs.Cuttings.{starts_of};
+ghost use Rattle.gs_grammar_level.specs.OwnWords.{own_values, word_at};
+ghost use Rattle.gs_grammar_level.specs.Readings.{Reads};
+ghost use Rattle.gs_grammar_level.specs.declared.read.Reading.TheVariants.{One};
+
+use crate::cuttings::{Cutting, width_by};
+use crate::finder::{is_probed, stands_at};
+use crate::fronts::Group;
+use crate::level::Level;
+use gs_grammar::{Item, is_own_word};
+use std::marker::Model;
+
+/// The words of a text by an option that cuts it at fixed places, each its own value. Contracts see the option and the values.
+#[derive(Drop)]
+pub struct Words<'a> {
+    option: usize,
+    items: &'a [Item],
+    places: &'a [usize],
+    symbols: &'a [u8],
+}
+
+impl<'a> Model for Words<'a> {
+    ghost use Rattle.gs_grammar_level.specs.OwnWords.{WordsForm, own_values};
+
+    ghost Value = { WordsForm };
+
+    ghost view = { λ t. record { option = t.option; values = own_values t.items.now t.places.now t.symbols.now } };
+}
+
+/// Returns the part of the symbols from the place of this number up to the next place, and to the end after the last.
+fn word_at<'a>(places: &[usize], number: usize, symbols: &'a [u8]) -> &'a [u8]
+    requires { number < length places.now }
+    ensures { result.now ≡ word_at (drop number places.now) symbols.now }
+{
+    let from = places[number];
+    let rest = symbols.get(from..).unwrap_or(&[]);
+    match places.get(number + 1) {
+        Some(to) => rest.get(..to.saturating_sub(from)).unwrap_or(rest),
+        None => rest,
+    }
+}
+
+impl<'a> Words<'a> {
+    /// Returns the number of the option.
+    pub fn option(&self) -> usize
+        ensures { result ≡ self.now.option }
+    {
+        self.option
+    }
+
+    /// Returns the value of the item of this number, and an empty text after the last.
+    pub fn value(&self, number: usize) -> &'a [u8]
+        ensures { result.now ≡ slice_index_or self.now.values number [] }
+    {
+        match self.items.get(number) {
+            Some(Item::Lit(_)) | None => &[],
+            Some(_) => word_at(self.places, number, self.symbols),
+        }
+    }
+}
+
+/// Returns `true` only if the symbols are words of the items, which begin at these places, and each is its own value.
+fn are_own_words(items: &[Item], places: &[usize], symbols: &[u8]) -> bool
+    requires { places.now ≡ starts_of 0 items.now }
+    ensures { IsTrue result → HasValues items.now symbols.now (own_values items.now places.now symbols.now) }
+{
+    let mut left = items;
+    let mut ahead = places;
+    let mut rest = symbols;
+    while let Some((item, others)) = left.split_first() {
+        let width = width_by(ahead, others, rest);
+        if rest.len() < width {
+            return false;
+        }
+        let (word, behind) = rest.split_at(width);
+        if !is_own_word(item, word) {
+            return false;
+        }
+        left = others;
+        ahead = &ahead[1..];
+        rest = behind;
+    }
+    rest.is_empty()
+}
+
+/// Returns the words of the symbols by the option of this number, if it cuts them at fixed places into their own values.
+fn words_by<'a>(level: &'a Level, option: usize, symbols: &'a [u8]) -> Option<Words<'a>>
+    requires within { option < length level.now.options }
+    requires unambiguous { IsUnambiguous (item_lists level.now.options) }
+    ensures { IfSome result (λ words. Reads (item_lists level.now.options) symbols.now (One words.option words.values)) }
+{
+    if !is_probed(level, option, symbols) {
+        return None;
+    }
+    let Cutting::Widths(places) = &level.cuttings()[option] else {
+        return None;
+    };
+    let items = level.options()[option].items();
+    let places = places.items();
+    if !are_own_words(items, places, symbols) {
+        return None;
+    }
+    Some(Words {
+        option,
+        items,
+        places,
+        symbols,
+    })
+}
+
+/// Returns the words of the symbols by an option of the group, which has the options from this number on.
+fn words_by_group<'a>(
+    level: &'a Level,
+    from: usize,
+    group: &Group,
+    symbols: &'a [u8],
+) -> Option<Words<'a>>
+    requires within { group.now.end ≤ length level.now.options }
+    requires unambiguous { IsUnambiguous (item_lists level.now.options) }
+    ensures { IfSome result (λ words. Reads (item_lists level.now.options) symbols.now (One words.option words.values)) }
+{
+    if !stands_at(symbols, 0, group.literal.as_bytes()) {
+        return None;
+    }
+    for option in from..group.end {
+        if let Some(words) = words_by(level, option, symbols) {
+            return Some(words);
+        }
+    }
+    None
+}
+
+/// Finds the option that cuts a text of a level that is not ambiguous at fixed places into words that are their own values.
+/// `None` says nothing: `read_text` decides then. Does not allocate.
+pub fn find_words<'a>(level: &'a Level, text: &'a [u8]) -> Option<Words<'a>>
+    requires { IsUnambiguous (item_lists level.now.options) }
+    ensures { IfSome result (λ words. Reads (item_lists level.now.options) text.now (One words.option words.values)) }
+{
+    let mut from = 0;
+    for group in level.groups() {
+        if let Some(words) = words_by_group(level, from, group, text) {
+            return Some(words);
+        }
+        from = group.end;
+    }
+    None
+}
