@@ -19,7 +19,6 @@ static PLAIN: [u8; 256] = [
 ];
 
 /// Returns whether an EPC URI spells the byte as itself.
-#[tactic(auto, using(crate::proofs::OwnWords::plain_at))]
 fn is_plain(c: u8) -> bool
     ensures { result ≡ is_plain c }
 {
