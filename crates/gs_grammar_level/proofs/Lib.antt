@@ -18,3 +18,4 @@ pub mod MachinesOfOptions
 pub mod BoundedWords
 pub mod DecidedShares
 pub mod SomeAnswer
+pub mod OwnWords

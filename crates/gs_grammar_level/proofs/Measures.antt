@@ -44,7 +44,7 @@ has_width item (next ∷ others) rest cuts place i c e =
     let size = size_by item next others rest cuts place e in
     one_width item (next ∷ others) rest (width_by cuts (next ∷ others) rest) i size (c.0 ∙ sym size)
 
-next_by : (item : Item) (others : List Item) (cuts : List ℕ) (place : ℕ) → cuts ≡ starts_of place (item ∷ others) → HasNextCut cuts others
+pub next_by : (item : Item) (others : List Item) (cuts : List ℕ) (place : ℕ) → cuts ≡ starts_of place (item ∷ others) → HasNextCut cuts others
 next_by item [] cuts place e = tt
 next_by item (next ∷ others) cuts place e =
     let count = ap length e in

@@ -1,4 +1,4 @@
-ghost use Rattle.std.specs.Prelude.{◌≡◌, ◌→◌, ◌<◌, ◌≤◌, IsTrue, IfSome, [], length};
+ghost use Rattle.std.specs.Prelude.{◌≡◌, ◌<◌, ◌≤◌, IsTrue, IfSome, [], length, take, drop};
 ghost use Rattle.std.specs.List.{slice_index_or};
 ghost use Rattle.gs_grammar.specs.Levels.{item_lists};
 ghost use Rattle.gs_grammar.specs.Ambiguity.{IsUnambiguous};
@@ -32,15 +32,36 @@ impl<'a> Model for Words<'a> {
     ghost view = { λ t. record { option = t.option; values = own_values t.items.now t.places.now t.symbols.now } };
 }
 
-/// Returns the part of the symbols from the place of this number up to the next place, and to the end after the last.
-fn word_at<'a>(places: &[usize], number: usize, symbols: &'a [u8]) -> &'a [u8]
-    requires { number < length places.now }
-    ensures { result.now ≡ word_at (drop number places.now) symbols.now }
+/// Returns the symbols after the first `n`.
+fn skip(symbols: &[u8], n: usize) -> &[u8]
+    ensures { result.now ≡ drop n symbols.now }
 {
-    let from = places[number];
-    let rest = symbols.get(from..).unwrap_or(&[]);
-    match places.get(number + 1) {
-        Some(to) => rest.get(..to.saturating_sub(from)).unwrap_or(rest),
+    match symbols.get(n..) {
+        Some(rest) => rest,
+        None => &[],
+    }
+}
+
+/// Returns the first `n` symbols.
+fn first(symbols: &[u8], n: usize) -> &[u8]
+    ensures { result.now ≡ take n symbols.now }
+{
+    match symbols.get(..n) {
+        Some(front) => front,
+        None => symbols,
+    }
+}
+
+/// Returns the part of the symbols from the first place up to the second, and to the end if there is no second.
+fn word_at<'a>(places: &[usize], symbols: &'a [u8]) -> &'a [u8]
+    ensures { result.now ≡ word_at places.now symbols.now }
+{
+    let Some((from, others)) = places.split_first() else {
+        return &[];
+    };
+    let rest = skip(symbols, *from);
+    match others.first() {
+        Some(to) => first(rest, to.saturating_sub(*from)),
         None => rest,
     }
 }
@@ -57,9 +78,15 @@ impl<'a> Words<'a> {
     pub fn value(&self, number: usize) -> &'a [u8]
         ensures { result.now ≡ slice_index_or self.now.values number [] }
     {
-        match self.items.get(number) {
-            Some(Item::Lit(_)) | None => &[],
-            Some(_) => word_at(self.places, number, self.symbols),
+        let Some(item) = self.items.get(number) else {
+            return &[];
+        };
+        if let Item::Lit(_) = item {
+            return &[];
+        }
+        match self.places.get(number..) {
+            Some(ahead) => word_at(ahead, self.symbols),
+            None => &[],
         }
     }
 }
