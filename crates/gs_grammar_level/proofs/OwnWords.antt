@@ -50,10 +50,10 @@ pub other_at : (items : List Item) (places w ahead : List ℕ) (n : ℕ) (item :
     → ((literal : List ℕ) → item ≡ Lit literal → ⊥) → ahead ≡ drop n places → get_or (own_values items places w) n [] ≡ word_at ahead w
 other_at items places w ahead n item e none a = own_value_at items places w n item e ∙ other_value item (word_at (drop n places) w) none ∙ ap (λ (xs : List ℕ). word_at xs w) (sym a)
 
-pub no_value_at : (items : List Item) (places w : List ℕ) (n : ℕ) → slice_get items n ≡ None → get_or (own_values items places w) n [] ≡ []
+pub no_value_at : (items : List Item) (places w : List ℕ) (n : ℕ) → length items ≤ n → get_or (own_values items places w) n [] ≡ []
 no_value_at [] places w n e = refl
-no_value_at (first ∷ items) places w zero e = absurd (let f : Some first ≡ None = e in cc)
-no_value_at (first ∷ items) places w (suc n) e = no_value_at items (drop 1 places) w n e
+no_value_at (first ∷ items) places w zero e = absurd (omega arith)
+no_value_at (first ∷ items) places w (suc n) e = no_value_at items (drop 1 places) w n (omega arith)
 
 -- the items to come begin at the places ahead, and what they derive of the rest belongs to the whole
 pub record OwnSoFar (items left : List Item) (places ahead w rest : List ℕ) : Type 0 where
