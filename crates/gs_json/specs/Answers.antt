@@ -8,15 +8,10 @@ use Rattle.serde_json.specs.Data.{Data, Members, no_members, member}
 use Rattle.serde_json.specs.Events.{items_len}
 use Rattle.serde_json.specs.Find.{as_array, as_number, as_object, as_u64, get_member}
 use Rattle.serde_json.specs.View.{view}
-use Rattle.gs_chars.specs.Answers.{OrError}
 use Rattle.gs_json.specs.Parts.{Part}
 use Rattle.gs_json.specs.Places.{member_place}
 use Rattle.gs_json.specs.declared.error.JsonFault.{JsonFault}
-use Rattle.gs_json.specs.declared.error.JsonFault.TheVariants.{Lacks, Kind, Memory}
-
--- trusted, own: holds if the result is `answer` or `Memory`
-abbrev pub OrMemory : {X : Type 0} → Result X JsonFault → Result X JsonFault → Type 0
-OrMemory result answer = OrError Memory result answer
+use Rattle.gs_json.specs.declared.error.JsonFault.TheVariants.{Lacks, Kind}
 
 -- trusted, own: the result with `f` of its value
 abbrev pub result_map : {X Y : Type 0} → (X → Y) → Result X JsonFault → Result Y JsonFault

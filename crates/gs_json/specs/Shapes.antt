@@ -5,12 +5,12 @@ use Rattle.std.specs.Str.{bytes_eq}
 use Rattle.serde_json.specs.Data.{Data, Items, no_items, item, Members}
 use Rattle.serde_json.specs.Find.{as_array, as_bool, as_object, as_str, get_member}
 use Rattle.serde_json.specs.View.{view}
-use Rattle.gs_chars.specs.Answers.{first_or}
-use Rattle.gs_json.specs.Answers.{OrMemory, names_of_members, number_of}
+use Rattle.gs_chars.specs.Answers.{first_or, OrError}
+use Rattle.gs_json.specs.Answers.{names_of_members, number_of}
 use Rattle.gs_json.specs.Parts.{Part}
 use Rattle.gs_json.specs.Places.{member_place, item_place}
 use Rattle.gs_json.specs.declared.error.JsonFault.{JsonFault}
-use Rattle.gs_json.specs.declared.error.JsonFault.TheVariants.{Lacks, Kind, Unknown}
+use Rattle.gs_json.specs.declared.error.JsonFault.TheVariants.{Lacks, Kind, Unknown, Memory}
 use Rattle.gs_json.specs.declared.plan.Entry.{Entry}
 use Rattle.gs_json.specs.declared.plan.Sort.{Sort}
 use Rattle.gs_json.specs.declared.plan.Sort.TheVariants.{Text, Number, Truth, Array, Texts, Arrays}
@@ -86,4 +86,4 @@ first_error errors = first_or errors tt
 
 -- trusted, own: holds if the result is the first of `errors`, or no error, or `Memory`
 abbrev pub IsFirst : Result Unit JsonFault → List JsonFault → Type 0
-IsFirst result errors = OrMemory result (first_error errors)
+IsFirst result errors = OrError Memory result (first_error errors)

@@ -5,7 +5,7 @@ use Rattle.gs_class.specs.declared.error.ClassLoadFault.TheVariants as class
 use Rattle.gs_class.specs.Sets.{ClassRows}
 use Rattle.gs_tables_document.specs.declared.error.LoadFault.{LoadFault}
 use Rattle.gs_port.specs.Counts.{Rises}
-use Rattle.gs_port.specs.Files.{IsAbsent, IsFile}
+use Rattle.gs_port.specs.Files.{IsAbsent, IsFile, FilesHeld}
 use Rattle.gs_prefix.specs.declared.entry.PrefixEntry.{PrefixEntry}
 use Rattle.gs_prefix.specs.declared.error.PrefixFault.{PrefixFault}
 use Rattle.gs_prefix.specs.declared.error.PrefixFault.TheVariants as prefix
@@ -21,7 +21,7 @@ use Rattle.tdl_messages.specs.Rejections.{file_limit}
 use Rattle.tdl_loads.specs.declared.loads.TablesWithSource.{TablesWithSource}
 use Rattle.tdl_loads.specs.declared.loads.Unloaded.{Unloaded}
 use Rattle.tdl_loads.specs.declared.loads.Unloaded.TheVariants.{Refused, ReadFault, Memory}
-use Rattle.tdl_loads.specs.Loads.{FilesInMemory, classes_verdict, of_verdict, prefixes_verdict, rejected, tables_verdict}
+use Rattle.tdl_loads.specs.Loads.{classes_verdict, of_verdict, prefixes_verdict, rejected, tables_verdict}
 
 -- holds if this is the answer of a load of tables of a document, with out of memory as no rejection
 abbrev pub UnloadedAs : List ℕ → Result TableRows LoadFault → Result TablesWithSource Unloaded → Type 0
