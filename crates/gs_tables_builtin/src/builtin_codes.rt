@@ -1,8 +1,6 @@
 ghost use Rattle.std.specs.Prelude.{◌≡◌, ◌++◌, IfOk, OnOk, map};
-ghost use Rattle.gs_tables_builtin.specs.BuiltInAis.{additional_ais, agreed_ais, asset_ais, builtin_ais, company_ais};
-ghost use Rattle.gs_tables_builtin.specs.BuiltInAis.{date_ais, item_ais, location_ais, party_ais, shipment_ais};
-ghost use Rattle.gs_tables_builtin.specs.BuiltInAis.{variant_ais, weight_ais};
-ghost use Rattle.gs_tables_builtin.specs.BuiltInAisSupport.{ai_row, goods_ais, other_ais, row_of, known};
+ghost use Rattle.gs_tables_builtin.specs.BuiltInAis.{builtin_ais};
+ghost use Rattle.gs_tables_builtin.specs.BuiltInAisSupport.{ai_row, goods_ais, known, other_ais, row_of, rows_at};
 
 use crate::builtin_codes::AiLine::{Attribute, Key, Qualifier};
 use gs_ai::Part::{Date, Num, NumCheck, NumOpt, NumUpTo, Set, SetOpt, Zero};
@@ -72,7 +70,7 @@ fn push_rows(alloc: Global, rows: &mut Vec<AiRow>, lines: &[AiLine<'_>]) -> Resu
 }
 
 /// Appends the rows of logistic units, trade items and lots.
-#[tactic(auto, unfolding(crate::specs::BuiltInAis::item_ais))]
+#[tactic(auto, unfolding(crate::specs::BuiltInAis::builtin_ais))]
 fn add_items(alloc: Global, rows: &mut Vec<AiRow>) -> Result<(), Memory>
     ensures { OnOk result (rows.new.items ≡ rows.old.items ++ item_ais) }
 {
@@ -89,7 +87,7 @@ fn add_items(alloc: Global, rows: &mut Vec<AiRow>) -> Result<(), Memory>
 }
 
 /// Appends the rows of dates.
-#[tactic(auto, unfolding(crate::specs::BuiltInAis::date_ais))]
+#[tactic(auto, unfolding(crate::specs::BuiltInAis::builtin_ais))]
 fn add_dates(alloc: Global, rows: &mut Vec<AiRow>) -> Result<(), Memory>
     ensures { OnOk result (rows.new.items ≡ rows.old.items ++ date_ais) }
 {
@@ -108,7 +106,7 @@ fn add_dates(alloc: Global, rows: &mut Vec<AiRow>) -> Result<(), Memory>
 }
 
 /// Appends the rows of variants, serials and counts.
-#[tactic(auto, unfolding(crate::specs::BuiltInAis::variant_ais))]
+#[tactic(auto, unfolding(crate::specs::BuiltInAis::builtin_ais))]
 fn add_variants(alloc: Global, rows: &mut Vec<AiRow>) -> Result<(), Memory>
     ensures { OnOk result (rows.new.items ≡ rows.old.items ++ variant_ais) }
 {
@@ -126,7 +124,7 @@ fn add_variants(alloc: Global, rows: &mut Vec<AiRow>) -> Result<(), Memory>
 }
 
 /// Appends the rows of additional identifications, documents, extensions of locations and coupons.
-#[tactic(auto, unfolding(crate::specs::BuiltInAis::additional_ais))]
+#[tactic(auto, unfolding(crate::specs::BuiltInAis::builtin_ais))]
 fn add_additional(alloc: Global, rows: &mut Vec<AiRow>) -> Result<(), Memory>
     ensures { OnOk result (rows.new.items ≡ rows.old.items ++ additional_ais) }
 {
@@ -146,7 +144,7 @@ fn add_additional(alloc: Global, rows: &mut Vec<AiRow>) -> Result<(), Memory>
 }
 
 /// Appends the rows of net weights.
-#[tactic(auto, unfolding(crate::specs::BuiltInAis::weight_ais))]
+#[tactic(auto, unfolding(crate::specs::BuiltInAis::builtin_ais))]
 fn add_weights(alloc: Global, rows: &mut Vec<AiRow>) -> Result<(), Memory>
     ensures { OnOk result (rows.new.items ≡ rows.old.items ++ weight_ais) }
 {
@@ -165,7 +163,7 @@ fn add_weights(alloc: Global, rows: &mut Vec<AiRow>) -> Result<(), Memory>
 }
 
 /// Appends the rows of orders, consignments and shipments.
-#[tactic(auto, unfolding(crate::specs::BuiltInAis::shipment_ais))]
+#[tactic(auto, unfolding(crate::specs::BuiltInAis::builtin_ais))]
 fn add_shipments(alloc: Global, rows: &mut Vec<AiRow>) -> Result<(), Memory>
     ensures { OnOk result (rows.new.items ≡ rows.old.items ++ shipment_ais) }
 {
@@ -182,7 +180,7 @@ fn add_shipments(alloc: Global, rows: &mut Vec<AiRow>) -> Result<(), Memory>
 }
 
 /// Appends the rows of parties that goods are sent, billed or bought for.
-#[tactic(auto, unfolding(crate::specs::BuiltInAis::party_ais))]
+#[tactic(auto, unfolding(crate::specs::BuiltInAis::builtin_ais))]
 fn add_parties(alloc: Global, rows: &mut Vec<AiRow>) -> Result<(), Memory>
     ensures { OnOk result (rows.new.items ≡ rows.old.items ++ party_ais) }
 {
@@ -199,7 +197,7 @@ fn add_parties(alloc: Global, rows: &mut Vec<AiRow>) -> Result<(), Memory>
 }
 
 /// Appends the rows of locations and other parties.
-#[tactic(auto, unfolding(crate::specs::BuiltInAis::location_ais))]
+#[tactic(auto, unfolding(crate::specs::BuiltInAis::builtin_ais))]
 fn add_locations(alloc: Global, rows: &mut Vec<AiRow>) -> Result<(), Memory>
     ensures { OnOk result (rows.new.items ≡ rows.old.items ++ location_ais) }
 {
@@ -216,7 +214,7 @@ fn add_locations(alloc: Global, rows: &mut Vec<AiRow>) -> Result<(), Memory>
 }
 
 /// Appends the rows of assets, pieces of trade items and services.
-#[tactic(auto, unfolding(crate::specs::BuiltInAis::asset_ais))]
+#[tactic(auto, unfolding(crate::specs::BuiltInAis::builtin_ais))]
 fn add_assets(alloc: Global, rows: &mut Vec<AiRow>) -> Result<(), Memory>
     ensures { OnOk result (rows.new.items ≡ rows.old.items ++ asset_ais) }
 {
@@ -241,7 +239,7 @@ fn add_assets(alloc: Global, rows: &mut Vec<AiRow>) -> Result<(), Memory>
 }
 
 /// Appends the rows that trading partners agree on, and the first company internal ones.
-#[tactic(auto, unfolding(crate::specs::BuiltInAis::agreed_ais))]
+#[tactic(auto, unfolding(crate::specs::BuiltInAis::builtin_ais))]
 fn add_agreed(alloc: Global, rows: &mut Vec<AiRow>) -> Result<(), Memory>
     ensures { OnOk result (rows.new.items ≡ rows.old.items ++ agreed_ais) }
 {
@@ -259,7 +257,7 @@ fn add_agreed(alloc: Global, rows: &mut Vec<AiRow>) -> Result<(), Memory>
 }
 
 /// Appends the company internal rows.
-#[tactic(auto, unfolding(crate::specs::BuiltInAis::company_ais))]
+#[tactic(auto, unfolding(crate::specs::BuiltInAis::builtin_ais))]
 fn add_company(alloc: Global, rows: &mut Vec<AiRow>) -> Result<(), Memory>
     ensures { OnOk result (rows.new.items ≡ rows.old.items ++ company_ais) }
 {
