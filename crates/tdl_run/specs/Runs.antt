@@ -1,9 +1,8 @@
 -- The outcomes of whole runs.
-use Rattle.std.specs.Prelude.{◌≡◌, ◌⊎◌, ℕ, ◌+◌, ◌≤◌, true, false, List, [], ◌∷◌, length, Option, Some, None, Ok, Err}
+use Rattle.std.specs.Prelude.{◌≡◌, ◌⊎◌, ℕ, ◌≤◌, true, false, List, [], ◌∷◌, length, Option, Some, Ok, Err}
 use Rattle.std.specs.Bool.{OnTrue}
 use Rattle.tdl_lines.specs.declared.status.Status.{Status}
 use Rattle.tdl_lines.specs.declared.status.Status.TheVariants as status
-use Rattle.tdl_lines.specs.Inputs.{IsAtEnd, TakesAtMost}
 use Rattle.tdl_lines.specs.Statuses.{is_answered, is_status}
 use Rattle.gs_http.specs.Sites.{SiteData}
 use Rattle.gs_port.specs.Counts.{Rises}
@@ -18,7 +17,6 @@ use Rattle.tdl_arguments.specs.Commands.{answers_lines}
 use Rattle.tdl_arguments.specs.Requests.{Asking, AskingOr, AsksFor, names_in_order, usage_line}
 use Rattle.tdl_loads.specs.declared.loads.Loaded.{Loaded}
 use Rattle.tdl_loads.specs.Loads.{Ambiguity, FilesGive, Loading, OpensUpTo, Stop, Stopping, ambiguous, missing, rejected}
-use Rattle.tdl_run.specs.CommandRuns.{BeginsOne, CutShort}
 use Rattle.tdl_run.specs.Works.{Appends, DoingEnded, DoingFinished, DoingRun, Doorway, Outcome, Serves, doing_of, doorway_of, input_limit, outcome_of, site_of}
 
 -- trusted, own: the known world of a run: its files, its input and its listener, each if it is known
@@ -94,21 +92,9 @@ FinishedRun words world outcome = AskingOr words (λ asked.
     ⊎ Loading world.files asked (λ loaded. DoingFinished (doing_of asked.command asked.values loaded) (site_of loaded) world.door outcome.status outcome.finished))
     (outcome.finished ≡ [])
 
--- trusted, own: holds if `output` is a prefix of the output of some defined outcome
-abbrev pub BeginsRun : List (List ℕ) → World → List ℕ → Type 0
-BeginsRun words world output = BeginsOne (DefinedRun words world) output
-
--- trusted, own: holds if `outcome` is some defined outcome, but with a prefix of its output
-abbrev pub CutRun : List (List ℕ) → World → Outcome → Type 0
-CutRun words world outcome = CutShort (DefinedRun words world) outcome
-
 -- trusted, own: holds if the command has written `output` after an error of the input, by the bytes that were taken from it
 abbrev pub EndedRun : List (List ℕ) → Option FilesHeld → Option (List ℕ) → Option (List ℕ) → List ℕ → Type 0
 EndedRun words files before now output = Asking words (λ asked. Loading files asked (λ loaded. DoingEnded (doing_of asked.command asked.values loaded) (site_of loaded) before now output))
-
--- trusted, own: holds if a file that `words` name is missing, and no earlier file stops the run
-abbrev pub IsMissing : List (List ℕ) → Option FilesHeld → Type 0
-IsMissing words files = Asking words (λ asked. (kind : FileKind) × FilesGive files asked (Err (missing kind)))
 
 -- trusted, own: holds if a file that `words` name, or its default row, is rejected, and no earlier file stops the run
 abbrev pub IsRejected : List (List ℕ) → Option FilesHeld → Type 0
@@ -119,16 +105,8 @@ IsRejected words files = Asking words (λ asked. (rejection : Rejection) × File
 abbrev pub RunCause : List (List ℕ) → Option FilesHeld → Moment → Moment → Type 0
 RunCause words files before now =
     (Rises before.input.errors now.input.errors ⊎ Rises before.door.aside.errors now.door.aside.errors)
-    ⊎ (Rises before.files.errors now.files.errors ⊎ IsMissing words files)
-
--- trusted, own: holds if, once the whole input was answered, nothing is left of it, or `words` do not ask for answers to its
--- lines
-abbrev pub ReadsToEnd : List (List ℕ) → Status → Option (List ℕ) → Type 0
-ReadsToEnd words ending left = AsksFor answers_lines words → OnTrue (is_answered ending) (IsAtEnd left)
-
--- trusted, own: holds if at most 4,294,967,297 bytes were taken from the input, or `words` do not ask for answers to its lines
-abbrev pub TakesFew : List (List ℕ) → Option (List ℕ) → Option (List ℕ) → Type 0
-TakesFew words before now = AsksFor answers_lines words → TakesAtMost (input_limit + 1) before now
+    ⊎ (Rises before.files.errors now.files.errors
+    ⊎ Asking words (λ asked. (kind : FileKind) × FilesGive files asked (Err (missing kind))))
 
 -- trusted, own: Holds if nothing was written after a read error and the input is unchanged. It also holds if the input counted
 -- an error, and the sink gained an output of which `Ended` holds.
@@ -183,7 +161,3 @@ pub record NoneRises (before now : Moment) : Type 0 where
   pub input : Rises before.input.errors now.input.errors → ⊥
   pub output : Rises before.output.errors now.output.errors → ⊥
   pub door : Rises before.door.aside.errors now.door.aside.errors → ⊥
-
--- trusted, own: holds if the whole input was answered, or memory ran out
-abbrev pub IsDoneOrMemory : Status → Type 0
-IsDoneOrMemory ending = (is_answered ending ≡ true) ⊎ (ending ≡ status.Memory)
