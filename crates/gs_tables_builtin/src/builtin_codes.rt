@@ -72,7 +72,7 @@ fn push_rows(alloc: Global, rows: &mut Vec<AiRow>, lines: &[AiLine<'_>]) -> Resu
 /// Appends the rows of logistic units, trade items and lots.
 #[tactic(auto, unfolding(crate::specs::BuiltInAis::builtin_ais))]
 fn add_items(alloc: Global, rows: &mut Vec<AiRow>) -> Result<(), Memory>
-    ensures { OnOk result (rows.new.items ≡ rows.old.items ++ item_ais) }
+    ensures { OnOk result (rows.new.items ≡ rows.old.items ++ rows_at 0 4) }
 {
     push_rows(
         alloc,
@@ -89,7 +89,7 @@ fn add_items(alloc: Global, rows: &mut Vec<AiRow>) -> Result<(), Memory>
 /// Appends the rows of dates.
 #[tactic(auto, unfolding(crate::specs::BuiltInAis::builtin_ais))]
 fn add_dates(alloc: Global, rows: &mut Vec<AiRow>) -> Result<(), Memory>
-    ensures { OnOk result (rows.new.items ≡ rows.old.items ++ date_ais) }
+    ensures { OnOk result (rows.new.items ≡ rows.old.items ++ rows_at 4 6) }
 {
     push_rows(
         alloc,
@@ -108,7 +108,7 @@ fn add_dates(alloc: Global, rows: &mut Vec<AiRow>) -> Result<(), Memory>
 /// Appends the rows of variants, serials and counts.
 #[tactic(auto, unfolding(crate::specs::BuiltInAis::builtin_ais))]
 fn add_variants(alloc: Global, rows: &mut Vec<AiRow>) -> Result<(), Memory>
-    ensures { OnOk result (rows.new.items ≡ rows.old.items ++ variant_ais) }
+    ensures { OnOk result (rows.new.items ≡ rows.old.items ++ rows_at 10 5) }
 {
     push_rows(
         alloc,
@@ -126,7 +126,7 @@ fn add_variants(alloc: Global, rows: &mut Vec<AiRow>) -> Result<(), Memory>
 /// Appends the rows of additional identifications, documents, extensions of locations and coupons.
 #[tactic(auto, unfolding(crate::specs::BuiltInAis::builtin_ais))]
 fn add_additional(alloc: Global, rows: &mut Vec<AiRow>) -> Result<(), Memory>
-    ensures { OnOk result (rows.new.items ≡ rows.old.items ++ additional_ais) }
+    ensures { OnOk result (rows.new.items ≡ rows.old.items ++ rows_at 15 7) }
 {
     push_rows(
         alloc,
@@ -146,7 +146,7 @@ fn add_additional(alloc: Global, rows: &mut Vec<AiRow>) -> Result<(), Memory>
 /// Appends the rows of net weights.
 #[tactic(auto, unfolding(crate::specs::BuiltInAis::builtin_ais))]
 fn add_weights(alloc: Global, rows: &mut Vec<AiRow>) -> Result<(), Memory>
-    ensures { OnOk result (rows.new.items ≡ rows.old.items ++ weight_ais) }
+    ensures { OnOk result (rows.new.items ≡ rows.old.items ++ rows_at 22 6) }
 {
     push_rows(
         alloc,
@@ -165,7 +165,7 @@ fn add_weights(alloc: Global, rows: &mut Vec<AiRow>) -> Result<(), Memory>
 /// Appends the rows of orders, consignments and shipments.
 #[tactic(auto, unfolding(crate::specs::BuiltInAis::builtin_ais))]
 fn add_shipments(alloc: Global, rows: &mut Vec<AiRow>) -> Result<(), Memory>
-    ensures { OnOk result (rows.new.items ≡ rows.old.items ++ shipment_ais) }
+    ensures { OnOk result (rows.new.items ≡ rows.old.items ++ rows_at 28 4) }
 {
     push_rows(
         alloc,
@@ -182,7 +182,7 @@ fn add_shipments(alloc: Global, rows: &mut Vec<AiRow>) -> Result<(), Memory>
 /// Appends the rows of parties that goods are sent, billed or bought for.
 #[tactic(auto, unfolding(crate::specs::BuiltInAis::builtin_ais))]
 fn add_parties(alloc: Global, rows: &mut Vec<AiRow>) -> Result<(), Memory>
-    ensures { OnOk result (rows.new.items ≡ rows.old.items ++ party_ais) }
+    ensures { OnOk result (rows.new.items ≡ rows.old.items ++ rows_at 32 4) }
 {
     push_rows(
         alloc,
@@ -199,7 +199,7 @@ fn add_parties(alloc: Global, rows: &mut Vec<AiRow>) -> Result<(), Memory>
 /// Appends the rows of locations and other parties.
 #[tactic(auto, unfolding(crate::specs::BuiltInAis::builtin_ais))]
 fn add_locations(alloc: Global, rows: &mut Vec<AiRow>) -> Result<(), Memory>
-    ensures { OnOk result (rows.new.items ≡ rows.old.items ++ location_ais) }
+    ensures { OnOk result (rows.new.items ≡ rows.old.items ++ rows_at 36 4) }
 {
     push_rows(
         alloc,
@@ -216,7 +216,7 @@ fn add_locations(alloc: Global, rows: &mut Vec<AiRow>) -> Result<(), Memory>
 /// Appends the rows of assets, pieces of trade items and services.
 #[tactic(auto, unfolding(crate::specs::BuiltInAis::builtin_ais))]
 fn add_assets(alloc: Global, rows: &mut Vec<AiRow>) -> Result<(), Memory>
-    ensures { OnOk result (rows.new.items ≡ rows.old.items ++ asset_ais) }
+    ensures { OnOk result (rows.new.items ≡ rows.old.items ++ rows_at 40 7) }
 {
     push_rows(
         alloc,
@@ -241,7 +241,7 @@ fn add_assets(alloc: Global, rows: &mut Vec<AiRow>) -> Result<(), Memory>
 /// Appends the rows that trading partners agree on, and the first company internal ones.
 #[tactic(auto, unfolding(crate::specs::BuiltInAis::builtin_ais))]
 fn add_agreed(alloc: Global, rows: &mut Vec<AiRow>) -> Result<(), Memory>
-    ensures { OnOk result (rows.new.items ≡ rows.old.items ++ agreed_ais) }
+    ensures { OnOk result (rows.new.items ≡ rows.old.items ++ rows_at 47 5) }
 {
     push_rows(
         alloc,
@@ -259,7 +259,7 @@ fn add_agreed(alloc: Global, rows: &mut Vec<AiRow>) -> Result<(), Memory>
 /// Appends the company internal rows.
 #[tactic(auto, unfolding(crate::specs::BuiltInAis::builtin_ais))]
 fn add_company(alloc: Global, rows: &mut Vec<AiRow>) -> Result<(), Memory>
-    ensures { OnOk result (rows.new.items ≡ rows.old.items ++ company_ais) }
+    ensures { OnOk result (rows.new.items ≡ rows.old.items ++ rows_at 52 5) }
 {
     push_rows(
         alloc,

@@ -97,7 +97,7 @@ macro_rules! lines {
 /// Appends the encodings of trade items, logistic units and locations.
 #[tactic(auto, unfolding(crate::specs::BuiltIn::encodings))]
 fn add_item_encodings(alloc: Global, rows: &mut Vec<Encoding>) -> Result<(), Memory>
-    ensures { OnOk result (rows.new.items ≡ rows.old.items ++ item_encodings) }
+    ensures { OnOk result (rows.new.items ≡ rows.old.items ++ encodings_at 0 5) }
 {
     push_encodings(
         alloc,
@@ -115,7 +115,7 @@ fn add_item_encodings(alloc: Global, rows: &mut Vec<Encoding>) -> Result<(), Mem
 /// Appends the encodings of assets.
 #[tactic(auto, unfolding(crate::specs::BuiltIn::encodings))]
 fn add_asset_encodings(alloc: Global, rows: &mut Vec<Encoding>) -> Result<(), Memory>
-    ensures { OnOk result (rows.new.items ≡ rows.old.items ++ asset_encodings) }
+    ensures { OnOk result (rows.new.items ≡ rows.old.items ++ encodings_at 5 4) }
 {
     push_encodings(
         alloc,
@@ -132,7 +132,7 @@ fn add_asset_encodings(alloc: Global, rows: &mut Vec<Encoding>) -> Result<(), Me
 /// Appends the encodings of documents and services.
 #[tactic(auto, unfolding(crate::specs::BuiltIn::encodings))]
 fn add_document_encodings(alloc: Global, rows: &mut Vec<Encoding>) -> Result<(), Memory>
-    ensures { OnOk result (rows.new.items ≡ rows.old.items ++ document_encodings) }
+    ensures { OnOk result (rows.new.items ≡ rows.old.items ++ encodings_at 9 3) }
 {
     push_encodings(
         alloc,
@@ -148,7 +148,7 @@ fn add_document_encodings(alloc: Global, rows: &mut Vec<Encoding>) -> Result<(),
 /// Appends the encodings of coupons, pieces of trade items and service providers.
 #[tactic(auto, unfolding(crate::specs::BuiltIn::encodings))]
 fn add_further_encodings(alloc: Global, rows: &mut Vec<Encoding>) -> Result<(), Memory>
-    ensures { OnOk result (rows.new.items ≡ rows.old.items ++ further_encodings) }
+    ensures { OnOk result (rows.new.items ≡ rows.old.items ++ encodings_at 12 3) }
 {
     push_encodings(
         alloc,

@@ -18,7 +18,7 @@ use Rattle.gs_class.proofs.SetParts.{none_of_table}
 use Rattle.gs_json.specs.Members.{document_of, number_in}
 use Rattle.gs_json.specs.declared.error.JsonFault.TheVariants.{Syntax}
 use Rattle.gs_port.specs.Files.{IsFile, FilesHeld}
-use Rattle.gs_translate.specs.Steps.{goes_on, rejects}
+use Rattle.gs_translate.specs.Steps.{goes_on, rejects, reworded}
 use Rattle.tdl_arguments.specs.declared.command.Command.{Command}
 use Rattle.tdl_arguments.specs.Requests.{Asked}
 use Rattle.tdl_messages.specs.declared.file_kind.FileKind.TheVariants as kind
@@ -28,7 +28,7 @@ use Rattle.tdl_messages.specs.Rejections.{file_limit}
 use Rattle.tdl_loads.specs.declared.loads.Loaded.{Loaded}
 use Rattle.tdl_loads.specs.declared.loads.Unloaded.{Unloaded}
 use Rattle.tdl_loads.specs.declared.loads.Unloaded.TheVariants as unloaded
-use Rattle.tdl_loads.specs.Loads.{ClassesGive, FilesGive, JudgesClasses, StandsFor, Stop, UnnamedClasses, absent, classes_verdict, is_of_classes, judged, missing, of_verdict, rejected, too_large}
+use Rattle.tdl_loads.specs.Loads.{ClassesGive, FilesGive, JudgesClasses, StandsFor, Stop, UnnamedClasses, absent, is_of_classes, judged, missing, of_verdict, rejected, too_large}
 use Rattle.tdl_loads.specs.LoadsSupport.{AreKept, AreUnnamedClasses, LoadedBy, PartsGive}
 use Rattle.tdl_loads.specs.Reads.{ClassesUnloadedAs}
 use Rattle.tdl_loads.proofs.FlatLoads.{flat_parts}
@@ -78,7 +78,7 @@ judged_kept : (ais : List AiRow) (Answer : Result ClassRows ClassLoadFault → T
     → AreKept ais set
 judged_kept ais Answer verdict set kept j e = by j.answer j.is_answer (e ∙ ap (of_verdict kind.Classes) j.is)
   where
-    by : (answer : Result ClassRows ClassLoadFault) → Answer answer → Ok set ≡ of_verdict kind.Classes (classes_verdict answer) → AreKept ais set
+    by : (answer : Result ClassRows ClassLoadFault) → Answer answer → Ok set ≡ of_verdict kind.Classes (reworded Classes answer) → AreKept ais set
     by (Ok other) a f = let same : set ≡ other = cc in rw same (kept other a)
     by (Err error) a f = absurd (let g : Ok set ≡ Err (rejected (record { kind = kind.Classes; error = Classes error })) = f in cc)
 
@@ -121,7 +121,7 @@ classes_kept files asked loaded gives = parts_kept files asked loaded (flat_part
 
 -- classes that were judged are loaded, or rejected, or memory ran out
 known_classes : (Give : Result ClassRows Stop → Type 0) (errored : Bool) (answer : Result ClassRows ClassLoadFault) (result : Result ClassRows Unloaded) (Answer : Result ClassRows ClassLoadFault → Type 0)
-    → OrMemory Answer answer → ClassesUnloadedAs answer result → (Answer answer → Give (of_verdict kind.Classes (classes_verdict answer)))
+    → OrMemory Answer answer → ClassesUnloadedAs answer result → (Answer answer → Give (of_verdict kind.Classes (reworded Classes answer)))
     → LoadedBy Give errored result
 known_classes Give errored answer (Ok set) Answer (inl none) u give = absurd (let f : Ok set ≡ Err class.Memory = sym u ∙ none in cc)
 known_classes Give errored answer (Ok set) Answer (inr is) u give = let g = give is in rw u at g
@@ -135,14 +135,14 @@ pub file_loaded : (files : Option FilesHeld) (ais : List AiRow) (command : Comma
     → ClassesUnloadedAs answer result → LoadedBy (ClassesGive files ais command (Some name)) errored result
 file_loaded files ais command name bytes errored answer result is few load u =
     known_classes (ClassesGive files ais command (Some name)) errored answer result (LoadAnswer ais bytes) load u
-    (λ a. judged bytes (classes_verdict answer) is few (record { answer = answer; is_answer = a; is = refl }) refl)
+    (λ a. judged bytes (reworded Classes answer) is few (record { answer = answer; is_answer = a; is = refl }) refl)
 
 pub built_in_loaded : (ais : List AiRow) (command : Command) (answer : Result ClassRows ClassLoadFault) (result : Result ClassRows Unloaded)
     → is_of_classes command ≡ true → OrMemory (BuiltInAnswer ais) answer → ClassesUnloadedAs answer result
     → AreUnnamedClasses ais command result
 built_in_loaded ais command answer result of load u = λ errored. rw of
     (known_classes (StandsFor kind.Classes (UnnamedClasses ais true)) errored answer result (BuiltInAnswer ais) load u
-    (λ a. record { verdict = classes_verdict answer; judged = record { answer = answer; is_answer = a; is = refl }; is = refl }))
+    (λ a. record { verdict = reworded Classes answer; judged = record { answer = answer; is_answer = a; is = refl }; is = refl }))
 
 pub none_loaded : (ais : List AiRow) (command : Command) (set : ClassRows) → is_of_classes command ≡ false → set ≡ set_of []
     → AreUnnamedClasses ais command (Ok set)

@@ -21,15 +21,13 @@ use Rattle.gs_linktext.specs.ReadAnswers.{IsReadAs, IsReadError}
 use Rattle.gs_linktext_grammar.specs.declared.error.LinkTextFault.{LinkTextFault}
 use Rattle.gs_linktext_grammar.specs.declared.error.LinkTextFault.TheVariants as text
 use Rattle.gs_merge.specs.MergedDocuments.{merge_answer}
-use Rattle.gs_merge.specs.declared.error.MergeFault.{MergeFault}
 use Rattle.gs_port.specs.Files.{AddsNames, IsAbsent, IsFile, with_names, FilesHeld}
 use Rattle.gs_prefix.specs.Answers.{load_answer}
 use Rattle.gs_prefix.specs.declared.entry.PrefixEntry.{PrefixEntry}
-use Rattle.gs_prefix.specs.declared.error.PrefixFault.{PrefixFault}
 use Rattle.gs_tables.specs.Shapes.{BuiltInAnswer, HasMemory, LoadAnswer}
 use Rattle.gs_tables.specs.Tables.{TableRows}
 use Rattle.gs_template.specs.Errors.{place_errors}
-use Rattle.gs_translate.specs.Steps.{Then}
+use Rattle.gs_translate.specs.Steps.{Then, reworded}
 use Rattle.tdl_messages.specs.declared.file_kind.FileKind.{FileKind}
 use Rattle.tdl_messages.specs.declared.file_kind.FileKind.TheVariants as kind
 use Rattle.tdl_messages.specs.declared.rejection.FileFault.{FileFault}
@@ -100,14 +98,9 @@ abbrev pub TablesGive : Option FilesHeld → Option (List ℕ) → Result Tables
 TablesGive files name answer =
     Gives files kind.Tables (λ bytes. JudgesTables bytes (LoadAnswer bytes)) (JudgesTables [] BuiltInAnswer) name answer
 
--- trusted, own: the verdict on a list of company prefix lengths, by the answer of its load
-abbrev pub prefixes_verdict : Result (List PrefixEntry) PrefixFault → Result (List PrefixEntry) FileFault
-prefixes_verdict (Ok list) = Ok list
-prefixes_verdict (Err error) = Err (Prefixes error)
-
 -- trusted, own: holds if `answer` is the company prefix lengths of the named file, or none if none is named
 abbrev pub PrefixesGive : Option FilesHeld → Option (List ℕ) → Result (List PrefixEntry) Stop → Type 0
-PrefixesGive files name answer = GivesBy files kind.Prefixes (λ bytes. prefixes_verdict (load_answer bytes)) (Ok []) name answer
+PrefixesGive files name answer = GivesBy files kind.Prefixes (λ bytes. reworded Prefixes (load_answer bytes)) (Ok []) name answer
 
 -- trusted, own: the errors of a numbered link's reference as a template, next to the key of its anchor
 abbrev pub link_errors : List AiRow → ℕ × Link → List FileFault
@@ -160,14 +153,9 @@ other_verdict (Err error) = Err error
 abbrev pub OtherGives : Option FilesHeld → FileKind → List AiRow → List ℕ → Option (List ℕ) → Result (Option (List Link)) Stop → Type 0
 OtherGives files kind ais voc name answer = GivesBy files kind (λ bytes. other_verdict (links_verdict false ais voc (read_answer bytes))) (Ok None) name answer
 
--- trusted, own: the verdict on a merged document, by the answer of merging; too many targets are the fault of a store
-abbrev pub merge_verdict : Result (List Context) MergeFault → Result (List Context) FileFault
-merge_verdict (Ok contexts) = Ok contexts
-merge_verdict (Err error) = Err (Store TooMany)
-
 -- trusted, own: the document that a store and links are merged to
 abbrev pub merged_store : Result (List Link) FileFault → List Link → Result (List Context) FileFault
-merged_store (Ok store) links = merge_verdict (merge_answer store links)
+merged_store (Ok store) links = reworded (λ _. Store TooMany) (merge_answer store links)
 merged_store (Err error) links = Err error
 
 -- trusted, own: The document that a merged one, loaded again, and further links are merged to, if there are any. By the law
@@ -180,7 +168,7 @@ merged_with ais voc (Ok contexts) (Some links) = merged_store (store_verdict fal
 -- trusted, own: the document that links, second and third ones are merged to; without second ones it has no context
 abbrev pub merging : List AiRow → List ℕ → List Link → Option (List Link) → Option (List Link) → Result (List Context) FileFault
 merging ais voc links None third = Ok []
-merging ais voc links (Some second) third = merged_with ais voc (merge_verdict (merge_answer links second)) third
+merging ais voc links (Some second) third = merged_with ais voc (reworded (λ _. Store TooMany) (merge_answer links second)) third
 
 -- trusted, own: holds if `answer` is the bytes of the named file of `kind`, or none if none is named
 abbrev pub BytesGive : Option FilesHeld → FileKind → Option (List ℕ) → Result (Option (List ℕ)) Stop → Type 0
@@ -192,16 +180,11 @@ is_of_classes ClassCanon = true
 is_of_classes ClassUri = true
 is_of_classes command = false
 
--- trusted, own: the verdict on classes, by the answer of their load
-abbrev pub classes_verdict : Result ClassRows ClassLoadFault → Result ClassRows FileFault
-classes_verdict (Ok set) = Ok set
-classes_verdict (Err error) = Err (Classes error)
-
 -- trusted, own: holds if `verdict` is that on classes, by an answer of their load
 pub record JudgesClasses (Answer : Result ClassRows ClassLoadFault → Type 0) (verdict : Result ClassRows FileFault) : Type 0 where
   pub answer : Result ClassRows ClassLoadFault
   pub is_answer : Answer answer
-  pub is : verdict ≡ classes_verdict answer
+  pub is : verdict ≡ reworded Classes answer
 
 -- trusted, own: Holds if `verdict` is that on classes if no file of them is named. It is the built-in ones for a command on
 -- class URIs, otherwise none.

@@ -12,7 +12,7 @@ use Rattle.gs_port.specs.States.{FilesState}
 use Rattle.gs_prefix.specs.Answers.{load_answer}
 use Rattle.gs_prefix.specs.declared.entry.PrefixEntry.{PrefixEntry}
 use Rattle.gs_tables.specs.MigratedSets.{Loads as LoadsTables}
-use Rattle.gs_translate.specs.Steps.{Then}
+use Rattle.gs_translate.specs.Steps.{Then, reworded}
 use Rattle.tdl_arguments.specs.declared.command.Command.{Command}
 use Rattle.tdl_arguments.specs.declared.command.Command.TheVariants.{Migrate}
 use Rattle.tdl_arguments.specs.Requests.{Asked, FileNames, Values, classes_named, description_named, first_named, links_named, others_named}
@@ -26,13 +26,14 @@ use Rattle.tdl_loads.specs.declared.loads.Tabled.{Tabled}
 use Rattle.tdl_loads.specs.declared.loads.TablesWithSource.{TablesWithSource}
 use Rattle.tdl_loads.specs.declared.loads.Unloaded.{Unloaded}
 use Rattle.tdl_loads.specs.declared.loads.Unloaded.TheVariants.{Refused, ReadFault, Memory}
-use Rattle.tdl_loads.specs.Loads.{BytesGive, ClassesGive, LinksGive, Opens, OpensFirst, OtherGives, PrefixesGive, StandsFor, Stop, TablesGive, UnnamedClasses, is_load_short, is_of_classes, kind_of, links_verdict, merging, missing, of_verdict, other_verdict, prefixes_verdict, rejected}
+use Rattle.tdl_loads.specs.Loads.{BytesGive, ClassesGive, LinksGive, Opens, OpensFirst, OtherGives, PrefixesGive, StandsFor, Stop, TablesGive, UnnamedClasses, is_load_short, is_of_classes, kind_of, links_verdict, merging, missing, of_verdict, other_verdict, rejected}
+use Rattle.tdl_messages.specs.declared.rejection.FileFault.TheVariants.{Prefixes}
 
 -- ---- the results of the files, part by part: tables and prefixes, links, settings, classes
 
 -- holds if the verdict is that on a list of company prefix lengths
 abbrev pub JudgesPrefixes : List ℕ → Result (List PrefixEntry) FileFault → Type 0
-JudgesPrefixes bytes verdict = verdict ≡ prefixes_verdict (load_answer bytes)
+JudgesPrefixes bytes verdict = verdict ≡ reworded Prefixes (load_answer bytes)
 
 -- holds if the list has no entry
 abbrev pub IsNoPrefix : Result (List PrefixEntry) FileFault → Type 0
