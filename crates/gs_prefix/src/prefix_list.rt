@@ -3,7 +3,7 @@ ghost use Rattle.serde_json.specs.View.{view};
 ghost use Rattle.gs_chars.specs.Answers.{first_or, OrError};
 ghost use Rattle.gs_prefix.specs.Answers.{document_answer, load_answer};
 ghost use Rattle.gs_prefix.specs.AnswersSupport.{AddsEntry};
-ghost use Rattle.gs_prefix.specs.Lengths.{length_of_longest, prefix_length, has_prefix};
+ghost use Rattle.gs_prefix.specs.Lengths.{prefix_length, has_prefix, longest_entry};
 ghost use Rattle.gs_prefix.specs.Rules.{rejections};
 ghost use Rattle.std.specs.List.{list_any};
 ghost use Rattle.std.specs.Option.{option_map};
@@ -109,7 +109,7 @@ impl PrefixList {
 
     /// Returns the length of the longest entry that is a prefix of the digits.
     fn longest(&self, digits: &[u8]) -> Option<u8>
-        ensures length { result ≡ length_of_longest self.now digits.now }
+        ensures length { result ≡ option_map (λ entry. entry.length) (longest_entry self.now digits.now) }
         ensures range { IfSome result (λ n. n ≤ 12) }
     {
         for n in (1..13).rev() {
