@@ -1,10 +1,11 @@
-ghost use Rattle.std.specs.Prelude.{◌≡◌, ◌<◌, map, Some, option_map, string_bytes, IfOk, IfErr};
-ghost use Rattle.serde_json.specs.Find.{as_array, as_bool, as_object, as_str, at};
+ghost use Rattle.std.specs.Prelude.{◌≡◌, ◌<◌, map, Some, option_map, string_bytes, IfOk, IfErr, option_and_then};
+ghost use Rattle.serde_json.specs.Find.{as_array, as_bool, as_number, as_object, as_str, as_u64, at};
 ghost use Rattle.serde_json.specs.View.{view};
 ghost use Rattle.std.specs.BTreeMap.{keys};
 ghost use Rattle.gs_json.specs.Answers.{AscendByBytes, names_lent};
 ghost use Rattle.gs_json.specs.Places.{item_place, member_place};
 ghost use Rattle.gs_chars.specs.Answers.{OrError};
+ghost use Rattle.serde_json.specs.Events.{items_len};
 
 use crate::error::JsonFault;
 use crate::place::{Place, Step};
@@ -39,7 +40,7 @@ impl<'a> Model for Node<'a> {
 }
 
 impl<'a> Node<'a> {
-    ghost use Rattle.gs_json.specs.Answers.{asked, count_of, items_count, maybe_of, member_of, names_at, number_of, result_map, seen};
+    ghost use Rattle.gs_json.specs.Answers.{asked, items_count, maybe_of, member_of, names_at, result_map, seen};
     ghost use Rattle.gs_json.specs.AnswersSupport.{IsError};
     ghost use Rattle.gs_json.specs.Shapes.{IsFirst, shape_errors};
     ghost use Rattle.std.specs.Prelude.{[]};
@@ -107,7 +108,7 @@ impl<'a> Node<'a> {
     /// Returns the number, or `Kind` if this is not a number of only digits and at most 2^64 - 1. May return `Memory`
     /// instead of `Kind`.
     pub fn number(&self, alloc: Global) -> Result<u64, JsonFault>
-        ensures { OrError JsonFault.Memory result (asked self.now.place (number_of (view self.now.tree))) }
+        ensures { OrError JsonFault.Memory result (asked self.now.place (option_and_then as_u64 (as_number (view self.now.tree)))) }
     {
         match self.value.as_u64() {
             Some(number) => Ok(number),
@@ -127,7 +128,7 @@ impl<'a> Node<'a> {
 
     /// Returns the number of items, or `Kind` if this is not an array. May return `Memory` instead of `Kind`.
     pub fn count(&self, alloc: Global) -> Result<usize, JsonFault>
-        ensures answer { OrError JsonFault.Memory result (asked self.now.place (count_of (view self.now.tree))) }
+        ensures answer { OrError JsonFault.Memory result (asked self.now.place (option_map items_len (as_array (view self.now.tree)))) }
         ensures items { IfOk result (λ count. count ≡ items_count (view self.now.tree)) }
     {
         match self.items_len() {
