@@ -148,7 +148,8 @@ fn write_option(
 ) -> Result<Text, ClassWriteFault>
     requires text_level { option.now.bit_level ≡ false }
     requires can_write { CanWrite ais.now class.now option.now.items identity.now }
-    ensures { OrError ClassWriteFault.Memory result (by_items ais.now class.now identity.now option.now.items) }
+    ensures { OrError ClassWriteFault.Memory result
+        (by_items ais.now class.now identity.now option.now.items) }
 {
     let said = class_fields(alloc, ais, class, identity)?;
     let values = values_for(alloc, &said, class.fields.items())?;
@@ -224,7 +225,8 @@ fn write_by_name(
     class: &Class,
 ) -> Result<Text, ClassWriteFault>
     requires { CanBeWritten ais.now set.now class.now.name identity.now }
-    ensures { OrError ClassWriteFault.Memory result (by_name ais.now set.now prefixes.now gcp identity.now class.now) }
+    ensures { OrError ClassWriteFault.Memory result
+        (by_name ais.now set.now prefixes.now gcp identity.now class.now) }
 {
     if let Some(pair) = extra_of(class, identity) {
         return Err(ClassWriteFault::Extra(Text::from_bytes(alloc, pair.code.as_bytes())?));
@@ -252,7 +254,8 @@ pub fn write_class(
 ) -> Result<Text, ClassWriteFault>
     requires of_table { IsOfTable table.now set.now }
     requires made { IsMadeWith table.now identity.now }
-    ensures { OrError ClassWriteFault.Memory result (class_answer table.now set.now prefixes.now gcp identity.now) }
+    ensures { OrError ClassWriteFault.Memory result
+        (class_answer table.now set.now prefixes.now gcp identity.now) }
 {
     // only for the proof: the rows satisfy the rules of application identifiers
     let _ = table.rows();

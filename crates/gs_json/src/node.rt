@@ -86,7 +86,8 @@ impl<'a> Node<'a> {
     /// Looks up the member of a name. Returns `None` if the object has no such member, and `Kind` if and only if this is not an
     /// object. May return `Memory` instead.
     pub fn maybe(&self, alloc: Global, name: &str) -> Result<Option<Node<'a>>, JsonFault>
-        ensures { OrError JsonFault.Memory (result_map (option_map seen) result) (maybe_of self.now name.now) }
+        ensures { OrError JsonFault.Memory (result_map (option_map seen) result)
+            (maybe_of self.now name.now) }
     {
         if self.value.is_object() {
             Ok(self.find(alloc, name)?)
@@ -108,7 +109,8 @@ impl<'a> Node<'a> {
     /// Returns the number, or `Kind` if this is not a number of only digits and at most 2^64 - 1. May return `Memory`
     /// instead of `Kind`.
     pub fn number(&self, alloc: Global) -> Result<u64, JsonFault>
-        ensures { OrError JsonFault.Memory result (asked self.now.place (option_and_then as_u64 (as_number (view self.now.tree)))) }
+        ensures { OrError JsonFault.Memory result
+            (asked self.now.place (option_and_then as_u64 (as_number (view self.now.tree)))) }
     {
         match self.value.as_u64() {
             Some(number) => Ok(number),
@@ -128,7 +130,8 @@ impl<'a> Node<'a> {
 
     /// Returns the number of items, or `Kind` if this is not an array. May return `Memory` instead of `Kind`.
     pub fn count(&self, alloc: Global) -> Result<usize, JsonFault>
-        ensures answer { OrError JsonFault.Memory result (asked self.now.place (option_map items_len (as_array (view self.now.tree)))) }
+        ensures answer { OrError JsonFault.Memory result
+            (asked self.now.place (option_map items_len (as_array (view self.now.tree)))) }
         ensures items { IfOk result (λ count. count ≡ items_count (view self.now.tree)) }
     {
         match self.items_len() {

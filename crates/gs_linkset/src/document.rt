@@ -234,7 +234,8 @@ pub(crate) fn read_document(alloc: Global, text: &str) -> Result<List<Context>, 
 
 /// Reads the text of a member that the object must have.
 pub(crate) fn must_text(alloc: Global, object: &Node<'_>, name: &str) -> Result<Text, JsonFault>
-    ensures answer { OrError JsonFault.Memory result (text_answer name.now object.now.place (view object.now.tree)) }
+    ensures answer { OrError JsonFault.Memory result
+        (text_answer name.now object.now.place (view object.now.tree)) }
     ensures utf8 { IfOk result (λ text. is_utf8 text ≡ true) }
 {
     let member = object.member(alloc, name)?;

@@ -101,7 +101,8 @@ pub fn is_anchor(name: &[u8]) -> bool
 /// Reads the relation of a name. Returns `None` if the member is not one.
 fn relation_at(alloc: Global, member: &Node<'_>, name: &str) -> Result<Option<Relation>, JsonFault>
     requires { bytes_eq name.now (codes "anchor") ≡ false }
-    ensures answer { OrError JsonFault.Memory result (member_answer name.now member.now.place (view member.now.tree)) }
+    ensures answer { OrError JsonFault.Memory result
+        (member_answer name.now member.now.place (view member.now.tree)) }
     ensures shape { IfOk result (λ relation. IfSome relation (λ relation. is_relation relation ≡ true)) }
 {
     let Some(count) = member.items_len() else {
@@ -181,7 +182,8 @@ pub fn read(alloc: Global, bytes: &[u8]) -> Result<LinkDoc, JsonFault>
 
 /// Reads a linkset from a text in JSON.
 fn read_linkset(alloc: Global, text: &str) -> Result<LinkDoc, JsonFault>
-    ensures { OrError JsonFault.Memory result (option_map_or document_answer (read_text text.now) (Err (JsonFault.Syntax))) }
+    ensures { OrError JsonFault.Memory result
+        (option_map_or document_answer (read_text text.now) (Err (JsonFault.Syntax))) }
 {
     let contexts = read_document(alloc, text)?;
     Ok(LinkDoc::of_contexts(contexts))

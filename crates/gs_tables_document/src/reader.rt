@@ -69,7 +69,8 @@ fn judge_document(alloc: Global, root: &Node<'_>) -> Result<(), JsonFault>
 /// Finds the first error of the document's object.
 fn judge_object(alloc: Global, root: &Node<'_>) -> Result<(), JsonFault>
     requires { root.now.place ≡ [] }
-    ensures { OrError JsonFault.Memory result (first_error (object_errors [] document_plan (view root.now.tree))) }
+    ensures { OrError JsonFault.Memory result
+        (first_error (object_errors [] document_plan (view root.now.tree))) }
 {
     let plan = document_plan(alloc)?;
     root.shaped(alloc, plan.items())
@@ -78,7 +79,8 @@ fn judge_object(alloc: Global, root: &Node<'_>) -> Result<(), JsonFault>
 /// Finds the first error of the rows of application identifiers.
 fn judge_ais(alloc: Global, root: &Node<'_>) -> Result<(), JsonFault>
     requires { root.now.place ≡ [] }
-    ensures { OrError JsonFault.Memory result (first_error (rows_errors (codes "ais") ai_plan (view root.now.tree))) }
+    ensures { OrError JsonFault.Memory result
+        (first_error (rows_errors (codes "ais") ai_plan (view root.now.tree))) }
 {
     let plan = ai_plan(alloc)?;
     judge_rows(alloc, root, "ais", plan.items())
@@ -97,7 +99,8 @@ fn judge_kinds(alloc: Global, root: &Node<'_>) -> Result<(), JsonFault>
 /// Finds the first error of the rows of the options of a level.
 fn judge_options(alloc: Global, root: &Node<'_>, name: &str) -> Result<(), JsonFault>
     requires { root.now.place ≡ [] }
-    ensures { OrError JsonFault.Memory result (first_error (rows_errors name.now option_plan (view root.now.tree))) }
+    ensures { OrError JsonFault.Memory result
+        (first_error (rows_errors name.now option_plan (view root.now.tree))) }
 {
     let plan = option_plan(alloc)?;
     judge_rows(alloc, root, name, plan.items())
@@ -107,7 +110,8 @@ fn judge_options(alloc: Global, root: &Node<'_>, name: &str) -> Result<(), JsonF
 #[tactic(auto, unfolding(crate::specs::Documents::rows_errors))]
 fn judge_rows(alloc: Global, root: &Node<'_>, name: &str, plan: &[Entry]) -> Result<(), JsonFault>
     requires { root.now.place ≡ [] }
-    ensures { OrError JsonFault.Memory result (first_error (rows_errors name.now plan.now (view root.now.tree))) }
+    ensures { OrError JsonFault.Memory result
+        (first_error (rows_errors name.now plan.now (view root.now.tree))) }
 {
     match root.find(alloc, name)? {
         Some(array) => judge_items(alloc, &array, plan),

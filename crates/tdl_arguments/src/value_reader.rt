@@ -25,7 +25,8 @@ const DEFAULT_LISTEN: &str = "127.0.0.1:8080";
 
 /// Returns the file of links that pairs name, in JSON or as text.
 fn named_links(words: &[String]) -> Option<LinksFile<'_>>
-    ensures { OfPairs (known_words words.now) (λ pairs. known_links result ≡ links_by (look_up (name_word Links) pairs) (look_up (name_word LinkText) pairs)) }
+    ensures { OfPairs (known_words words.now) (λ pairs. known_links result
+        ≡ links_by (look_up (name_word Links) pairs) (look_up (name_word LinkText) pairs)) }
 {
     match look_up(words, Name::Links.word()) {
         Some(name) => Some(LinksFile::Json(name)),
@@ -60,7 +61,8 @@ fn value_or<'a>(words: &'a [String], name: Name, default: &'a str) -> &'a str
 
 /// Returns the number of connections that is named, and 0 if none is.
 fn named_count(words: &[String]) -> u32
-    ensures { OfPairs (known_words words.now) (λ pairs. result ≡ unwrap_or (number_named count_of Count pairs) 0) }
+    ensures { OfPairs (known_words words.now) (λ pairs. result
+        ≡ unwrap_or (number_named count_of Count pairs) 0) }
 {
     let Some(value) = look_up(words, Name::Count.word()) else {
         return 0;

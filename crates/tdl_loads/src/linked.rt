@@ -23,7 +23,8 @@ use tdl_messages::{FileFault, FileKind, Rejection};
 
 /// Merges two stores to one document.
 fn merge_two(alloc: Global, first: &Store, second: &Store) -> Result<LinkDoc, Unloaded>
-    ensures { JudgedAs OfMerge (reworded (λ _. FileFault.Store StoreFault.TooMany) (merge_answer first.now second.now)) result }
+    ensures { JudgedAs OfMerge (reworded
+        (λ _. FileFault.Store StoreFault.TooMany) (merge_answer first.now second.now)) result }
 {
     match merge(alloc, first, second) {
         Ok(doc) => Ok(doc),

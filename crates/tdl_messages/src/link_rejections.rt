@@ -33,7 +33,8 @@ fn append_bad_anchor(
     i: usize,
     why: &AnchorWhy,
 ) -> Result<(), Memory>
-    ensures { OnOk result (out.new.items ≡ out.old.items ++ (numbered (codes "bad-anchor") i ++ 32 ∷ anchor_text why.now)) }
+    ensures { OnOk result (out.new.items
+        ≡ out.old.items ++ (numbered (codes "bad-anchor") i ++ 32 ∷ anchor_text why.now)) }
 {
     append_numbered(alloc, out, b"bad-anchor", i)?;
     append_word(out, b" ")?;
@@ -48,7 +49,8 @@ fn append_bad_href(
     r: usize,
     t: usize,
 ) -> Result<(), Memory>
-    ensures { OnOk result (out.new.items ≡ out.old.items ++ numbered (numbered_twice (codes "bad-href") i r) t) }
+    ensures { OnOk result (out.new.items
+        ≡ out.old.items ++ numbered (numbered_twice (codes "bad-href") i r) t) }
 {
     append_numbered_twice(alloc, out, b"bad-href", i, r)?;
     append_number(alloc, out, t)
@@ -105,7 +107,8 @@ fn append_ambiguous(
     second: usize,
     text: &[u8],
 ) -> Result<(), Memory>
-    ensures { OnOk result (out.new.items ≡ out.old.items ++ (numbered_twice (codes "ambiguous") first second ++ 32 ∷ text.now)) }
+    ensures { OnOk result (out.new.items
+        ≡ out.old.items ++ (numbered_twice (codes "ambiguous") first second ++ 32 ∷ text.now)) }
 {
     append_numbered_twice(alloc, out, b"ambiguous", first, second)?;
     append_words(out, b" ", text)

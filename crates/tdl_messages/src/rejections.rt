@@ -135,7 +135,8 @@ fn append_ambiguous(
     second: usize,
     text: &[u8],
 ) -> Result<(), Memory>
-    ensures { OnOk result (out.new.items ≡ out.old.items ++ (of_level_twice (codes "ambiguous") level first second ++ 32 ∷ text.now)) }
+    ensures { OnOk result (out.new.items
+        ≡ out.old.items ++ (of_level_twice (codes "ambiguous") level first second ++ 32 ∷ text.now)) }
 {
     append_option(alloc, out, b"ambiguous", level, first, second)?;
     append_words(out, b" ", text)
