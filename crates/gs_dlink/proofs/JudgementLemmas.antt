@@ -15,13 +15,14 @@ use Rattle.gs_ident.specs.Identities.{IsInOrder}
 use Rattle.gs_ident.proofs.PairLemmas.{found_passes}
 use Rattle.gs_dlink.specs.declared.error.LinkFault.{LinkFault}
 use Rattle.gs_dlink.specs.declared.error.LinkFault.TheVariants.{Element, Memory}
-use Rattle.gs_dlink.specs.Answers.{error_in, then_pairs, written_answer}
+use Rattle.gs_dlink.specs.Answers.{then_pairs, written_answer}
 use Rattle.gs_dlink.specs.Uris.{Written}
 use Rattle.gs_dlink.specs.Values.{are_escapes, by_row, by_value, padded, pair_answer, value_of}
 use Rattle.gs_dlink.specs.ValuesSupport.{unescaped}
 use Rattle.gs_dlink.proofs.PlainValues.{spelled}
 use Rattle.gs_chars.proofs.Searches.{find_read, position_within}
 use Rattle.gs_chars.specs.Answers.{OrError}
+use Rattle.std.specs.Result.{result_err}
 
 module _ (table : List AiRow) (pair : Written) where
   pub unknown : None ≡ find (has_code pair.code) table → Err (Element (record { at = pair.at; why = Value Unknown })) ≡ pair_answer table pair
@@ -127,7 +128,7 @@ pub answer_pairs : (answer : Result (List Pair) LinkFault) (ps : List Pair) → 
 answer_pairs answer ps (inl m) = absurd (let bad : Ok ps ≡ Err Memory = m in cc)
 answer_pairs answer ps (inr h) = sym h
 
-pub answer_error : (answer : Result (List Pair) LinkFault) (e : LinkFault) → OrError Memory (Err e) answer → e ≢ Memory → error_in answer ≡ Some e
+pub answer_error : (answer : Result (List Pair) LinkFault) (e : LinkFault) → OrError Memory (Err e) answer → e ≢ Memory → result_err answer ≡ Some e
 answer_error answer e (inl m) other = absurd (other (let same : e ≡ Memory = cc in same))
 answer_error answer e (inr h) other = rw (← h) refl
 
