@@ -4,6 +4,7 @@ ghost use Rattle.std.specs.Option.{option_copied, option_map_or};
 ghost use Rattle.gs_epc.specs.Layout.{parts_at};
 ghost use Rattle.gs_epc.specs.KeyParts.{IsTakenApart, behind_zero, checked_count, digits_in, prefix_in, rest_in, serial_in, tail_in, unless_empty, value_from_prefix};
 ghost use Rattle.gs_ai.specs.Values.{has_code};
+ghost use Rattle.gs_ai.specs.declared.row.AiRow.{AiRow};
 
 use crate::epc::{Epc, EpcRef};
 use crate::error::FieldsFault;
