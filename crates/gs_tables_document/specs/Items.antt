@@ -105,7 +105,7 @@ bit_item name d =
     else if bytes_eq name (codes "numpad") then sized 4 d (with_field d (both (byte_arg 2 d) (byte_arg 3 d) NumPad))
     else if bytes_eq name (codes "num") then sized 4 d (with_field d (both (byte_arg 2 d) (number_arg 3 d) Num))
     else if bytes_eq name (codes "ascii7") then sized 5 d (with_field d
-        (option_and_then (λ bits. both (byte_arg 2 d) (byte_arg 3 d) (λ lo hi. Ascii7 lo hi bits)) (short_arg 4 d)))
+    (option_and_then (λ bits. both (byte_arg 2 d) (byte_arg 3 d) (λ lo hi. Ascii7 lo hi bits)) (short_arg 4 d)))
     else if bytes_eq name (codes "fill") then sized 3 d (no_field (both (byte_arg 1 d) (byte_arg 2 d) Fill))
     else if bytes_eq name (codes "numstr") then sized 4 d (with_field d (both (byte_arg 2 d) (byte_arg 3 d) NumStr))
     else None

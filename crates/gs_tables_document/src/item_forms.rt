@@ -121,7 +121,7 @@ pub(crate) fn read_numstr(item: &Value) -> Option<FieldItem>
 pub(crate) fn read_ascii7(item: &Value) -> Option<FieldItem>
     ensures { result ≡ sized 5 (view item.now)
         (with_field (view item.now) (option_and_then
-            (λ bits. both (byte_arg 2 (view item.now)) (byte_arg 3 (view item.now)) (λ lo hi. Ascii7 lo hi bits))
+        (λ bits. both (byte_arg 2 (view item.now)) (byte_arg 3 (view item.now)) (λ lo hi. Ascii7 lo hi bits))
         (short_arg 4 (view item.now)))) }
 {
     let field = field_arg(item, 5)?;
