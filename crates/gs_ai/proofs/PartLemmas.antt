@@ -3,8 +3,9 @@ use Rattle.std.proofs.Common.{◌≡◌, ℕ, ◌+◌, not, List, [], ◌∷◌,
 use Rattle.std.specs.Option.{option_or}
 use Rattle.gs_ai.specs.declared.part.Part.{Part}
 use Rattle.gs_ai.specs.Parts.{greatest_length, is_of_part}
-use Rattle.gs_ai.specs.Values.{wrong_character, fitting}
+use Rattle.gs_ai.specs.Values.{pieces, wrong_character}
 use Rattle.gs_chars.proofs.Searches.{position-append, position-map}
+use Rattle.std.specs.List.{flat_map}
 
 abbrev pub wrong_in : Part → List ℕ → Option ℕ
 wrong_in p piece = position (λ c. not (is_of_part p c)) piece
@@ -20,7 +21,7 @@ pub wrong-cons : (p : Part) (ps : List Part) (value : List ℕ)
     → wrong_character (p ∷ ps) value ≡ option_or (wrong_in p (take (greatest_length p) value)) (option_map (λ i. length (take (greatest_length p) value) + i) (wrong_character ps (drop (greatest_length p) value)))
 wrong-cons p ps value =
     let piece = take (greatest_length p) value in
-    let parts = position-append not (map (is_of_part p) piece) (fitting ps (drop (greatest_length p) value)) in
+    let parts = position-append not (map (is_of_part p) piece) (flat_map (λ piece. map (is_of_part piece.0) piece.1) (pieces ps (drop (greatest_length p) value))) in
     rw (parts, position-map not (is_of_part p) piece, length_fit p piece)
 
 pub wrong_here : (p : Part) (ps : List Part) (value piece : List ℕ) (i : ℕ) → piece ≡ take (greatest_length p) value

@@ -4,10 +4,11 @@ use Rattle.std.specs.List.{flat_map, enumerate_from, list_any, list_all}
 use Rattle.gs_ai.specs.declared.errors.AiFault.{AiFault}
 use Rattle.gs_ai.specs.declared.errors.AiFault.TheVariants.{BadAi, CodePrefix, KeyIsQualifier, PredefinedLength}
 use Rattle.gs_ai.specs.declared.row.AiRow.{AiRow}
-use Rattle.gs_ai.specs.Tables.{is_row, keeps_predefined, begins, clash, is_key_of, is_qualifier_of, error_if, row_errors, list_errors, table_errors, KeepsRules}
+use Rattle.gs_ai.specs.Tables.{is_row, keeps_predefined, begins, clash, is_key_of, is_qualifier_of, row_errors, list_errors, table_errors, KeepsRules}
 use Rattle.gs_chars.proofs.TruthsAndLists.{first_of_front, get_take, nil_parts, read_at}
 use Rattle.gs_chars.proofs.Searches.{cons_some, cons_none}
 use Rattle.std.proofs.lemmas.Bool.{or_parts, not-false}
+use Rattle.gs_chars.specs.Answers.{error_if}
 
 -- ---- the first of the errors of all rows
 

@@ -14,6 +14,7 @@ use Rattle.gs_ai.specs.declared.row.AiRow.{AiRow}
 use Rattle.gs_ai.specs.Parts.{is_part, is_open}
 use Rattle.gs_ai.specs.PredefinedLengths.{predefined_length}
 use Rattle.gs_ai.specs.Values.{least_of, greatest_of, parts_error, has_code}
+use Rattle.gs_chars.specs.Answers.{error_if}
 
 -- ---- one row
 
@@ -93,10 +94,6 @@ is_key_of rows code = list_any (λ row. has_code code row && is_key row.role) ro
 -- trusted, own: holds if one of `rows` has the code `code` and the role qualifier
 abbrev pub is_qualifier_of : List AiRow → List ℕ → Bool
 is_qualifier_of rows code = list_any (λ row. has_code code row && is_qualifier row.role) rows
-
--- trusted, own: the list of `error` if the test is true, otherwise the empty list
-abbrev pub error_if : Bool → AiFault → List AiFault
-error_if test error = if test then error ∷ [] else []
 
 -- trusted, own: the errors of row i, given the rows before it: its form, a code that clashes with an earlier one, its length
 unfoldable pub row_errors : ℕ → List AiRow → AiRow → List AiFault

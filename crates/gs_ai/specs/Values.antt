@@ -30,13 +30,9 @@ abbrev pub pieces : List Part → List ℕ → List (Part × List ℕ)
 pieces [] value = []
 pieces (p ∷ ps) value = (p, take (greatest_length p) value) ∷ pieces ps (drop (greatest_length p) value)
 
--- trusted, own: the list of whether each character of `value` may be in its part
-abbrev pub fitting : List Part → List ℕ → List Bool
-fitting parts value = flat_map (λ piece. map (is_of_part piece.0) piece.1) (pieces parts value)
-
 -- trusted, GS1 General Specifications, sections 3.2 and 7.9: the place of the first character that is not of its part
 abbrev pub wrong_character : List Part → List ℕ → Option ℕ
-wrong_character parts value = position not (fitting parts value)
+wrong_character parts value = position not (flat_map (λ piece. map (is_of_part piece.0) piece.1) (pieces parts value))
 
 -- trusted, GS1 General Specifications, sections 3.2 and 7.9: holds if `digits` are `k` digits, and the last is the check digit
 -- of the others

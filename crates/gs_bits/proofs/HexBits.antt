@@ -15,7 +15,7 @@ use Rattle.hex.proofs.HexLemmas.{decode_pairs-ok, decode_pairs-err}
 use Rattle.hex.proofs.Pairs.{cons_byte, decode_pairs-ok_pair, decode_sized-pairs}
 use Rattle.gs_bits.specs.Bits.{bits_of}
 use Rattle.gs_bits.specs.BitLaws.{bits_of-append, bits_of-low, number_of-bits_of}
-use Rattle.gs_bits.specs.HexText.{is_hex_digit, bits_of_digit, bits_of_hex, hex_of_bits, FirstBadDigit}
+use Rattle.gs_bits.specs.HexText.{is_hex_digit, bits_of_hex, hex_of_bits, FirstBadDigit}
 use Rattle.gs_bits.specs.PackedBits.{bits_of_bytes}
 
 same_value : (c : ℕ) → hex_digit_value c ≡ hex_value c
@@ -35,7 +35,7 @@ bits_of_pair high low h =
     bits_of-append 4 4 (high * 16 + low)
     ∙ ap₂ (λ (x y : List ℕ). x ++ y) (ap (bits_of 4) (shr_high high 4 low h)) (bits_of-low high 4 low 4 (omega arith))
 
-digit_bits : (c v : ℕ) → hex_digit_value c ≡ Some v → bits_of_digit c ≡ bits_of 4 v
+digit_bits : (c v : ℕ) → hex_digit_value c ≡ Some v → bits_of 4 (unwrap_or (hex_value c) 0) ≡ bits_of 4 v
 digit_bits c v h = ap (λ o. bits_of 4 (unwrap_or o 0)) (sym (same_value c) ∙ h)
 
 digit_below : (v c : ℕ) → hex_digit_value c ≡ Some v → v < 16

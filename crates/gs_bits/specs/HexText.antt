@@ -8,14 +8,10 @@ use Rattle.gs_bits.specs.Bits.{bits_of, number_of}
 abbrev pub is_hex_digit : ℕ → Bool
 is_hex_digit c = is_some (hex_value c)
 
--- trusted, own: the four bits of a digit
-abbrev pub bits_of_digit : ℕ → List ℕ
-bits_of_digit c = bits_of 4 (unwrap_or (hex_value c) 0)
-
 -- trusted, own: the bits of a text of digits
 abbrev pub bits_of_hex : List ℕ → List ℕ
 bits_of_hex [] = []
-bits_of_hex (c ∷ text) = bits_of_digit c ++ bits_of_hex text
+bits_of_hex (c ∷ text) = bits_of 4 (unwrap_or (hex_value c) 0) ++ bits_of_hex text
 
 -- trusted, own: the upper-case digits of a list of bits, whose length is a multiple of four
 abbrev pub hex_of_bits : List ℕ → List ℕ

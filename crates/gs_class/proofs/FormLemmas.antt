@@ -7,7 +7,6 @@ use Rattle.std.proofs.lemmas.Str.{is_utf8-from_IsUtf8}
 use Rattle.serde_json.specs.Data.{Data}
 use Rattle.serde_json.specs.Find.{as_object}
 use Rattle.serde_json.specs.Read.{read as read_text}
-use Rattle.gs_json.specs.Answers.{OrMemory as JsonOrMemory}
 use Rattle.gs_json.specs.Members.{document_of}
 use Rattle.gs_json.specs.Shapes.{first_error, members_errors}
 use Rattle.gs_json.specs.declared.error.JsonFault.{JsonFault}
@@ -17,6 +16,7 @@ use Rattle.gs_class.specs.declared.error.ClassLoadFault.{ClassLoadFault}
 use Rattle.gs_class.specs.declared.error.ClassLoadFault.TheVariants.{Json, Memory}
 use Rattle.gs_class.specs.AnswersSupport.{IsFormFirst, of_json}
 use Rattle.gs_class.specs.Documents.{document_plan, form_errors, rows_errors}
+use Rattle.gs_chars.specs.Answers.{OrError}
 
 -- ---- errors of JSON
 
@@ -31,11 +31,11 @@ judged_by (f ∷ errors) (json.Lacks p) h = inr (let same : json.Lacks p ≡ f =
 judged_by (f ∷ errors) (json.Kind p) h = inr (let same : json.Kind p ≡ f = cc in rw same refl)
 judged_by (f ∷ errors) (json.Unknown p) h = inr (let same : json.Unknown p ≡ f = cc in rw same refl)
 
-pub judged : (errors : List JsonFault) (error : JsonFault) → JsonOrMemory (Err error) (first_error errors) → IsFormFirst errors (Err (of_json error))
+pub judged : (errors : List JsonFault) (error : JsonFault) → OrError json.Memory (Err error) (first_error errors) → IsFormFirst errors (Err (of_json error))
 judged errors error (inl h) = let same : error ≡ json.Memory = cc in rw same (inl refl)
 judged errors error (inr h) = judged_by errors error h
 
-pub passed : (errors : List JsonFault) (u : Unit {0}) → JsonOrMemory (Ok u) (first_error errors) → IsFormFirst errors (Ok u)
+pub passed : (errors : List JsonFault) (u : Unit {0}) → OrError json.Memory (Ok u) (first_error errors) → IsFormFirst errors (Ok u)
 passed errors u (inl h) = absurd (let g : Ok u ≡ Err json.Memory = h in cc)
 passed [] u (inr h) = inr refl
 passed (f ∷ errors) u (inr h) = absurd (let g : Ok u ≡ Err f = h in cc)

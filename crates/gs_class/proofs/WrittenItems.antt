@@ -25,18 +25,19 @@ use Rattle.gs_tables.specs.Rules.{has_room, is_digits, is_field, is_one, items_o
 use Rattle.gs_epc.proofs.KeptFields.{the_one}
 use Rattle.gs_class.specs.declared.class_set.Class.{Class}
 use Rattle.gs_class.specs.declared.error.ClassWriteFault.{ClassWriteFault}
-use Rattle.gs_class.specs.declared.error.ClassWriteFault.TheVariants.{CannotHold}
+use Rattle.gs_class.specs.declared.error.ClassWriteFault.TheVariants.{CannotHold, Memory}
 use Rattle.gs_class.specs.declared.document.ClassRow.{ClassRow}
 use Rattle.gs_class.specs.Rules.{is_bad_item, is_class_item}
 use Rattle.gs_class.specs.Sets.{class_of, kind_of}
 use Rattle.gs_epc.specs.KeyParts.{fields_at, prefix_in, rest_in, take_apart}
 use Rattle.gs_epc.specs.Layout.{KeyFields, parts_at}
-use Rattle.gs_class.specs.Written.{OrMemory, by_fields, by_items, value_for, values_for, why_not_lot}
+use Rattle.gs_class.specs.Written.{by_fields, by_items, value_for, values_for, why_not_lot}
 use Rattle.gs_class.specs.WrittenSupport.{CanWrite, HasOneLot, HoldOthers}
 use Rattle.gs_class.proofs.KeptClasses.{KeptClass}
 use Rattle.gs_class.proofs.KeyDigits.{AreDigits, key_of_identity, length_kept, one_of_prefix, prefix_digits, rest_digits}
 use Rattle.gs_chars.proofs.Searches.{cons_none, position-cons, position_some}
 use Rattle.gs_ai.proofs.TableLemmas.{empty_from}
+use Rattle.gs_chars.specs.Answers.{OrError}
 
 -- ---- an item and its field
 
@@ -301,13 +302,13 @@ module _ (ais : List AiRow) (class : Class) (items : List Item) (identity : Elem
   given_is : given ≡ values_for said class.fields
   given_is = rw own at (same ∙ made)
 
-  answer_is : (answer : Result (List ℕ) ClassWriteFault) → answer ≡ by_fields class items said → OrMemory answer (by_items ais class identity items)
+  answer_is : (answer : Result (List ℕ) ClassWriteFault) → answer ≡ by_fields class items said → OrError Memory answer (by_items ais class identity items)
   answer_is answer e = inr (rw apart e)
 
-  pub written_answer : (text : List ℕ) → AreHeld items given → text ≡ written items given → OrMemory (Ok text) (by_items ais class identity items)
+  pub written_answer : (text : List ℕ) → AreHeld items given → text ≡ written items given → OrError Memory (Ok text) (by_items ais class identity items)
   written_answer text held wrote = answer_is (Ok text) (written_by class items said others can.lot text (rw given_is at held) (rw given_is at wrote))
 
-  pub rejected_answer : (k : ℕ) (why : Why) → IsFirstRejection items given k why → OrMemory (Err (CannotHold why)) (by_items ais class identity items)
+  pub rejected_answer : (k : ℕ) (why : Why) → IsFirstRejection items given k why → OrError Memory (Err (CannotHold why)) (by_items ais class identity items)
   rejected_answer k why first = answer_is (Err (CannotHold why)) (rejected_by class items said others can.lot k why (rw given_is at first))
 
 -- the fields that the code takes

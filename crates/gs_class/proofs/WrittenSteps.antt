@@ -9,10 +9,12 @@ use Rattle.gs_grammar.specs.Levels.{AreOfKind, LevelForm, OptionForm, item_lists
 use Rattle.gs_class.specs.declared.class_set.Class.{Class}
 use Rattle.gs_class.specs.declared.error.ClassWriteFault.{ClassWriteFault}
 use Rattle.gs_class.specs.Sets.{ClassRows}
-use Rattle.gs_class.specs.Written.{OrMemory, by_items, by_length, is_sized}
+use Rattle.gs_class.specs.Written.{by_items, by_length, is_sized}
 use Rattle.gs_class.specs.WrittenSupport.{CanBeWritten, CanWrite}
 use Rattle.gs_chars.proofs.Searches.{position_some}
 use Rattle.std.proofs.lemmas.Bool.{and_parts}
+use Rattle.gs_class.specs.declared.error.ClassWriteFault.TheVariants.{Memory}
+use Rattle.gs_chars.specs.Answers.{OrError}
 
 -- the class and the option at the place that was found
 pub record IsSized (set : ClassRows) (name : List ℕ) (n i : ℕ) (class : Class) (option : OptionForm) : Type 0 where
@@ -61,8 +63,8 @@ pub can_write_at : (ais : List AiRow) (set : ClassRows) (name : List ℕ) (n i :
 can_write_at ais set name n i class option identity can is = can.each i class option is.class_at is.option_at is.named
 
 pub answer_at : (ais : List AiRow) (set : ClassRows) (naming class : Class) (n i : ℕ) (option : OptionForm) (identity : Elements) (answer : Result (List ℕ) ClassWriteFault)
-    → IsSized set naming.name n i class option → OrMemory answer (by_items ais class identity option.items)
-    → OrMemory answer (by_length ais set identity naming n)
+    → IsSized set naming.name n i class option → OrError Memory answer (by_items ais class identity option.items)
+    → OrError Memory answer (by_length ais set identity naming n)
 unfolding by_length
 answer_at ais set naming class n i option identity answer is h =
     let items : slice_get (item_lists set.level.options) i ≡ Some option.items = slice_get-map (λ (o : OptionForm). o.items) set.level.options i ∙ mapped is.option_at in

@@ -25,10 +25,6 @@ use Rattle.gs_class.specs.declared.error.ClassLoadFault.{ClassLoadFault}
 use Rattle.gs_class.specs.declared.error.ClassLoadFault.TheVariants.{Limit, BadItem, Size, Mismatch, Duplicate}
 use Rattle.gs_class.specs.declared.document.ClassRow.{ClassRow}
 
--- trusted, own: the most classes of a set
-abbrev pub most_classes : ℕ
-most_classes = 256
-
 -- ---- the items of a row
 
 -- trusted, own: holds if the item of a class is a literal, or stands for the company prefix, the rest or the lot
@@ -105,7 +101,7 @@ has_long rows = list_any (λ (row : ClassRow). nat_lt most_items (length row.ite
 
 -- trusted, own: holds if there are more classes, or more items of a class, than the limit
 abbrev pub are_many : List ClassRow → Bool
-are_many rows = nat_lt most_classes (length rows) || has_long rows
+are_many rows = nat_lt 256 (length rows) || has_long rows
 
 -- trusted, own: the rejections of row i, in their order: its first bad item, its size, a rule, and the first earlier row that
 -- is the same

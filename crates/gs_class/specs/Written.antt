@@ -3,7 +3,6 @@
 use Rattle.std.specs.Prelude.{ℕ, ◌==◌, ◌&&◌, not, Bool, if◌then◌else◌, List, [], ◌++◌, drop, map, position, Option, Some, option_and_then, is_some, slice_get, Result, Ok, Err, bytes_eq}
 use Rattle.std.specs.List.{find, list_any}
 use Rattle.std.specs.Option.{option_map_or, option_or}
-use Rattle.gs_chars.specs.Answers.{OrError}
 use Rattle.gs_ai.specs.declared.pair.Pair.{Pair}
 use Rattle.gs_ai.specs.declared.row.AiRow.{AiRow}
 use Rattle.gs_ident.specs.Elements.{Elements}
@@ -21,7 +20,7 @@ use Rattle.gs_epc.specs.KeyParts.{take_apart}
 use Rattle.gs_epc.specs.Layout.{KeyFields}
 use Rattle.gs_class.specs.declared.class_set.Class.{Class}
 use Rattle.gs_class.specs.declared.error.ClassWriteFault.{ClassWriteFault}
-use Rattle.gs_class.specs.declared.error.ClassWriteFault.TheVariants.{NoClass, MissingElement, Extra, MissingGcp, NoOption, CannotHold, Memory}
+use Rattle.gs_class.specs.declared.error.ClassWriteFault.TheVariants.{NoClass, MissingElement, Extra, MissingGcp, NoOption, CannotHold}
 use Rattle.gs_class.specs.Sets.{ClassRows, kind_of}
 
 -- ---- the class that names an identity
@@ -112,7 +111,3 @@ class_answer ais set prefixes gcp identity =
     if list_any (has_key identity) set.classes
     then option_map_or (by_name ais set prefixes gcp identity) (find (is_named_by identity) set.classes) (Err MissingElement)
     else Err NoClass
-
--- trusted, own: holds if `result` is `answer` or the error `Memory`
-abbrev pub OrMemory : Result (List ℕ) ClassWriteFault → Result (List ℕ) ClassWriteFault → Type 0
-OrMemory result answer = OrError Memory result answer

@@ -4,8 +4,9 @@ ghost use Rattle.std.specs.Option.{option_copied};
 ghost use Rattle.gs_ident.specs.Identities.{IsMadeWith, pair_with};
 ghost use Rattle.gs_epc.specs.KeyParts.{take_apart};
 ghost use Rattle.gs_class.specs.Sets.{IsOfTable, kind_of};
-ghost use Rattle.gs_class.specs.Written.{OrMemory, by_items, by_length, by_name, class_answer, has_key, is_extra, is_named_by, is_sized, length_for, others_of, value_for, values_for};
+ghost use Rattle.gs_class.specs.Written.{by_items, by_length, by_name, class_answer, has_key, is_extra, is_named_by, is_sized, length_for, others_of, value_for, values_for};
 ghost use Rattle.gs_class.specs.WrittenSupport.{CanBeWritten, CanWrite, IsQualified, fields_in};
+ghost use Rattle.gs_chars.specs.Answers.{OrError};
 
 use crate::class_set::{Class, ClassSet};
 use crate::error::ClassWriteFault;
@@ -147,7 +148,8 @@ fn write_option(
 ) -> Result<Text, ClassWriteFault>
     requires text_level { option.now.bit_level ≡ false }
     requires can_write { CanWrite ais.now class.now option.now.items identity.now }
-    ensures { OrMemory result (by_items ais.now class.now identity.now option.now.items) }
+    ensures { OrError ClassWriteFault.Memory result
+        (by_items ais.now class.now identity.now option.now.items) }
 {
     let said = class_fields(alloc, ais, class, identity)?;
     let values = values_for(alloc, &said, class.fields.items())?;
@@ -178,7 +180,7 @@ fn write_by_length(
     n: u8,
 ) -> Result<Text, ClassWriteFault>
     requires { CanBeWritten ais.now set.now class.now.name identity.now }
-    ensures { OrMemory result (by_length ais.now set.now identity.now class.now n) }
+    ensures { OrError ClassWriteFault.Memory result (by_length ais.now set.now identity.now class.now n) }
 {
     match sized(set.classes(), class.name.as_bytes(), n) {
         Some(i) => write_option(
@@ -223,7 +225,8 @@ fn write_by_name(
     class: &Class,
 ) -> Result<Text, ClassWriteFault>
     requires { CanBeWritten ais.now set.now class.now.name identity.now }
-    ensures { OrMemory result (by_name ais.now set.now prefixes.now gcp identity.now class.now) }
+    ensures { OrError ClassWriteFault.Memory result
+        (by_name ais.now set.now prefixes.now gcp identity.now class.now) }
 {
     if let Some(pair) = extra_of(class, identity) {
         return Err(ClassWriteFault::Extra(Text::from_bytes(alloc, pair.code.as_bytes())?));
@@ -251,7 +254,8 @@ pub fn write_class(
 ) -> Result<Text, ClassWriteFault>
     requires of_table { IsOfTable table.now set.now }
     requires made { IsMadeWith table.now identity.now }
-    ensures { OrMemory result (class_answer table.now set.now prefixes.now gcp identity.now) }
+    ensures { OrError ClassWriteFault.Memory result
+        (class_answer table.now set.now prefixes.now gcp identity.now) }
 {
     // only for the proof: the rows satisfy the rules of application identifiers
     let _ = table.rows();

@@ -9,10 +9,11 @@ use Rattle.gs_ai.specs.declared.row.AiRow.{AiRow}
 use Rattle.gs_ai.specs.Values.{has_code, value_error}
 use Rattle.gs_dlink.specs.declared.error.LinkFault.{LinkFault}
 use Rattle.gs_dlink.specs.declared.error.LinkFault.TheVariants.{NotHttp, NoKeyPath, Element, Memory}
-use Rattle.gs_dlink.specs.Answers.{IsLink, by_authority, by_key_path, error_in, is_rooted, link_answer, link_error, target_answer, then_pairs, written_answer}
+use Rattle.gs_dlink.specs.Answers.{IsLink, by_authority, by_key_path, is_rooted, link_answer, link_error, target_answer, then_pairs, written_answer}
 use Rattle.gs_dlink.specs.Paths.{key_path}
 use Rattle.gs_dlink.specs.Uris.{Written, authority_end, path_of, query_of, query_pairs, segments}
 use Rattle.gs_dlink.specs.Values.{are_escapes, by_row, by_value, pair_answer, value_of}
+use Rattle.std.specs.Result.{result_err}
 
 -- the answer is not out of memory
 abbrev IsKnown : {X : Type 0} → Result X LinkFault → Type 0
@@ -82,13 +83,13 @@ pub one_list : (table : List AiRow) (text : List ℕ) (one other : List Pair) �
 one_list table text one other a b = let same : Ok one ≡ Ok other = sym a ∙ b in cc
 
 pub no_error : (table : List AiRow) (text : List ℕ) (pairs : List Pair) (error : LinkFault) → IsLink table text pairs → link_error table text ≡ Some error → ⊥
-no_error table text pairs error a f = let same : None ≡ Some error = ap error_in (sym a) ∙ f in absurd (cc)
+no_error table text pairs error a f = let same : None ≡ Some error = ap result_err (sym a) ∙ f in absurd (cc)
 
 answered_by : (table : List AiRow) (text : List ℕ) (answer : Result (List Pair) LinkFault) → link_answer table text ≡ answer
     → IsKnown answer
     → ((pairs : List Pair) × IsLink table text pairs) ⊎ ((error : LinkFault) × (error ≢ Memory) × (link_error table text ≡ Some error))
 answered_by table text (Ok pairs) e known = inl (pairs, e)
-answered_by table text (Err error) e known = inr (error, (λ f. known (ap Err f)), ap error_in e)
+answered_by table text (Err error) e known = inr (error, (λ f. known (ap Err f)), ap result_err e)
 
 pub answered : (table : List AiRow) (text : List ℕ)
     → ((pairs : List Pair) × IsLink table text pairs) ⊎ ((error : LinkFault) × (error ≢ Memory) × (link_error table text ≡ Some error))

@@ -15,13 +15,14 @@ use Rattle.gs_ident.specs.Identities.{IsInOrder}
 use Rattle.gs_ident.proofs.PairLemmas.{found_passes}
 use Rattle.gs_dlink.specs.declared.error.LinkFault.{LinkFault}
 use Rattle.gs_dlink.specs.declared.error.LinkFault.TheVariants.{Element, Memory}
-use Rattle.gs_dlink.specs.Answers.{error_in, then_pairs, written_answer}
-use Rattle.gs_dlink.specs.AnswersSupport.{OrMemory}
+use Rattle.gs_dlink.specs.Answers.{then_pairs, written_answer}
 use Rattle.gs_dlink.specs.Uris.{Written}
 use Rattle.gs_dlink.specs.Values.{are_escapes, by_row, by_value, padded, pair_answer, value_of}
 use Rattle.gs_dlink.specs.ValuesSupport.{unescaped}
 use Rattle.gs_dlink.proofs.PlainValues.{spelled}
 use Rattle.gs_chars.proofs.Searches.{find_read, position_within}
+use Rattle.gs_chars.specs.Answers.{OrError}
+use Rattle.std.specs.Result.{result_err}
 
 module _ (table : List AiRow) (pair : Written) where
   pub unknown : None ≡ find (has_code pair.code) table → Err (Element (record { at = pair.at; why = Value Unknown })) ≡ pair_answer table pair
@@ -101,13 +102,13 @@ module _ (table : List AiRow) where
 
   module _ {X : Type 0} (f : X → Written) (xs : List X) (i : ℕ) (d : X) (ps : List Pair) (low : i < length xs)
       (so_far : written_answer table (map f (take i xs)) ≡ Ok ps) where
-    pub pair_rejected : (e : LinkFault) → OrMemory (Err e) (pair_answer table (f (get_or xs i d))) → OrMemory (Err e) (written_answer table (map f xs))
+    pub pair_rejected : (e : LinkFault) → OrError Memory (Err e) (pair_answer table (f (get_or xs i d))) → OrError Memory (Err e) (written_answer table (map f xs))
     pair_rejected e (inl m) = let same : e ≡ Memory = cc in inl (ap Err same)
     pair_rejected e (inr h) =
         let split = split_at xs i (get_or xs i d) (got xs i d low) in
         inr (sym (ap (λ zs. written_answer table (map f zs)) split.1 ∙ ap (written_answer table) (map-append f (take i xs) (get_or xs i d ∷ split.0)) ∙ answer_rejected (map f (take i xs)) (map f split.0) (f (get_or xs i d)) ps e so_far (sym h)))
 
-    pub pair_more : (p : Pair) (new : List Pair) → OrMemory (Ok p) (pair_answer table (f (get_or xs i d))) → new ≡ ps ++ p ∷ []
+    pub pair_more : (p : Pair) (new : List Pair) → OrError Memory (Ok p) (pair_answer table (f (get_or xs i d))) → new ≡ ps ++ p ∷ []
         → written_answer table (map f (take (i + 1) xs)) ≡ Ok new
     pair_more p new (inl m) e = absurd (let bad : Ok p ≡ Err Memory = m in cc)
     pair_more p new (inr h) e =
@@ -118,16 +119,16 @@ module _ (table : List AiRow) where
         (p ∷ []) one ∙ ap Ok (sym e)
 
 pub all_pairs : {X : Type 0} (table : List AiRow) (f : X → Written) (xs : List X) (i : ℕ) (ps : List Pair) → length xs ≤ i
-    → written_answer table (map f (take i xs)) ≡ Ok ps → OrMemory (Ok ps) (written_answer table (map f xs))
+    → written_answer table (map f (take i xs)) ≡ Ok ps → OrError Memory (Ok ps) (written_answer table (map f xs))
 all_pairs table f xs i ps all h = inr (sym (rw (take_all i xs all) at h))
 
 -- ---- the answer of a public call
 
-pub answer_pairs : (answer : Result (List Pair) LinkFault) (ps : List Pair) → OrMemory (Ok ps) answer → answer ≡ Ok ps
+pub answer_pairs : (answer : Result (List Pair) LinkFault) (ps : List Pair) → OrError Memory (Ok ps) answer → answer ≡ Ok ps
 answer_pairs answer ps (inl m) = absurd (let bad : Ok ps ≡ Err Memory = m in cc)
 answer_pairs answer ps (inr h) = sym h
 
-pub answer_error : (answer : Result (List Pair) LinkFault) (e : LinkFault) → OrMemory (Err e) answer → e ≢ Memory → error_in answer ≡ Some e
+pub answer_error : (answer : Result (List Pair) LinkFault) (e : LinkFault) → OrError Memory (Err e) answer → e ≢ Memory → result_err answer ≡ Some e
 answer_error answer e (inl m) other = absurd (other (let same : e ≡ Memory = cc in same))
 answer_error answer e (inr h) other = rw (← h) refl
 

@@ -8,13 +8,13 @@ use Rattle.gs_ai.specs.declared.pair.Pair.{Pair}
 use Rattle.gs_ai.specs.declared.row.AiRow.{AiRow}
 use Rattle.gs_ident.specs.Identities.{IsInOrder}
 use Rattle.gs_dlink.specs.declared.error.LinkFault.{LinkFault}
-use Rattle.gs_dlink.specs.declared.error.LinkFault.TheVariants.{NotHttp, NoKeyPath}
+use Rattle.gs_dlink.specs.declared.error.LinkFault.TheVariants.{NotHttp, NoKeyPath, Memory}
 use Rattle.gs_dlink.specs.Answers.{by_key_path, is_rooted, link_answer, target_answer, written_answer}
-use Rattle.gs_dlink.specs.AnswersSupport.{OrMemory}
 use Rattle.gs_dlink.specs.Paths.{key_path}
 use Rattle.gs_chars.specs.Characters.{is_byte}
 use Rattle.gs_dlink.specs.Uris.{authority_end, path_of, query_of, query_pairs, segments, Written}
 use Rattle.gs_dlink.proofs.JudgementLemmas.{written_in_order}
+use Rattle.gs_chars.specs.Answers.{OrError}
 
 module _ (table : List AiRow) (at : ℕ) (text : List ℕ) (hash end : ℕ) (h : hash ≡ position_or_len (is_byte 35) text)
     (e : end ≡ position_or_len (is_byte 63) (take hash text)) where
@@ -37,8 +37,8 @@ module _ (table : List AiRow) (at : ℕ) (text : List ℕ) (hash end : ℕ) (h :
 
   pub pairs_found : (found all : List Written) (rest : List ℕ) (result : Result (List Pair) LinkFault) → end ≤ length (take hash text)
       → is_rooted path ≡ true → Some found ≡ key_path table (segments at path) → rest ≡ drop (end + 1) (take hash text)
-      → all ≡ found ++ query_pairs (at + end + 1) rest → OrMemory result (written_answer table all)
-      → OrMemory result (target_answer table at text)
+      → all ≡ found ++ query_pairs (at + end + 1) rest → OrError Memory result (written_answer table all)
+      → OrError Memory result (target_answer table at text)
   unfolding target_answer
   pairs_found found all rest result within rooted some behind both answer =
       let g = rw path_is at rooted in

@@ -7,6 +7,7 @@ use Rattle.gs_dlink.specs.declared.error.LinkFault.TheVariants.{NotHttp, NoKeyPa
 use Rattle.gs_dlink.specs.Paths.{key_path}
 use Rattle.gs_dlink.specs.Uris.{authority_end, is_slash, path_of, query_of, query_pairs, segments, Written}
 use Rattle.gs_dlink.specs.Values.{pair_answer}
+use Rattle.std.specs.Result.{result_err}
 
 -- trusted, own: the pair before those of the others, or the first error
 abbrev pub then_pairs : Result Pair LinkFault → Result (List Pair) LinkFault → Result (List Pair) LinkFault
@@ -45,11 +46,6 @@ by_authority table text (Some at) = target_answer table at (drop at text)
 unfoldable pub link_answer : List AiRow → List ℕ → Result (List Pair) LinkFault
 link_answer table text = by_authority table text (authority_end text)
 
--- trusted, own: the error of a result, if it is one
-abbrev pub error_in : Result (List Pair) LinkFault → Option LinkFault
-error_in (Ok _) = None
-error_in (Err error) = Some error
-
 -- trusted, GS1 Digital Link URI Syntax, section 3; the order of the errors is own: holds if `text` is a Digital Link URI that
 -- names `pairs`
 abbrev pub IsLink : List AiRow → List ℕ → List Pair → Type 0
@@ -57,7 +53,7 @@ IsLink table text pairs = link_answer table text ≡ Ok pairs
 
 -- trusted, GS1 Digital Link URI Syntax, section 3; the order of the errors is own: the first error of a text that is not a link
 abbrev pub link_error : List AiRow → List ℕ → Option LinkFault
-link_error table text = error_in (link_answer table text)
+link_error table text = result_err (link_answer table text)
 
 -- trusted, RFC 9112, section 3.2.1; GS1 Digital Link URI Syntax, section 3: holds if `text` is the target of a request that
 -- names `pairs`
@@ -67,4 +63,4 @@ IsTarget table text pairs = target_answer table 0 text ≡ Ok pairs
 -- trusted, RFC 9112, section 3.2.1; GS1 Digital Link URI Syntax, section 3: the first error of the target of a request, if there
 -- is one
 abbrev pub target_error : List AiRow → List ℕ → Option LinkFault
-target_error table text = error_in (target_answer table 0 text)
+target_error table text = result_err (target_answer table 0 text)

@@ -45,17 +45,13 @@ authority_end text = option_and_then (authority_from text) (scheme_end text)
 
 -- ---- path, query and fragment (sections 3.3 to 3.5), of a text that begins with the path
 
--- trusted, RFC 3986, sections 3.3 to 3.5: the text before the first `#`
-abbrev pub without_fragment : List ℕ → List ℕ
-without_fragment text = before_first (is_byte 35) text
-
 -- trusted, RFC 3986, sections 3.3 to 3.5: the path: the text before the first `?` and the first `#`
 abbrev pub path_of : List ℕ → List ℕ
-path_of text = before_first (is_byte 63) (without_fragment text)
+path_of text = before_first (is_byte 63) (before_first (is_byte 35) text)
 
 -- trusted, RFC 3986, sections 3.3 to 3.5: the text after the first question mark, and the empty text if there is none
 abbrev pub query_of : List ℕ → List ℕ
-query_of text = after_first (is_byte 63) (without_fragment text)
+query_of text = after_first (is_byte 63) (before_first (is_byte 35) text)
 
 -- ---- pieces
 

@@ -2,10 +2,10 @@ ghost use Rattle.std.specs.Prelude.{◌≡◌, ◌≢◌, All, ◌+◌, ◌<◌,
 ghost use Rattle.std.specs.Char.{to_ascii_lowercase};
 ghost use Rattle.gs_ident.specs.Identities.{IsInOrder};
 ghost use Rattle.gs_dlink.specs.Answers.{IsLink, IsTarget, is_rooted, link_error, target_answer, target_error, written_answer};
-ghost use Rattle.gs_dlink.specs.AnswersSupport.{OrMemory};
 ghost use Rattle.gs_dlink.specs.Uris.{authority_end, has_scheme, scheme_end};
 ghost use Rattle.gs_dlink.specs.Values.{IsPlaced};
 ghost use Rattle.gs_dlink.specs.ValuesSupport.{written_of};
+ghost use Rattle.gs_chars.specs.Answers.{OrError};
 
 use crate::error::LinkFault;
 use crate::path::key_path;
@@ -101,7 +101,7 @@ fn read_at<'a>(
     text: &'a [u8],
 ) -> Result<List<Pair<'a>>, LinkFault>
     requires { at + length text.now < 2 ^ 63 }
-    ensures { OrMemory result (target_answer table.now at text.now) }
+    ensures { OrError LinkFault.Memory result (target_answer table.now at text.now) }
 {
     let text = &text[..place_of(text, b'#')];
     let end = place_of(text, b'?');
@@ -123,7 +123,7 @@ fn read_pairs<'a>(
     written: &[WrittenPair<'a>],
 ) -> Result<List<Pair<'a>>, LinkFault>
     requires { All (IsPlaced table.now) written.now }
-    ensures { OrMemory result (written_answer table.now (map written_of written.now)) }
+    ensures { OrError LinkFault.Memory result (written_answer table.now (map written_of written.now)) }
 {
     let Ok(mut pairs) = Vec::with_capacity(alloc, written.len()) else {
         return Err(LinkFault::Memory);

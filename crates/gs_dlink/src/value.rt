@@ -1,8 +1,8 @@
 ghost use Rattle.std.specs.Prelude.{◌≡◌, IfOk};
-ghost use Rattle.gs_dlink.specs.AnswersSupport.{OrMemory};
 ghost use Rattle.percent_encoding.specs.Percent.{percent_decode};
 ghost use Rattle.gs_dlink.specs.Values.{IsPlaced, is_short_gtin, padded, pair_answer, are_escapes, begins_hex};
 ghost use Rattle.gs_dlink.specs.ValuesSupport.{unescaped, written_of};
+ghost use Rattle.gs_chars.specs.Answers.{OrError};
 
 use crate::error::LinkFault;
 use gs_ai::{AiTable, ElementFault, ElementWhy, Pair, ValueFault};
@@ -83,7 +83,7 @@ pub(crate) fn read_pair<'a>(
     written: &WrittenPair<'a>,
 ) -> Result<Pair<'a>, LinkFault>
     requires { IsPlaced table.now written.now }
-    ensures { OrMemory result (pair_answer table.now (written_of written.now)) }
+    ensures { OrError LinkFault.Memory result (pair_answer table.now (written_of written.now)) }
 {
     let Some(place) = written.row else {
         return Err(error_of(written, ElementWhy::Value(ValueFault::Unknown)));

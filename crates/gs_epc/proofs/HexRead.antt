@@ -1,12 +1,12 @@
 -- Bits that are written as hexadecimal digits are read again.
 use Rattle.std.proofs.Common.{◌≡◌, ℕ, ◌*◌, ◌%◌, ◌^◌, ◌<◌, true, false, List, [], ◌∷◌, length, position, replicate, None, refl, sym, ap, ◌∙◌, arith}
-use Rattle.std.specs.Prelude.{is_some}
+use Rattle.std.specs.Prelude.{is_some, unwrap_or}
 use Rattle.std.specs.List.{AllPass, flat_map}
 use Rattle.std.proofs.lemmas.List.Elements.{All-append, All-cons, All-head, All-nil, All-replicate, All-tail}
-use Rattle.gs_chars.specs.Escapes.{hex_digit}
+use Rattle.gs_chars.specs.Escapes.{hex_digit, hex_value}
 use Rattle.gs_bits.specs.Bits.{AreBits, bits_of, number_of}
 use Rattle.gs_bits.specs.BitLaws.{AreBits-bits_of, bits_of-number_of, number_of-below}
-use Rattle.gs_bits.specs.HexText.{bits_of_digit, bits_of_hex, hex_of_bits, is_hex_digit}
+use Rattle.gs_bits.specs.HexText.{bits_of_hex, hex_of_bits, is_hex_digit}
 use Rattle.gs_grammar.specs.declared.item.Item.{Item}
 use Rattle.gs_grammar.specs.declared.item.Item.TheVariants.{Lit, Pad, Digits, Int, Esc, NumPad, Num, NumStr, Ascii7, Fill}
 use Rattle.gs_grammar.specs.Items.{is_bad, is_in_bounds}
@@ -44,7 +44,7 @@ written_bits (item ∷ items) (value ∷ values) good =
 
 -- ---- digits of bits
 
-four_read : (four : List ℕ) → AreBits four → length four ≡ 4 → bits_of_digit (hex_digit (number_of four)) ≡ four
+four_read : (four : List ℕ) → AreBits four → length four ≡ 4 → bits_of 4 (unwrap_or (hex_value (hex_digit (number_of four))) 0) ≡ four
 four_read four are count =
     let below = number_of-below four are in
     let small : number_of four < 16 = let e : 2 ^ length four ≡ 16 = ap (λ n. 2 ^ n) count in omega arith in

@@ -14,7 +14,6 @@ use Rattle.gs_tables_document.specs.declared.document.Kind.{Kind}
 use Rattle.gs_tables_document.specs.declared.document.SerialAt.TheVariants.{Ai}
 use Rattle.gs_tables.specs.Tables.{TableRows}
 use Rattle.gs_epc.specs.declared.epc.Epc.{Epc}
-use Rattle.gs_epc.specs.KeyParts.{none_text}
 use Rattle.gs_epc.specs.Layout.{IsLaidOut, KeyFields, fields_in, key_value, lay, parts_at, serial_elements}
 use Rattle.gs_epc.specs.LayoutSupport.{coded_pairs}
 
@@ -32,7 +31,7 @@ none_of : (found : Option AiRow) (none value : List ℕ) → none ≡ option_map
 none_of None none value e = rw e refl
 none_of (Some row) none value e = rw e (ap (λ (b : Bool). not b && bytes_eq row.none value) (without_bytes row.none))
 
-pub means_none : (ais : List AiRow) (code value none : List ℕ) → none ≡ none_text ais code
+pub means_none : (ais : List AiRow) (code value none : List ℕ) → none ≡ option_map_or (λ (row : AiRow). row.none) (find (has_code code) ais) []
     → (not (length none == 0) && bytes_eq none value) ≡ stands_for_none ais (record { code = code; value = value })
 means_none ais code value none e = none_of (find (has_code code) ais) none value e
 

@@ -19,7 +19,7 @@ use Rattle.gs_tables.specs.declared.form.Room.{Room}
 use Rattle.gs_tables.specs.Forms.{tail_of}
 use Rattle.gs_tables.specs.Rules.{is_characters, is_serial_of}
 use Rattle.gs_epc.specs.Layout.{serial_elements, tail_of_key}
-use Rattle.gs_epc.specs.KeyParts.{none_text, serial_in, tail_in, unless_empty}
+use Rattle.gs_epc.specs.KeyParts.{serial_in, tail_in, unless_empty}
 use Rattle.gs_epc.proofs.LaidAgain.{IsTail}
 use Rattle.std.proofs.lemmas.Bool.{and_parts}
 
@@ -119,7 +119,7 @@ none_stands (Some row) serial e = by row.none e
 pub own_element : (ais : List AiRow) (parts : List Part) (code serial : List ℕ) (identity : Elements) → AreOne ais code identity.qualifiers
     → serial_in ais parts (Ai code) identity ≡ Some serial → identity.qualifiers ≡ serial_elements ais (Ai code) serial
 own_element ais parts code serial identity (nothing none) e =
-    let f : unless_empty (none_text ais code) ≡ Some serial = rw none at e in
+    let f : unless_empty (option_map_or (λ (row : AiRow). row.none) (find (has_code code) ais) []) ≡ Some serial = rw none at e in
     let stands : stands_for_none ais (record { code = code; value = serial }) ≡ true = none_stands (find (has_code code) ais) serial f in
     rw (none, stands) refl
 own_element ais parts code serial identity (one pair is own fails) e =

@@ -20,10 +20,11 @@ use Rattle.gs_tables.specs.Rules.{is_digits, is_field, is_filter, is_gcp, is_one
 use Rattle.gs_tables.specs.Tables.{TableRows}
 use Rattle.gs_epc.specs.declared.epc.Epc.{Epc}
 use Rattle.gs_epc.specs.Candidates.{HasFilter, HasFilterOn, filter_on, is_asked, is_candidate, is_left_out, left_out, value_for, values_for}
-use Rattle.gs_epc.specs.Epcs.{epc_of, filter_of, value_at, value_of}
+use Rattle.gs_epc.specs.Epcs.{epc_of, value_at, value_of}
 use Rattle.gs_epc.specs.Writes.{same_fields}
 use Rattle.gs_epc.proofs.FieldPlaces.{named}
 use Rattle.std.proofs.lemmas.Bool.{and_parts}
+use Rattle.std.specs.Prelude.{option_map}
 
 -- ---- the values of fields
 
@@ -95,7 +96,7 @@ number_back None has = absurd has
 number_back (Some n) has = ap (λ (k : ℕ). Some k) (value_decimal n (omega arith))
 
 filter_back : (level : LevelName) (epc : Epc) (parts : List FieldItem) (encoding : List ℕ) → keeps_level level encoding parts ≡ true
-    → HasFilterOn level epc.filter → filter_of (fields_of parts) (map (value_for level epc) (fields_of parts)) ≡ filter_on level epc.filter
+    → HasFilterOn level epc.filter → option_map decimal_value (value_at Filter (fields_of parts) (map (value_for level epc) (fields_of parts))) ≡ filter_on level epc.filter
 unfolding keeps_level
 filter_back Pure epc parts encoding h has =
     let none = none_stands Filter parts (and_parts (is_empty encoding) (is_empty (items_of_field Filter parts)) h).1 in
@@ -144,7 +145,7 @@ pub said_back : (set : TableRows) (level : LevelName) (items : List Item) (info 
 said_back set level items info epc kept passes has whole =
     let numbers = same_numbers info.kind epc.kind info.gcp epc.gcp (is_asked level epc.encoding info.encoding) passes in
     let none = none_left info.fields epc whole in
-    let filter : filter_of info.fields (values_for level epc info) ≡ filter_on level epc.filter = rw kept.fields_are (filter_back level epc kept.parts info.encoding kept.of_level has) in
+    let filter : option_map decimal_value (value_at Filter info.fields (values_for level epc info)) ≡ filter_on level epc.filter = rw kept.fields_are (filter_back level epc kept.parts info.encoding kept.of_level has) in
     equal_fields _ _ _ _ _ _ _ _ _ _ _ _ _ _ _ _ _ numbers.0 filter numbers.1 (prefix_back set level items info (value_for level epc) kept)
     (kept_text Rest info.fields (value_for level epc) none.rest)
     (kept_text Piece info.fields (value_for level epc) none.piece) (kept_text Total info.fields (value_for level epc) none.total)

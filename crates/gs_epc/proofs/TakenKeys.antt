@@ -24,9 +24,10 @@ use Rattle.gs_tables.specs.Forms.{further_of, key_form, serial_room, tail_of}
 use Rattle.gs_tables.specs.Rules.{is_serial_of}
 use Rattle.gs_epc.specs.KeptFields.{FitForm, FitKind, FitsFurther, FitsRoom}
 use Rattle.gs_epc.specs.Layout.{behind_check, key_digits, key_value, lay, parts_at, serial_elements, tail_of_key, with_check, KeyFields}
-use Rattle.gs_epc.specs.KeyParts.{piece_in, piece_length, prefix_in, rest_in, serial_in, tail_in, take_apart, total_in, total_length, unless_empty}
+use Rattle.gs_epc.specs.KeyParts.{prefix_in, rest_in, serial_in, tail_in, take_apart, unless_empty}
 use Rattle.gs_epc.proofs.LayoutValues.{have_digits}
 use Rattle.std.proofs.lemmas.Bool.{and_parts}
+use Rattle.std.specs.Prelude.{slice_index}
 
 -- ---- prefix and rest from the digits of a key
 
@@ -67,8 +68,8 @@ checked_behind k digits tail one long =
 -- prefix, reference, piece and total are restored, and so is the tail if the key has one
 pub record IsTakenBack (parts : List Part) (form : KeyForm) (kind : Kind) (n : ℕ) (fields : KeyFields) : Type 0 where
   pub back : AreBack fields.prefix fields.rest (prefix_in parts kind.lead n (key_value parts kind fields)) (rest_in parts kind.lead n (key_value parts kind fields))
-  pub piece_back : piece_in parts kind.further (key_value parts kind fields) ≡ fields.piece
-  pub total_back : total_in parts kind.further (key_value parts kind fields) ≡ fields.total
+  pub piece_back : take (slice_index kind.further 0) (tail_in parts (key_value parts kind fields)) ≡ fields.piece
+  pub total_back : take (slice_index kind.further 1) (drop (slice_index kind.further 0) (tail_in parts (key_value parts kind fields))) ≡ fields.total
   pub tail : is_some (tail_of form) ≡ true → tail_in parts (key_value parts kind fields) ≡ tail_of_key kind.serial fields.serial
 
 -- the digits of a key with k of them, its check digit among them
@@ -106,8 +107,8 @@ alone (Characters most) some = refl
 
 -- piece and total are those that were laid out
 record ArePiecesBack (further piece total others : List ℕ) : Type 0 where
-  piece_back : take (piece_length further) others ≡ piece
-  total_back : take (total_length further) (drop (piece_length further) others) ≡ total
+  piece_back : take (slice_index further 0) others ≡ piece
+  total_back : take (slice_index further 1) (drop (slice_index further 0) others) ≡ total
 
 pieces_back : (further piece total tail others : List ℕ) → FitsFurther further piece total → others ≡ piece ++ (total ++ tail)
     → ArePiecesBack further piece total others

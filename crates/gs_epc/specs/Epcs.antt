@@ -24,16 +24,12 @@ value_at field fields values =
 abbrev pub value_of : Field → List (Option Field) → List (List ℕ) → List ℕ
 value_of field fields values = option_map_or (λ value. value) (value_at field fields values) []
 
--- trusted, own: the filter value, if an item has it
-abbrev pub filter_of : List (Option Field) → List (List ℕ) → Option ℕ
-filter_of fields values = option_map decimal_value (value_at Filter fields values)
-
 -- trusted, TDT 2.0, section 3; TDS 2.0, section 6.3: the fields of an option by the values of its items
 abbrev pub epc_of : OptInfo → List (List ℕ) → Epc
 epc_of info values = record {
   kind = info.kind;
   encoding = info.encoding;
-  filter = filter_of info.fields values;
+  filter = option_map decimal_value (value_at Filter info.fields values);
   gcp = info.gcp;
   prefix = value_of Gcp info.fields values;
   rest = value_of Rest info.fields values;

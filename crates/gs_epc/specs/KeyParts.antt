@@ -1,5 +1,5 @@
 -- How a key is taken apart: TDS 2.0, section 7 (correspondence between EPCs and GS1 keys), from the key to the EPC.
-use Rattle.std.specs.Prelude.{◌≡◌, ℕ, ◌-◌, List, [], ◌∷◌, ◌++◌, take, drop, find, Option, Some, None, slice_get, Result, Ok, Err}
+use Rattle.std.specs.Prelude.{◌≡◌, ℕ, ◌-◌, List, [], ◌∷◌, ◌++◌, take, drop, find, Option, Some, None, slice_get, Result, Ok, Err, slice_index}
 use Rattle.std.specs.Option.{option_and_then, option_map, option_map_or}
 use Rattle.gs_ai.specs.declared.pair.Pair.{Pair}
 use Rattle.gs_ai.specs.declared.part.Part.{Part}
@@ -54,34 +54,12 @@ abbrev pub value_from_prefix : TableRows → ℕ → List ℕ → List ℕ
 value_from_prefix set kind value =
     option_map_or (λ (row : Kind). drop row.lead (behind_zero (parts_at set.ais row.key) value)) (slice_get set.kinds kind) []
 
--- trusted, own: the number of digits of the piece, by the two lengths of a kind, and 0 if it has none
-abbrev pub piece_length : List ℕ → ℕ
-piece_length (a ∷ _) = a
-piece_length [] = 0
-
--- trusted, own: the number of digits of the total, by the two lengths of a kind, and 0 if it has none
-abbrev pub total_length : List ℕ → ℕ
-total_length (_ ∷ b ∷ _) = b
-total_length _ = 0
-
--- trusted, own: the piece: the first of the digits after the check digit
-abbrev pub piece_in : List Part → List ℕ → List ℕ → List ℕ
-piece_in parts further value = take (piece_length further) (tail_in parts value)
-
--- trusted, own: the total: the digits after the piece
-abbrev pub total_in : List Part → List ℕ → List ℕ → List ℕ
-total_in parts further value = take (total_length further) (drop (piece_length further) (tail_in parts value))
-
 -- ---- the serial
 
 -- trusted, own: the text, if it is not empty
 abbrev pub unless_empty : List ℕ → Option (List ℕ)
 unless_empty [] = None
 unless_empty text = Some text
-
--- trusted, own: the text that means an absent element in the row of its code, and the empty text if there is no row
-abbrev pub none_text : List AiRow → List ℕ → List ℕ
-none_text ais code = option_map_or (λ (row : AiRow). row.none) (find (has_code code) ais) []
 
 -- trusted, own: The serial: empty if the kind has none, the tail of the key, or the value of its qualifier. If that is absent,
 -- its text for none is the serial, if there is one.
@@ -90,7 +68,7 @@ serial_in ais parts Nowhere identity = Some []
 serial_in ais parts Tail identity = unless_empty (tail_in parts identity.key.value)
 serial_in ais parts (Ai code) identity =
     option_map_or (λ (pair : Pair). Some pair.value) (pair_with identity.qualifiers code)
-    (unless_empty (none_text ais code))
+    (unless_empty (option_map_or (λ (row : AiRow). row.none) (find (has_code code) ais) []))
 
 -- ---- the fields
 
@@ -99,8 +77,8 @@ abbrev pub fields_at : List Part → Kind → ℕ → List ℕ → List ℕ → 
 fields_at parts kind n value serial = record {
   prefix = prefix_in parts kind.lead n value;
   rest = rest_in parts kind.lead n value;
-  piece = piece_in parts kind.further value;
-  total = total_in parts kind.further value;
+  piece = take (slice_index kind.further 0) (tail_in parts value);
+  total = take (slice_index kind.further 1) (drop (slice_index kind.further 0) (tail_in parts value));
   serial = serial;
 }
 

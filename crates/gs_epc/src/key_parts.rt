@@ -1,8 +1,10 @@
-ghost use Rattle.std.specs.Prelude.{◌≡◌, ◌-◌, ◌++◌, ◌<◌, ℕ, IfOk, List, Some, drop, length, slice_get, take};
+ghost use Rattle.std.specs.Prelude.{◌≡◌, ◌-◌, ◌++◌, ◌<◌, ℕ, IfOk, List, Some, drop, length, slice_get, take, slice_index, find, []};
 ghost use Rattle.gs_tables_document.specs.declared.document.SerialAt.TheVariants.{Ai};
-ghost use Rattle.std.specs.Option.{option_copied};
+ghost use Rattle.std.specs.Option.{option_copied, option_map_or};
 ghost use Rattle.gs_epc.specs.Layout.{parts_at};
-ghost use Rattle.gs_epc.specs.KeyParts.{IsTakenApart, behind_zero, checked_count, digits_in, none_text, piece_in, piece_length, prefix_in, rest_in, serial_in, tail_in, total_in, total_length, unless_empty, value_from_prefix};
+ghost use Rattle.gs_epc.specs.KeyParts.{IsTakenApart, behind_zero, checked_count, digits_in, prefix_in, rest_in, serial_in, tail_in, unless_empty, value_from_prefix};
+ghost use Rattle.gs_ai.specs.Values.{has_code};
+ghost use Rattle.gs_ai.specs.declared.row.AiRow.{AiRow};
 
 use crate::epc::{Epc, EpcRef};
 use crate::error::FieldsFault;
@@ -66,7 +68,7 @@ fn tail_in<'a>(parts: &[Part], value: &'a [u8]) -> &'a [u8]
 
 /// Returns the number of digits of the piece, by the two lengths of a kind.
 fn piece_length(further: &[u8]) -> usize
-    ensures { result ≡ piece_length further.now }
+    ensures { result ≡ slice_index further.now 0 }
 {
     match further {
         [piece, ..] => usize::from(*piece),
@@ -76,7 +78,7 @@ fn piece_length(further: &[u8]) -> usize
 
 /// Returns the number of digits of the total, by the two lengths of a kind.
 fn total_length(further: &[u8]) -> usize
-    ensures { result ≡ total_length further.now }
+    ensures { result ≡ slice_index further.now 1 }
 {
     match further {
         [_, total, ..] => usize::from(*total),
@@ -86,14 +88,15 @@ fn total_length(further: &[u8]) -> usize
 
 /// Returns the piece: the first of the digits after the check digit.
 fn piece_in<'a>(parts: &[Part], further: &[u8], value: &'a [u8]) -> &'a [u8]
-    ensures { result.now ≡ piece_in parts.now further.now value.now }
+    ensures { result.now ≡ take (slice_index further.now 0) (tail_in parts.now value.now) }
 {
     take_first(tail_in(parts, value), piece_length(further))
 }
 
 /// Returns the total: the digits after the piece.
 fn total_in<'a>(parts: &[Part], further: &[u8], value: &'a [u8]) -> &'a [u8]
-    ensures { result.now ≡ total_in parts.now further.now value.now }
+    ensures { result.now
+        ≡ take (slice_index further.now 1) (drop (slice_index further.now 0) (tail_in parts.now value.now)) }
 {
     take_first(
         skip_first(tail_in(parts, value), piece_length(further)),
@@ -163,7 +166,8 @@ pub(crate) fn parts_of<'a>(set: &'a TableSet, index: usize, kind: &Kind) -> &'a 
 /// Returns the text that stands for an absent serial of a kind of the set. Takes no search: the kind is given by its index too.
 pub(crate) fn none_of<'a>(set: &'a TableSet, index: usize, kind: &Kind) -> &'a [u8]
     requires { slice_get set.now.kinds index ≡ Some kind.now }
-    ensures { (code : List ℕ) → kind.now.serial ≡ Ai code → result.now ≡ none_text set.now.ais code }
+    ensures { (code : List ℕ) → kind.now.serial ≡ Ai code
+        → result.now ≡ option_map_or (λ (row : AiRow). row.none) (find (has_code code) set.now.ais) [] }
 {
     match set.serial_row(index) {
         Some(row) => row.none.as_bytes(),

@@ -1,6 +1,6 @@
-ghost use Rattle.std.specs.Prelude.{◌≡◌, ◌≤◌, ◌++◌, ℕ, IfOk, List, OnErr, length, Some, slice_get};
+ghost use Rattle.std.specs.Prelude.{◌≡◌, ◌≤◌, ◌++◌, ℕ, IfOk, List, OnErr, length, Some, slice_get, find, []};
 ghost use Rattle.std.specs.List.{flat_map};
-ghost use Rattle.std.specs.Option.{option_copied};
+ghost use Rattle.std.specs.Option.{option_copied, option_map_or};
 ghost use Rattle.gs_chars.specs.Answers.{BeginsWith};
 ghost use Rattle.gs_ident.specs.Identities.{IsMadeWith, stands_for_none};
 ghost use Rattle.gs_ident.specs.Links.{path_step, spelled};
@@ -11,8 +11,8 @@ ghost use Rattle.gs_epc.specs.Layout.{AreKeyDigits, IsLaidOut, behind_check, key
 ghost use Rattle.gs_epc.specs.Layout.{serial_elements, tail_of_key, with_check, zero_in_front, fields_in};
 ghost use Rattle.gs_epc.specs.LayoutSupport.{coded_pairs};
 ghost use Rattle.gs_epc.specs.declared.epc.Epc.{Epc};
-ghost use Rattle.gs_epc.specs.KeyParts.{none_text};
 ghost use Rattle.gs_ai.specs.declared.row.AiRow.{AiRow};
+ghost use Rattle.gs_ai.specs.Values.{has_code};
 
 use crate::epc::{Epc, EpcRef, lent};
 use crate::key_parts::{joined, none_of, parts_of};
@@ -135,7 +135,8 @@ fn key_value(alloc: Global, set: &TableSet, kind: &Kind, epc: &EpcRef<'_>) -> Re
 
 /// Returns whether the value is the text that means an absent element.
 fn stands_for_none(none: &[u8], value: &[u8]) -> bool
-    ensures { (ais : List AiRow) (code : List ℕ) → none.now ≡ none_text ais code
+    ensures { (ais : List AiRow) (code : List ℕ)
+        → none.now ≡ option_map_or (λ (row : AiRow). row.none) (find (has_code code) ais) []
         → result ≡ stands_for_none ais (record { code = code; value = value.now }) }
 {
     !none.is_empty() && none == value

@@ -30,17 +30,12 @@ pub record ShareList (level : List (List Item)) (i j : ℕ) (w : List ℕ) : Typ
 abbrev pub shown_symbols : Bool → List ℕ → List ℕ
 shown_symbols bit_level w = if bit_level then map (λ bit. bit + 48) w else w
 
--- trusted, own: holds if the pair `k`, `l` is before the pair `i`, `j`: in the order of the first option, and then of the
--- second
-abbrev pub StandsBefore : ℕ → ℕ → ℕ → ℕ → Type 0
-StandsBefore k l i j = (k < i) ⊎ ((k ≡ i) × (l < j))
-
 -- trusted, own: holds if options `i` and `j`, `i` at most `j`, are the first pair of `level` that shares a list, and they share
 -- `w`
 pub record IsFirstShare (level : List (List Item)) (i j : ℕ) (w : List ℕ) : Type 0 where
   pub order : i ≤ j
   pub share : ShareList level i j w
-  pub first : (k l : ℕ) (v : List ℕ) → k ≤ l → StandsBefore k l i j → ShareList level k l v → ⊥
+  pub first : (k l : ℕ) (v : List ℕ) → k ≤ l → (k < i) ⊎ ((k ≡ i) × (l < j)) → ShareList level k l v → ⊥
 
 -- trusted, own: holds if some pair of options of `level` is the first that shares a list
 pub record HasFirstShare (level : List (List Item)) : Type 0 where

@@ -6,7 +6,7 @@ use Rattle.std.proofs.lemmas.Option.{get_or_from_slice_get, slice_get_within}
 use Rattle.gs_grammar.specs.declared.item.Item.{Item}
 use Rattle.gs_grammar.specs.Items.{IsItem}
 use Rattle.gs_grammar.specs.Levels.{LevelForm, OptionForm, item_lists}
-use Rattle.gs_grammar.specs.Ambiguity.{IsAmbiguous, ShareList, IsFirstShare, StandsBefore, shown_symbols}
+use Rattle.gs_grammar.specs.Ambiguity.{IsAmbiguous, ShareList, IsFirstShare, shown_symbols}
 use Rattle.gs_grammar_level.specs.FirstShares.{IsFirstShared}
 use Rattle.gs_grammar_level.specs.ShareSearches.{IsFirstWith, ShareNoList, SharesNoneBefore}
 use Rattle.gs_grammar_level.specs.declared.share.Shared.{Shared}
@@ -202,7 +202,7 @@ some_answer level each = elim (rows_searched (item_lists level.options) (length 
 
 -- the answer names one pair
 
-same_pair : (i j k l : ℕ) → (StandsBefore i j k l → ⊥) → (StandsBefore k l i j → ⊥) → (i ≡ k) × (j ≡ l)
+same_pair : (i j k l : ℕ) → ((i < k) ⊎ ((i ≡ k) × (j < l)) → ⊥) → ((k < i) ⊎ ((k ≡ i) × (l < j)) → ⊥) → (i ≡ k) × (j ≡ l)
 same_pair i j k l a b = elim (cases_lt i k) as (λ _. (i ≡ k) × (j ≡ l)) [
   | inl h ↦ absurd (a (inl h))
   | inr h ↦ elim (cases_lt k i) as (λ _. (i ≡ k) × (j ≡ l)) [

@@ -35,10 +35,6 @@ pub data Answer : Type 0 where
   described choices redirect : List ℕ → Answer
   bad_request not_found not_allowed : Answer
 
--- trusted, RFC 9110, section 9.3.1: holds if `method` is GET
-abbrev pub is_get : List ℕ → Bool
-is_get method = bytes_eq method (codes "GET")
-
 -- trusted, RFC 9110, section 9.3.2: holds if `method` is HEAD
 abbrev pub is_head : List ℕ → Bool
 is_head method = bytes_eq method (codes "HEAD")
@@ -93,7 +89,7 @@ by_pairs table templates links ranges wish (Err error) = bad_request
 -- trusted, own: the answer to a request, by the first case that fits
 unfoldable pub answer_of : List AiRow → List Link → Settings → Asked → Answer
 answer_of table links settings asked =
-    if not (is_get asked.method || is_head asked.method) then not_allowed
+    if not (bytes_eq asked.method (codes "GET") || is_head asked.method) then not_allowed
     else if not (is_path asked.target) then bad_request
     else if is_description asked.target then describe settings.describe
     else by_pairs table settings.templates links (accepted_ranges asked.fields) (wish_of settings.voc asked) (target_answer table 0 asked.target)

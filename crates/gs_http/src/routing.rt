@@ -1,4 +1,4 @@
-ghost use Rattle.std.specs.Prelude.{◌≡◌, ◌≤◌, ◌<◌, ◌==◌, ◌||◌, ℕ, Bool, List, IfErr, IfOk, false, length};
+ghost use Rattle.std.specs.Prelude.{◌≡◌, ◌≤◌, ◌<◌, ◌==◌, ◌||◌, ℕ, Bool, List, IfErr, IfOk, false, length, bytes_eq, codes};
 ghost use Rattle.std.specs.Bool.{OnTrue};
 ghost use Rattle.gs_dlink.specs.Answers.{target_answer};
 ghost use Rattle.gs_http.specs.References.{reference_for};
@@ -9,7 +9,7 @@ ghost use Rattle.gs_links.specs.Languages.{narrowed};
 ghost use Rattle.gs_links.specs.declared.link.Link.{Link as Linked};
 ghost use Rattle.gs_links.specs.declared.link.Want.{Want as Wanted};
 ghost use Rattle.gs_http.specs.Answers.{answer_of, by_elements, by_pairs, by_relation, describe, redirect};
-ghost use Rattle.gs_http.specs.Answers.{is_description, is_get, is_head, sent_document};
+ghost use Rattle.gs_http.specs.Answers.{is_description, is_head, sent_document};
 ghost use Rattle.gs_http.specs.LanguageRanges.{accepted_ranges};
 ghost use Rattle.gs_http.specs.LentValues.{Gives, Refuses, asked_by, said, wished};
 ghost use Rattle.gs_http.specs.Lookups.{numbers_for};
@@ -40,7 +40,7 @@ pub(crate) fn is_head(method: &[u8]) -> bool
 
 /// Returns whether the method is allowed.
 fn is_allowed(method: &[u8]) -> bool
-    ensures { result ≡ (is_get method.now || is_head method.now) }
+    ensures { result ≡ (bytes_eq method.now (codes "GET") || is_head method.now) }
 {
     method == b"GET".as_slice() || is_head(method)
 }

@@ -8,7 +8,8 @@ use Rattle.std.proofs.lemmas.List.Elements.{All-head, All-tail}
 use Rattle.percent_encoding.specs.AsciiSet.{should_percent_encode}
 use Rattle.percent_encoding.specs.Percent.{percent_encode, percent_encode_byte, encode_byte}
 use Rattle.gs_ident.specs.declared.spelling.TheConstants.{ESCAPED}
-use Rattle.gs_ident.specs.Links.{is_letter, is_unescaped, escaped_byte, percent_escape, percent_encoded}
+use Rattle.gs_ident.specs.Links.{is_letter, is_unescaped, escaped_byte, percent_encoded}
+use Rattle.gs_chars.specs.Escapes.{hex_digit}
 
 table : agree_below (should_percent_encode ESCAPED) (λ c. not (is_unescaped c)) 256 ≡ true
 unfolding should_percent_encode is_unescaped
@@ -17,7 +18,7 @@ table = refl
 chosen : (c : ℕ) → c < 256 → should_percent_encode ESCAPED c ≡ not (is_unescaped c)
 chosen c h = agree_below_at (should_percent_encode ESCAPED) (λ c. not (is_unescaped c)) 256 c table h
 
-same_escape : (c : ℕ) → c < 256 → percent_encode_byte c ≡ percent_escape c
+same_escape : (c : ℕ) → c < 256 → percent_encode_byte c ≡ (37 ∷ hex_digit (c / 16) ∷ hex_digit (c % 16) ∷ [])
 unfolding percent_encode_byte
 same_escape c h = let e : c / 16 % 16 ≡ c / 16 = omega arith in rw e
 
@@ -26,7 +27,7 @@ same_choice e p true = refl
 same_choice e p false = refl
 
 same_byte : (c : ℕ) → c < 256 → encode_byte ESCAPED c ≡ escaped_byte c
-same_byte c h = rw (chosen c h, same_escape c h) (same_choice (percent_escape c) (c ∷ []) (is_unescaped c))
+same_byte c h = rw (chosen c h, same_escape c h) (same_choice (37 ∷ hex_digit (c / 16) ∷ hex_digit (c % 16) ∷ []) (c ∷ []) (is_unescaped c))
 
 or_second : (a b d : Bool) → b ≡ true → (a || b || d) ≡ true
 or_second true b d h = refl

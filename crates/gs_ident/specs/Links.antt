@@ -15,13 +15,9 @@ is_letter c = (nat_le 65 c && nat_le c 90) || (nat_le 97 c && nat_le c 122)
 unfoldable pub is_unescaped : ℕ → Bool
 is_unescaped c = is_letter c || is_digit c || list_any (λ x. x == c) (codes "-._")
 
--- trusted, own: the percent sign and the byte `c` in two upper-case hexadecimal digits: RFC 3986, section 2.1
-abbrev pub percent_escape : ℕ → List ℕ
-percent_escape c = 37 ∷ hex_digit (c / 16) ∷ hex_digit (c % 16) ∷ []
-
 -- trusted, own: the written form of a byte of a value
 abbrev pub escaped_byte : ℕ → List ℕ
-escaped_byte c = if is_unescaped c then c ∷ [] else percent_escape c
+escaped_byte c = if is_unescaped c then c ∷ [] else 37 ∷ hex_digit (c / 16) ∷ hex_digit (c % 16) ∷ []
 
 -- trusted, RFC 3986, sections 2.1 and 2.3: the written form of a value in a link
 unfoldable pub percent_encoded : List ℕ → List ℕ

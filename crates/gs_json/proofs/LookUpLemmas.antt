@@ -15,10 +15,10 @@ use Rattle.serde_json.specs.Find.{as_array, as_object, at, get, get_item, get_me
 use Rattle.serde_json.specs.View.{view, items_view, members_view}
 use Rattle.serde_json.specs.declared.value.Value.{Value as Tree}
 use Rattle.serde_json.proofs.Views.{get_item_within, items_len-items_view, member_later, view-lookup}
-use Rattle.gs_json.specs.Answers.{AscendByBytes, asked, count_of, items_count, names_of, names_of_members}
+use Rattle.gs_json.specs.Answers.{AscendByBytes, asked, items_count, names_of, names_of_members}
 
 -- the items of an array
-pub counted : (d : Data) (items : List Tree) → Some (items_view items) ≡ as_array d → count_of d ≡ Some (length items)
+pub counted : (d : Data) (items : List Tree) → Some (items_view items) ≡ as_array d → option_map items_len (as_array d) ≡ Some (length items)
 counted d items h = ap (option_map items_len) (sym h) ∙ ap Some (items_len-items_view items)
 
 pub count_is : (d : Data) (items : List Tree) → Some (items_view items) ≡ as_array d → items_count d ≡ length items

@@ -1,22 +1,17 @@
 -- The answers of look-ups, in `serde_json`'s words for the tree of a text. `Memory` may be returned instead of each.
-use Rattle.std.specs.Prelude.{ℕ, List, [], ◌∷◌, map, Option, Some, None, option_and_then, option_map, unwrap_or, Result, Ok, Err}
+use Rattle.std.specs.Prelude.{ℕ, List, [], ◌∷◌, map, Option, Some, None, option_map, unwrap_or, Result, Ok, Err}
 use Rattle.std.specs.Borrow.{Bor}
 use Rattle.std.specs.Cmp.Lexicographic.{slice_cmp}
 use Rattle.std.specs.List.Sorted.{IsStrictlySortedBy}
 use Rattle.std.specs.Ordering.{nat_cmp}
 use Rattle.serde_json.specs.Data.{Data, Members, no_members, member}
 use Rattle.serde_json.specs.Events.{items_len}
-use Rattle.serde_json.specs.Find.{as_array, as_number, as_object, as_u64, get_member}
+use Rattle.serde_json.specs.Find.{as_array, as_object, get_member}
 use Rattle.serde_json.specs.View.{view}
-use Rattle.gs_chars.specs.Answers.{OrError}
 use Rattle.gs_json.specs.Parts.{Part}
 use Rattle.gs_json.specs.Places.{member_place}
 use Rattle.gs_json.specs.declared.error.JsonFault.{JsonFault}
-use Rattle.gs_json.specs.declared.error.JsonFault.TheVariants.{Lacks, Kind, Memory}
-
--- trusted, own: holds if the result is `answer` or `Memory`
-abbrev pub OrMemory : {X : Type 0} → Result X JsonFault → Result X JsonFault → Type 0
-OrMemory result answer = OrError Memory result answer
+use Rattle.gs_json.specs.declared.error.JsonFault.TheVariants.{Lacks, Kind}
 
 -- trusted, own: the result with `f` of its value
 abbrev pub result_map : {X Y : Type 0} → (X → Y) → Result X JsonFault → Result Y JsonFault
@@ -50,17 +45,9 @@ must_be place (Err error) = Err error
 abbrev pub member_of : Part → List ℕ → Result (Data × List ℕ) JsonFault
 member_of part name = must_be (member_place part.place name) (maybe_of part name)
 
--- trusted, own: the number `d`, if it has only digits and is at most 2 ^ 64 - 1
-abbrev pub number_of : Data → Option ℕ
-number_of d = option_and_then as_u64 (as_number d)
-
--- trusted, own: the number of items of `d`, if it is an array
-abbrev pub count_of : Data → Option ℕ
-count_of d = option_map items_len (as_array d)
-
 -- trusted, own: the number of items of `d`, or 0 if it is not an array
 abbrev pub items_count : Data → ℕ
-items_count d = unwrap_or (count_of d) 0
+items_count d = unwrap_or (option_map items_len (as_array d)) 0
 
 -- trusted, own: the names of `members`, in ascending order
 abbrev pub names_of_members : Members → List (List ℕ)

@@ -1,16 +1,16 @@
 -- The errors of an object by a plan, in their order.
-use Rattle.std.specs.Prelude.{ℕ, Bool, not, if◌then◌else◌, List, [], ◌∷◌, ◌++◌, map, filter, Option, Some, None, is_some, Result}
+use Rattle.std.specs.Prelude.{ℕ, Bool, not, if◌then◌else◌, List, [], ◌∷◌, ◌++◌, map, filter, Option, Some, None, is_some, Result, option_and_then}
 use Rattle.std.specs.List.{enumerate_from, flat_map, list_any}
 use Rattle.std.specs.Str.{bytes_eq}
 use Rattle.serde_json.specs.Data.{Data, Items, no_items, item, Members}
-use Rattle.serde_json.specs.Find.{as_array, as_bool, as_object, as_str, get_member}
+use Rattle.serde_json.specs.Find.{as_array, as_bool, as_number, as_object, as_str, as_u64, get_member}
 use Rattle.serde_json.specs.View.{view}
-use Rattle.gs_chars.specs.Answers.{first_or}
-use Rattle.gs_json.specs.Answers.{OrMemory, names_of_members, number_of}
+use Rattle.gs_chars.specs.Answers.{first_or, OrError}
+use Rattle.gs_json.specs.Answers.{names_of_members}
 use Rattle.gs_json.specs.Parts.{Part}
 use Rattle.gs_json.specs.Places.{member_place, item_place}
 use Rattle.gs_json.specs.declared.error.JsonFault.{JsonFault}
-use Rattle.gs_json.specs.declared.error.JsonFault.TheVariants.{Lacks, Kind, Unknown}
+use Rattle.gs_json.specs.declared.error.JsonFault.TheVariants.{Lacks, Kind, Unknown, Memory}
 use Rattle.gs_json.specs.declared.plan.Entry.{Entry}
 use Rattle.gs_json.specs.declared.plan.Sort.{Sort}
 use Rattle.gs_json.specs.declared.plan.Sort.TheVariants.{Text, Number, Truth, Array, Texts, Arrays}
@@ -44,7 +44,7 @@ is_array d = is_some (as_array d)
 -- trusted, own: the errors of the value `d` at `place` by a sort
 abbrev pub sort_errors : List ℕ → Sort → Data → List JsonFault
 sort_errors place Text d = kind_errors place (is_text d)
-sort_errors place Number d = kind_errors place (is_some (number_of d))
+sort_errors place Number d = kind_errors place (is_some (option_and_then as_u64 (as_number d)))
 sort_errors place Truth d = kind_errors place (is_some (as_bool d))
 sort_errors place Array d = kind_errors place (is_array d)
 sort_errors place Texts d = items_errors place is_text (as_array d)
@@ -86,4 +86,4 @@ first_error errors = first_or errors tt
 
 -- trusted, own: holds if the result is the first of `errors`, or no error, or `Memory`
 abbrev pub IsFirst : Result Unit JsonFault → List JsonFault → Type 0
-IsFirst result errors = OrMemory result (first_error errors)
+IsFirst result errors = OrError Memory result (first_error errors)

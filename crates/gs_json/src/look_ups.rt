@@ -1,9 +1,9 @@
 ghost use Rattle.std.specs.Prelude.{◌≡◌, option_map, IfOk, IfSome, map};
-ghost use Rattle.serde_json.specs.Find.{get};
+ghost use Rattle.serde_json.specs.Find.{as_array, get};
 ghost use Rattle.serde_json.specs.View.{view};
-ghost use Rattle.gs_json.specs.Answers.{count_of};
 ghost use Rattle.gs_json.specs.Places.{member_place};
 ghost use Rattle.gs_json.specs.Members.{items_in, items_of, number_in, text_in, truth_in};
+ghost use Rattle.serde_json.specs.Events.{items_len};
 
 use crate::node::Node;
 use crate::place::Step;
@@ -41,7 +41,7 @@ impl<'a> Node<'a> {
 
     /// Returns the number of items, or `None` if this is not an array.
     pub fn items_len(&self) -> Option<usize>
-        ensures { result ≡ count_of (view self.now.tree) }
+        ensures { result ≡ option_map items_len (as_array (view self.now.tree)) }
     {
         match self.value.as_array() {
             Some(items) => Some(items.len()),

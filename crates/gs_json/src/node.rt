@@ -1,9 +1,11 @@
-ghost use Rattle.std.specs.Prelude.{◌≡◌, ◌<◌, map, Some, option_map, string_bytes, IfOk, IfErr};
-ghost use Rattle.serde_json.specs.Find.{as_array, as_bool, as_object, as_str, at};
+ghost use Rattle.std.specs.Prelude.{◌≡◌, ◌<◌, map, Some, option_map, string_bytes, IfOk, IfErr, option_and_then};
+ghost use Rattle.serde_json.specs.Find.{as_array, as_bool, as_number, as_object, as_str, as_u64, at};
 ghost use Rattle.serde_json.specs.View.{view};
 ghost use Rattle.std.specs.BTreeMap.{keys};
 ghost use Rattle.gs_json.specs.Answers.{AscendByBytes, names_lent};
 ghost use Rattle.gs_json.specs.Places.{item_place, member_place};
+ghost use Rattle.gs_chars.specs.Answers.{OrError};
+ghost use Rattle.serde_json.specs.Events.{items_len};
 
 use crate::error::JsonFault;
 use crate::place::{Place, Step};
@@ -38,7 +40,7 @@ impl<'a> Model for Node<'a> {
 }
 
 impl<'a> Node<'a> {
-    ghost use Rattle.gs_json.specs.Answers.{OrMemory, asked, count_of, items_count, maybe_of, member_of, names_at, number_of, result_map, seen};
+    ghost use Rattle.gs_json.specs.Answers.{asked, items_count, maybe_of, member_of, names_at, result_map, seen};
     ghost use Rattle.gs_json.specs.AnswersSupport.{IsError};
     ghost use Rattle.gs_json.specs.Shapes.{IsFirst, shape_errors};
     ghost use Rattle.std.specs.Prelude.{[]};
@@ -73,7 +75,7 @@ impl<'a> Node<'a> {
     /// Looks up the member of a name, which the object must have. Returns `Kind` if and only if this is not an object. Returns
     /// `Lacks` with the member's place if and only if the object has no such member. May return `Memory` instead.
     pub fn member(&self, alloc: Global, name: &str) -> Result<Node<'a>, JsonFault>
-        ensures { OrMemory (result_map seen result) (member_of self.now name.now) }
+        ensures { OrError JsonFault.Memory (result_map seen result) (member_of self.now name.now) }
     {
         match self.maybe(alloc, name)? {
             Some(node) => Ok(node),
@@ -84,7 +86,8 @@ impl<'a> Node<'a> {
     /// Looks up the member of a name. Returns `None` if the object has no such member, and `Kind` if and only if this is not an
     /// object. May return `Memory` instead.
     pub fn maybe(&self, alloc: Global, name: &str) -> Result<Option<Node<'a>>, JsonFault>
-        ensures { OrMemory (result_map (option_map seen) result) (maybe_of self.now name.now) }
+        ensures { OrError JsonFault.Memory (result_map (option_map seen) result)
+            (maybe_of self.now name.now) }
     {
         if self.value.is_object() {
             Ok(self.find(alloc, name)?)
@@ -95,7 +98,7 @@ impl<'a> Node<'a> {
 
     /// Returns the text, or `Kind` if this is not a text. May return `Memory` instead.
     pub fn text(&self, alloc: Global) -> Result<Text, JsonFault>
-        ensures { OrMemory result (asked self.now.place (as_str (view self.now.tree))) }
+        ensures { OrError JsonFault.Memory result (asked self.now.place (as_str (view self.now.tree))) }
     {
         match self.value.as_str() {
             Some(text) => Ok(Text::from_bytes(alloc, text.as_bytes())?),
@@ -106,7 +109,8 @@ impl<'a> Node<'a> {
     /// Returns the number, or `Kind` if this is not a number of only digits and at most 2^64 - 1. May return `Memory`
     /// instead of `Kind`.
     pub fn number(&self, alloc: Global) -> Result<u64, JsonFault>
-        ensures { OrMemory result (asked self.now.place (number_of (view self.now.tree))) }
+        ensures { OrError JsonFault.Memory result
+            (asked self.now.place (option_and_then as_u64 (as_number (view self.now.tree)))) }
     {
         match self.value.as_u64() {
             Some(number) => Ok(number),
@@ -116,7 +120,7 @@ impl<'a> Node<'a> {
 
     /// Returns the truth value, or `Kind` if this is not one. May return `Memory` instead of `Kind`.
     pub fn truth(&self, alloc: Global) -> Result<bool, JsonFault>
-        ensures { OrMemory result (asked self.now.place (as_bool (view self.now.tree))) }
+        ensures { OrError JsonFault.Memory result (asked self.now.place (as_bool (view self.now.tree))) }
     {
         match self.value.as_bool() {
             Some(truth) => Ok(truth),
@@ -126,7 +130,8 @@ impl<'a> Node<'a> {
 
     /// Returns the number of items, or `Kind` if this is not an array. May return `Memory` instead of `Kind`.
     pub fn count(&self, alloc: Global) -> Result<usize, JsonFault>
-        ensures answer { OrMemory result (asked self.now.place (count_of (view self.now.tree))) }
+        ensures answer { OrError JsonFault.Memory result
+            (asked self.now.place (option_map items_len (as_array (view self.now.tree)))) }
         ensures items { IfOk result (λ count. count ≡ items_count (view self.now.tree)) }
     {
         match self.items_len() {
@@ -156,7 +161,7 @@ impl<'a> Node<'a> {
     /// Returns the names of an object's members, which ascend strictly by their bytes. The document lends them. Returns
     /// `Kind` if and only if this is not an object. May return `Memory` instead.
     pub fn names(&self, alloc: Global) -> Result<List<&'a str>, JsonFault>
-        ensures answer { OrMemory (result_map names_lent result) (names_at self.now) }
+        ensures answer { OrError JsonFault.Memory (result_map names_lent result) (names_at self.now) }
         ensures ascending { IfOk result (λ names. AscendByBytes (names_lent names)) }
     {
         let value: &'a Value = self.value;

@@ -10,14 +10,14 @@ use Rattle.gs_ai.specs.Tables.{is_empty}
 use Rattle.gs_ai.specs.declared.pair.Pair.{Pair}
 use Rattle.gs_ai.specs.declared.row.AiRow.{AiRow}
 use Rattle.gs_chars.proofs.TruthsAndLists.{nil_parts, take_next}
-use Rattle.gs_chars.specs.Answers.{first_or}
+use Rattle.gs_chars.specs.Answers.{first_or, OrError}
 use Rattle.gs_dlink.specs.declared.error.LinkFault.{LinkFault}
 use Rattle.gs_ident.specs.Elements.{Elements}
 use Rattle.gs_ident.specs.Identities.{IsMadeWith, identity_of_pairs}
 use Rattle.gs_ident.specs.declared.errors.IdentFault.{IdentFault}
 use Rattle.gs_linkset.specs.declared.link_types.Context.{Context}
 use Rattle.gs_linkset.specs.declared.link_types.Relation.{Relation}
-use Rattle.gs_links.specs.Loads.{OrMemory, anchor_answer, bad_target, by_identity, by_pairs, context_errors, context_links, expanded, link_with, links_by, links_of, load_answer, pairs_answer, relation_errors, relation_links, relations_errors, store_errors, targets_count, without_attributes}
+use Rattle.gs_links.specs.Loads.{anchor_answer, bad_target, by_identity, by_pairs, context_errors, context_links, expanded, link_with, links_by, links_of, load_answer, pairs_answer, relation_errors, relation_links, relations_errors, store_errors, targets_count, without_attributes}
 use Rattle.gs_links.specs.LoadingSupport.{relations_count}
 use Rattle.gs_links.specs.declared.error.AnchorWhy.{AnchorWhy}
 use Rattle.gs_links.specs.declared.error.AnchorWhy.TheVariants.{Link as NoLink, Ident, Attributes}
@@ -121,15 +121,15 @@ module _ {A : Type 0} (errors : ℕ → A → List StoreFault) where
 
   -- the first error is that of an item
   pub error_at : {X Y : Type 0} (xs : List A) (i : ℕ) (x : A) (a : X) (b : Y) (e : StoreFault) → slice_get xs i ≡ Some x → NoneBefore xs i
-      → OrMemory (Err e) (first_or (errors i x) a) → OrMemory (Err e) (first_or (flat_map row_errors (enumerate_from 0 xs)) b)
+      → OrError Memory (Err e) (first_or (errors i x) a) → OrError Memory (Err e) (first_or (flat_map row_errors (enumerate_from 0 xs)) b)
   error_at xs i x a b e at none h =
       let parts = split 0 xs i x at none in
       let here : 0 + i ≡ i = omega arith in
       let whole = rw here at parts.1 in
       rw whole (in_front (errors i x) parts.0 a b e h)
     where
-      in_front : {X Y : Type 0} (own rest : List StoreFault) (a : X) (b : Y) (e : StoreFault) → OrMemory (Err e) (first_or own a)
-          → OrMemory (Err e) (first_or (own ++ rest) b)
+      in_front : {X Y : Type 0} (own rest : List StoreFault) (a : X) (b : Y) (e : StoreFault) → OrError Memory (Err e) (first_or own a)
+          → OrError Memory (Err e) (first_or (own ++ rest) b)
       in_front own rest a b e (inl m) = inl (let same : e ≡ Memory = cc in ap Err same)
       in_front [] rest a b e (inr h) = absurd (let g : Err e ≡ Ok a = h in cc)
       in_front (f ∷ own) rest a b e (inr h) = inr (let same : e ≡ f = cc in ap Err same)
@@ -162,19 +162,19 @@ no_error (f ∷ errors) x y h = absurd (let g : Ok y ≡ Err f = h in cc)
 -- ---- a context
 
 module _ (table : List AiRow) (i : ℕ) (context : Context) where
-  pub bad_anchor : (why : AnchorWhy) → Err why ≡ anchor_answer table context.anchor → OrMemory {X = Unit {0}} (Err (BadAnchor i why))
+  pub bad_anchor : (why : AnchorWhy) → Err why ≡ anchor_answer table context.anchor → OrError {X = Unit {0}} Memory (Err (BadAnchor i why))
       (first_or (context_errors table i context) tt)
   unfolding context_errors
   bad_anchor why h = rw (← h) (inr refl)
 
   pub bad_relations : (anchor : Elements) (e : StoreFault) → Ok anchor ≡ anchor_answer table context.anchor
-      → Err e ≡ first_or {X = Unit {0}} (relations_errors i context.relations) tt → OrMemory {X = Unit {0}} (Err e)
+      → Err e ≡ first_or {X = Unit {0}} (relations_errors i context.relations) tt → OrError {X = Unit {0}} Memory (Err e)
       (first_or (context_errors table i context) tt)
   unfolding context_errors
   bad_relations anchor e h own = rw (← h) (inr own)
 
   pub good_context : (anchor : Elements) → Ok anchor ≡ anchor_answer table context.anchor → relations_errors i context.relations ≡ []
-      → OrMemory {X = Unit {0}} (Ok tt) (first_or (context_errors table i context) tt)
+      → OrError {X = Unit {0}} Memory (Ok tt) (first_or (context_errors table i context) tt)
   unfolding context_errors
   good_context anchor h none = rw (← h, none) (inr refl)
 
@@ -186,7 +186,7 @@ links_are table voc context anchor h = rw (← h) refl
 -- ---- the store
 
 pub too_many : (table : List AiRow) (voc : List ℕ) (contexts : List Context) → true ≡ nat_lt 65536 (targets_count contexts)
-    → OrMemory {X = List Link} (Err TooMany) (load_answer table voc contexts)
+    → OrError {X = List Link} Memory (Err TooMany) (load_answer table voc contexts)
 unfolding load_answer store_errors
 too_many table voc contexts over = rw (← over) (inr refl)
 
@@ -237,34 +237,34 @@ module _ (table : List AiRow) (voc : List ℕ) (contexts : List Context) (i : �
     pub made : links ≡ flat_map (context_links table voc) (take i contexts)
 
   pub contexts_rejected : (links : List Link) (context : Context) (e : StoreFault) → Loaded links → slice_get contexts i ≡ Some context
-      → OrMemory {X = Unit {0}} (Err e) (first_or (context_errors table i context) tt) → OrMemory {X = List Link} (Err e)
+      → OrError {X = Unit {0}} Memory (Err e) (first_or (context_errors table i context) tt) → OrError {X = List Link} Memory (Err e)
       (by_contexts table voc contexts)
   contexts_rejected links context e so_far at h = error_at (context_errors table) contexts i context tt (links_of table voc contexts) e at so_far.none h
 
-  pub contexts_made : (links : List Link) → Loaded links → length contexts ≤ i → OrMemory {X = List Link} (Ok links) (by_contexts table voc contexts)
+  pub contexts_made : (links : List Link) → Loaded links → length contexts ≤ i → OrError {X = List Link} Memory (Ok links) (by_contexts table voc contexts)
   unfolding links_of
   contexts_made links so_far all =
       let none = none_all (context_errors table) contexts i all so_far.none in
       let made = rw (take_all i contexts all) at so_far.made in
       rw (none, made) (inr refl)
 
-made_by : {X : Type 0} (errors : List StoreFault) (x z : X) → OrMemory (Ok z) (first_or errors x) → z ≡ x
+made_by : {X : Type 0} (errors : List StoreFault) (x z : X) → OrError Memory (Ok z) (first_or errors x) → z ≡ x
 made_by errors x z (inl h) = absurd (let g : Ok z ≡ Err Memory = h in cc)
 made_by [] x z (inr h) = let g : Ok z ≡ Ok x = h in cc
 made_by (f ∷ errors) x z (inr h) = absurd (let g : Ok z ≡ Err f = h in cc)
 
 -- the answer that is made of one that is not an error
-pub stored : {X : Type 0} (r answer : Result X StoreFault) (x : X) → OrMemory r (Ok x) → OrMemory (Ok x) answer → OrMemory r answer
+pub stored : {X : Type 0} (r answer : Result X StoreFault) (x : X) → OrError Memory r (Ok x) → OrError Memory (Ok x) answer → OrError Memory r answer
 stored r answer x (inl h) own = inl h
 stored r answer x (inr h) own = rw h own
 
 -- the contexts of a linkset that has not too many targets
 module _ (table : List AiRow) (voc : List ℕ) (contexts : List Context) (few : nat_lt 65536 (targets_count contexts) ≡ false) where
-  pub store_answer : (r : Result (List Link) StoreFault) → OrMemory r (by_contexts table voc contexts) → OrMemory r (load_answer table voc contexts)
+  pub store_answer : (r : Result (List Link) StoreFault) → OrError Memory r (by_contexts table voc contexts) → OrError Memory r (load_answer table voc contexts)
   unfolding load_answer store_errors
   store_answer r h = rw few h
 
-  pub few_links : (links : List Link) → OrMemory {X = List Link} (Ok links) (by_contexts table voc contexts) → length links ≤ 65536
+  pub few_links : (links : List Link) → OrError {X = List Link} Memory (Ok links) (by_contexts table voc contexts) → length links ≤ 65536
   unfolding links_of
   few_links links h =
       let made = made_by (flat_map (λ row. context_errors table row.0 row.1) (enumerate_from 0 contexts)) (links_of table voc contexts) links h in
@@ -273,7 +273,7 @@ module _ (table : List AiRow) (voc : List ℕ) (contexts : List Context) (few : 
       rw made (omega (arith, low, high))
 
 pub loaded_more : (table : List AiRow) (voc : List ℕ) (contexts : List Context) (i : ℕ) (links more : List Link) (context : Context)
-    → Loaded table voc contexts i links → slice_get contexts i ≡ Some context → OrMemory {X = Unit {0}} (Ok tt)
+    → Loaded table voc contexts i links → slice_get contexts i ≡ Some context → OrError {X = Unit {0}} Memory (Ok tt)
     (first_or (context_errors table i context) tt) → more ≡ links ++ context_links table voc context → Loaded table voc contexts
     (i + 1) more
 loaded_more table voc contexts i links more context so_far at own e = record {
@@ -281,7 +281,7 @@ loaded_more table voc contexts i links more context so_far at own e = record {
   made = rw (e, so_far.made, take_next contexts i context at, flat_map-append (context_links table voc) (take i contexts) (context ∷ []), append-nil (context_links table voc context)) refl;
 }
   where
-    errorless : (errors : List StoreFault) → OrMemory {X = Unit {0}} (Ok tt) (first_or errors tt) → errors ≡ []
+    errorless : (errors : List StoreFault) → OrError {X = Unit {0}} Memory (Ok tt) (first_or errors tt) → errors ≡ []
     errorless [] h = refl
     errorless (f ∷ errors) (inl h) = absurd (let g : Ok tt ≡ Err Memory = h in cc)
     errorless (f ∷ errors) (inr h) = absurd (let g : Ok tt ≡ Err f = h in cc)

@@ -4,7 +4,7 @@ use Rattle.std.specs.Prelude.{ℕ, Bool, not, ◌&&◌, ◌==◌, nat_le, nat_lt
 use Rattle.std.specs.List.{enumerate_from, flat_map, list_all, starts_with}
 use Rattle.std.specs.Option.{option_map_or}
 use Rattle.gs_ai.specs.Tables.{is_empty}
-use Rattle.gs_chars.specs.Answers.{OrError, first_or}
+use Rattle.gs_chars.specs.Answers.{first_or}
 use Rattle.gs_chars.specs.Characters.{is_visible}
 use Rattle.gs_ai.specs.declared.pair.Pair.{Pair}
 use Rattle.gs_ai.specs.declared.row.AiRow.{AiRow}
@@ -21,7 +21,7 @@ use Rattle.gs_links.specs.Shapes.{most_links}
 use Rattle.gs_links.specs.declared.error.AnchorWhy.{AnchorWhy}
 use Rattle.gs_links.specs.declared.error.AnchorWhy.TheVariants.{Link as NoLink, Ident, Attributes}
 use Rattle.gs_links.specs.declared.error.StoreFault.{StoreFault}
-use Rattle.gs_links.specs.declared.error.StoreFault.TheVariants.{TooMany, BadAnchor, BadHref, Memory}
+use Rattle.gs_links.specs.declared.error.StoreFault.TheVariants.{TooMany, BadAnchor, BadHref}
 use Rattle.gs_links.specs.declared.link.Link.{Link}
 
 -- ---- anchors
@@ -132,10 +132,6 @@ abbrev pub has_link : Context → Bool
 has_link context = not (is_empty (links_of_context context))
 
 -- ---- the answer
-
--- trusted, own: holds if `result` is `answer` or the error `Memory`
-abbrev pub OrMemory : {X : Type 0} → Result X StoreFault → Result X StoreFault → Type 0
-OrMemory result answer = OrError Memory result answer
 
 -- trusted, own: the answer of a load: the first error, or the links
 unfoldable pub load_answer : List AiRow → List ℕ → List Context → Result (List Link) StoreFault

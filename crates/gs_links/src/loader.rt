@@ -4,11 +4,11 @@ ghost use Rattle.gs_linkset.specs.LinkShapes.{is_context};
 ghost use Rattle.gs_links.specs.Shapes.{is_link, most_links};
 ghost use Rattle.std.specs.List.{enumerate_from, flat_map, list_all};
 ghost use Rattle.gs_ident.specs.Identities.{IsMadeWith};
-ghost use Rattle.gs_links.specs.Loads.{OrMemory, anchor_answer, context_errors, context_links, is_reference, link_with};
+ghost use Rattle.gs_links.specs.Loads.{anchor_answer, context_errors, context_links, is_reference, link_with};
 ghost use Rattle.gs_links.specs.Loads.{links_of, relation_links, relations_errors, targets_count, expanded};
 ghost use Rattle.gs_links.specs.Loads.{keeps_names};
 ghost use Rattle.gs_links.specs.LoadingSupport.{IsRejection, relations_count};
-ghost use Rattle.gs_chars.specs.Answers.{first_or};
+ghost use Rattle.gs_chars.specs.Answers.{first_or, OrError};
 ghost use Rattle.gs_chars.specs.Characters.{is_visible};
 
 use crate::anchors::read_anchor;
@@ -145,7 +145,7 @@ fn push_context(
 ) -> Result<(), StoreFault>
     requires voc { list_all is_visible voc.now ≡ true }
     requires shape { is_context context ≡ true }
-    ensures answer { OrMemory result (first_or (context_errors table.now i context) tt) }
+    ensures answer { OrError StoreFault.Memory result (first_or (context_errors table.now i context) tt) }
     ensures links { IfOk result (λ _. links.new.items
         ≡ links.old.items ++ context_links table.now voc.now context) }
     ensures shape { IfOk result (λ _. list_all is_link (context_links table.now voc.now context) ≡ true) }
@@ -166,7 +166,7 @@ pub(crate) fn links_of(
 ) -> Result<List<Link>, StoreFault>
     requires voc { list_all is_visible voc.now ≡ true }
     requires shape { list_all is_context contexts ≡ true }
-    ensures answer { OrMemory result
+    ensures answer { OrError StoreFault.Memory result
         (first_or (flat_map (λ row. context_errors table.now row.0 row.1) (enumerate_from 0 contexts))
         (links_of table.now voc.now contexts)) }
     ensures shape { IfOk result (λ links. list_all is_link links ≡ true) }

@@ -11,17 +11,17 @@ use Rattle.serde_json.specs.Data.{Data, null, boolean, number, string, array, ob
 use Rattle.serde_json.specs.Find.{as_object, get_member}
 use Rattle.serde_json.specs.Read.{read as read_text}
 use Rattle.serde_json.proofs.Views.{get_member-put, get_member-put_other}
-use Rattle.gs_json.specs.Answers.{OrMemory}
 use Rattle.gs_json.specs.Members.{array_in, document_of}
 use Rattle.gs_json.specs.Shapes.{items_list}
 use Rattle.gs_json.specs.declared.error.JsonFault.{JsonFault}
-use Rattle.gs_json.specs.declared.error.JsonFault.TheVariants.{Kind, Lacks, Syntax}
+use Rattle.gs_json.specs.declared.error.JsonFault.TheVariants.{Kind, Lacks, Syntax, Memory}
 use Rattle.gs_linkset.specs.Answers.{document_answer, read_answer}
 use Rattle.gs_linkset.specs.AnswersSupport.{contexts_answer, linkset_answer, linkset_place}
 use Rattle.gs_linkset.specs.Documents.{contexts_of, document_errors}
 use Rattle.gs_linkset.specs.LinkShapes.{is_context}
 use Rattle.gs_linkset.specs.Tokens.{IsAnswer}
 use Rattle.gs_linkset.specs.declared.link_types.Context.{Context}
+use Rattle.gs_chars.specs.Answers.{OrError}
 
 -- ---- the root is an object
 
@@ -60,7 +60,7 @@ kept answer name d ms other h =
 
 -- a `linkset` replaces an earlier one
 pub replaced : (answer : Result (List Context) JsonFault) (name : List ℕ) (d : Data) (ms : Members) → bytes_eq name (codes "linkset") ≡ true
-    → OrMemory answer (linkset_answer d) → IfOk answer (λ contexts. list_all is_context contexts ≡ true) → IsAnswer answer (put name d ms)
+    → OrError Memory answer (linkset_answer d) → IfOk answer (λ contexts. list_all is_context contexts ≡ true) → IsAnswer answer (put name d ms)
 replaced answer name d ms own h shape =
     let same : name ≡ codes "linkset" = (bytes_eq-Decides name (codes "linkset")).0 own in
     let found = by_value (put name d ms) (Some d) (rw same (get_member-put (codes "linkset") d ms)) in
@@ -76,19 +76,19 @@ pub no_linkset : (d : Data) → array_in d ≡ None → linkset_answer d ≡ Err
 unfolding linkset_answer
 no_linkset d e = rw e refl
 
-pub linkset_is : (items : Items) (r : Result (List Context) JsonFault) → OrMemory r (contexts_answer (items_list items))
-    → OrMemory r (linkset_answer (array items))
+pub linkset_is : (items : Items) (r : Result (List Context) JsonFault) → OrError Memory r (contexts_answer (items_list items))
+    → OrError Memory r (linkset_answer (array items))
 unfolding linkset_answer
 linkset_is items r h = h
 
 -- ---- the bytes of a document
 
 pub text_answer : (bytes : List ℕ) (r : Result (List Context) JsonFault) → IsUtf8 bytes
-    → OrMemory r (option_map_or document_answer (read_text bytes) (Err Syntax)) → OrMemory r (read_answer bytes)
+    → OrError Memory r (option_map_or document_answer (read_text bytes) (Err Syntax)) → OrError Memory r (read_answer bytes)
 unfolding read_answer document_of
 text_answer bytes r text h = rw (is_utf8-from_IsUtf8 bytes text) h
 
-pub no_text : (bytes : List ℕ) → (IsUtf8 bytes → ⊥) → OrMemory {X = List Context} (Err Syntax) (read_answer bytes)
+pub no_text : (bytes : List ℕ) → (IsUtf8 bytes → ⊥) → OrError {X = List Context} Memory (Err Syntax) (read_answer bytes)
 unfolding read_answer document_of
 no_text bytes none = elim (true_or_false (is_utf8 bytes)) [
   | inl t ↦ absurd (none (IsUtf8-from_is_utf8 bytes t))

@@ -5,13 +5,14 @@ use Rattle.serde_json.specs.View.{items_view, view}
 use Rattle.serde_json.specs.declared.value.Value.{Value as Tree}
 use Rattle.serde_json.specs.Data.{Data, null, boolean, number, string, array, object}
 use Rattle.serde_json.specs.Find.{as_array}
-use Rattle.gs_json.specs.Answers.{count_of}
 use Rattle.gs_json.specs.Members.{array_in, items_of}
 use Rattle.gs_json.proofs.ArrayItems.{listed}
 use Rattle.gs_linkset.specs.Attributes.{every}
+use Rattle.std.specs.Prelude.{option_map}
+use Rattle.serde_json.specs.Events.{items_len}
 
 -- an array has as many items as it says
-pub is_array : (d : Data) (n : ℕ) → Some n ≡ count_of d → array_in d ≡ Some (items_of d)
+pub is_array : (d : Data) (n : ℕ) → Some n ≡ option_map items_len (as_array d) → array_in d ≡ Some (items_of d)
 is_array null n h = absurd (cc)
 is_array (boolean b) n h = absurd (cc)
 is_array (number m) n h = absurd (cc)

@@ -11,15 +11,14 @@ use Rattle.gs_json.specs.declared.error.JsonFault.{JsonFault}
 use Rattle.gs_json.specs.declared.error.JsonFault.TheVariants.{Memory}
 use Rattle.gs_json.specs.declared.plan.Sort.TheVariants.{Text}
 use Rattle.gs_json.specs.Members.{items_of, text_in}
-use Rattle.gs_chars.specs.Answers.{first_or}
+use Rattle.gs_chars.specs.Answers.{first_or, OrError}
 use Rattle.gs_linkset.specs.AnswersSupport.{ItemAnswer, member_answer, text_answer}
 use Rattle.std.specs.Str.{bytes_eq, is_utf8}
 use Rattle.serde_json.specs.Data.{Data}
 use Rattle.serde_json.specs.Find.{get}
 use Rattle.gs_linkset.specs.Attributes.{every}
-use Rattle.gs_json.specs.Answers.{OrMemory}
 use Rattle.gs_json.specs.Places.{item_place, member_place}
-use Rattle.gs_linkset.specs.Documents.{member_errors, attr_of, attr_with, item_errors, relation_errors, relation_of, names_in, target_errors, target_of, targets_at}
+use Rattle.gs_linkset.specs.Documents.{member_errors, attr_of, item_errors, relation_errors, relation_of, names_in, target_errors, target_of, targets_at}
 use Rattle.gs_json.proofs.ArrayItems.{items_at}
 use Rattle.gs_linkset.specs.LinkShapes.{ascend, is_attr, is_context, is_relation, is_target, is_value}
 use Rattle.gs_linkset.specs.declared.link_types.Attr.{Attr}
@@ -29,25 +28,25 @@ use Rattle.gs_linkset.specs.declared.link_types.Target.{Target}
 
 -- ---- the first error
 
-pub error_in_front : {X Y : Type 0} (a b : List JsonFault) (x : X) (y : Y) (e : JsonFault) → OrMemory (Err e) (first_or a x)
-    → OrMemory (Err e) (first_or (a ++ b) y)
+pub error_in_front : {X Y : Type 0} (a b : List JsonFault) (x : X) (y : Y) (e : JsonFault) → OrError Memory (Err e) (first_or a x)
+    → OrError Memory (Err e) (first_or (a ++ b) y)
 error_in_front a b x y e (inl h) = inl (let same : e ≡ Memory = cc in ap Err same)
 error_in_front [] b x y e (inr h) = absurd (let g : Err e ≡ Ok x = h in cc)
 error_in_front (f ∷ a) b x y e (inr h) = inr (let same : e ≡ f = cc in ap Err same)
 
 -- the facts that a reading without error gives
-pub none_first : {X : Type 0} (a : List JsonFault) (x z : X) → OrMemory (Ok z) (first_or a x) → (a ≡ []) × (z ≡ x)
+pub none_first : {X : Type 0} (a : List JsonFault) (x z : X) → OrError Memory (Ok z) (first_or a x) → (a ≡ []) × (z ≡ x)
 none_first a x z (inl h) = absurd (let g : Ok z ≡ Err Memory = h in cc)
 none_first [] x z (inr h) = (refl, let g : Ok z ≡ Ok x = h in cc)
 none_first (f ∷ a) x z (inr h) = absurd (let g : Ok z ≡ Err f = h in cc)
 
 -- the same error, whatever would be read
-pub same_error : {X Y : Type 0} (a : List JsonFault) (x : X) (y : Y) (e : JsonFault) → OrMemory (Err e) (first_or a x) → OrMemory (Err e) (first_or a y)
+pub same_error : {X Y : Type 0} (a : List JsonFault) (x : X) (y : Y) (e : JsonFault) → OrError Memory (Err e) (first_or a x) → OrError Memory (Err e) (first_or a y)
 same_error a x y e (inl h) = inl (let same : e ≡ Memory = cc in ap Err same)
 same_error [] x y e (inr h) = absurd (let g : Err e ≡ Ok x = h in cc)
 same_error (f ∷ a) x y e (inr h) = inr (let same : e ≡ f = cc in ap Err same)
 
-pub all_read : {X : Type 0} (a : List JsonFault) (x z : X) → a ≡ [] → z ≡ x → OrMemory (Ok z) (first_or a x)
+pub all_read : {X : Type 0} (a : List JsonFault) (x z : X) → a ≡ [] → z ≡ x → OrError Memory (Ok z) (first_or a x)
 all_read a x z none e = rw (none, e) (inr refl)
 
 -- ---- the first items
@@ -111,7 +110,7 @@ module _ {A : Type 0} (errors : A → List JsonFault) where
 
   -- the first error is that of the item at a place
   pub error_at : {X Y : Type 0} (list : List A) (i : ℕ) (a : A) (x : X) (y : Y) (e : JsonFault) → slice_get list i ≡ Some a
-      → flat_map errors (take i list) ≡ [] → OrMemory (Err e) (first_or (errors a) x) → OrMemory (Err e) (first_or (flat_map errors list) y)
+      → flat_map errors (take i list) ≡ [] → OrError Memory (Err e) (first_or (errors a) x) → OrError Memory (Err e) (first_or (flat_map errors list) y)
   error_at list i a x y e at none h =
       let parts = split list i a at none in
       rw parts.1 (error_in_front (errors a) parts.0 x y e h)
@@ -161,7 +160,7 @@ module _ {A X : Type 0} (h : A → Option X) where
 -- ---- attributes and relations have their shape
 
 pub attr_shaped : (name : List ℕ) (value : AttrValue) → bytes_eq name (codes "href") ≡ false → is_utf8 name ≡ true
-    → is_value name value ≡ true → is_attr (attr_with name value) ≡ true
+    → is_value name value ≡ true → is_attr (record { name = name; value = value }) ≡ true
 unfolding is_attr
 attr_shaped name value a b c = rw (a, b, c) refl
 
@@ -182,17 +181,17 @@ module _ {Y : Type 0} (errors : List ℕ → Data → List JsonFault) (made : Da
     pub read_as : read ≡ map made (take i items)
 
   pub item_error : (read : List Y) (i : ℕ) (d : Data) (e : JsonFault) → SoFar read i → slice_get items i ≡ Some d
-      → OrMemory (Err e) (first_or (errors (item_place place i) d) (made d))
-      → OrMemory (Err e) (first_or (item_errors errors place items) (map made items))
+      → OrError Memory (Err e) (first_or (errors (item_place place i) d) (made d))
+      → OrError Memory (Err e) (first_or (item_errors errors place items) (map made items))
   item_error read i d e so_far at h = error_at row_errors (enumerate_from 0 items) i (i, d) (made d) (map made items) e (row_at items i d at) so_far.none h
 
   pub item_read : (read : List Y) (i : ℕ) (d : Data) (y : Y) (more : List Y) → SoFar read i → slice_get items i ≡ Some d
-      → OrMemory (Ok y) (first_or (errors (item_place place i) d) (made d)) → more ≡ read ++ y ∷ [] → SoFar more (i + 1)
+      → OrError Memory (Ok y) (first_or (errors (item_place place i) d) (made d)) → more ≡ read ++ y ∷ [] → SoFar more (i + 1)
   item_read read i d y more so_far at h e =
       let own = none_first (errors (item_place place i) d) (made d) y h in
       record { none = none_more row_errors (enumerate_from 0 items) i (i, d) (row_at items i d at) so_far.none own.0; read_as = mapped_more made items i d read y more at so_far.read_as own.1 e }
 
-  pub items_read : (read : List Y) (i : ℕ) → SoFar read i → length items ≤ i → OrMemory (Ok read) (first_or (item_errors errors place items) (map made items))
+  pub items_read : (read : List Y) (i : ℕ) → SoFar read i → length items ≤ i → OrError Memory (Ok read) (first_or (item_errors errors place items) (map made items))
   items_read read i so_far all =
       let few : length (enumerate_from 0 items) ≤ i = rw (length-enumerate_from 0 items) all in
       all_read (item_errors errors place items) (map made items) read (none_all row_errors (enumerate_from 0 items) i few so_far.none)
@@ -205,7 +204,7 @@ module _ {Y : Type 0} (errors : List ℕ → Data → List JsonFault) (made : Da
 
   pub array_error : (read : List Y) (i : ℕ) (e : JsonFault) → SoFar errors made place (items_of whole) read i
       → ItemAnswer answer_at place i whole (Err e)
-      → OrMemory (Err e) (first_or (item_errors errors place (items_of whole)) (map made (items_of whole)))
+      → OrError Memory (Err e) (first_or (item_errors errors place (items_of whole)) (map made (items_of whole)))
   array_error read i e so_far (inl h) = inl (let same : e ≡ Memory = cc in ap Err same)
   array_error read i e so_far (inr p) = item_error errors made place (items_of whole) read i p.0 e so_far (items_at whole i ∙ sym p.1) p.2
 
@@ -223,12 +222,12 @@ module _ {X : Type 0} (errors : List ℕ → List JsonFault) (made : List ℕ �
     pub shaped : list_all shape read ≡ true
 
   pub member_error : (read : List X) (i : ℕ) (name : List ℕ) (e : JsonFault) (all : List (List ℕ)) → names ≡ all → Found read i
-      → slice_get names i ≡ Some name → OrMemory (Err e) (first_or (errors name) (made name))
-      → OrMemory (Err e) (first_or (flat_map errors all) (filter_map made all))
+      → slice_get names i ≡ Some name → OrError Memory (Err e) (first_or (errors name) (made name))
+      → OrError Memory (Err e) (first_or (flat_map errors all) (filter_map made all))
   member_error read i name e all same so_far at h = rw (← same) (error_at errors names i name (made name) (filter_map made names) e at so_far.none h)
 
   pub member_kept : (read : List X) (i : ℕ) (name : List ℕ) (r : Option X) (more : List X) → Found read i → slice_get names i ≡ Some name
-      → OrMemory (Ok r) (first_or (errors name) (made name)) → IfSome r (λ x. shape x ≡ true) → more ≡ read ++ cons_option r []
+      → OrError Memory (Ok r) (first_or (errors name) (made name)) → IfSome r (λ x. shape x ≡ true) → more ≡ read ++ cons_option r []
       → Found more (i + 1)
   member_kept read i name r more so_far at h own_shape e =
       let own = none_first (errors name) (made name) r h in
@@ -239,24 +238,24 @@ module _ {X : Type 0} (errors : List ℕ → List JsonFault) (made : List ℕ �
       }
 
   pub members_read : (read : List X) (i : ℕ) (all : List (List ℕ)) → names ≡ all → Found read i → length names ≤ i
-      → OrMemory (Ok read) (first_or (flat_map errors all) (filter_map made all))
+      → OrError Memory (Ok read) (first_or (flat_map errors all) (filter_map made all))
   members_read read i all same so_far few =
       rw (← same) (all_read (flat_map errors names) (filter_map made names) read (none_all errors names i few so_far.none) (rw (take_all i names few) at so_far.kept))
 
 -- ---- the relation of a name
 
 module _ (place : List ℕ) (d : Data) (name : List ℕ) where
-  pub anchor_left_out : true ≡ bytes_eq name (codes "anchor") → OrMemory (Ok None) (first_or (relation_errors place d name) (relation_of d name))
+  pub anchor_left_out : true ≡ bytes_eq name (codes "anchor") → OrError Memory (Ok None) (first_or (relation_errors place d name) (relation_of d name))
   unfolding relation_errors relation_of targets_at
   anchor_left_out h = rw (← h) (inr refl)
 
-  pub no_member : bytes_eq name (codes "anchor") ≡ false → None ≡ get name d → OrMemory (Ok None) (first_or (relation_errors place d name) (relation_of d name))
+  pub no_member : bytes_eq name (codes "anchor") ≡ false → None ≡ get name d → OrError Memory (Ok None) (first_or (relation_errors place d name) (relation_of d name))
   unfolding relation_errors relation_of targets_at
   no_member other h = rw (other, ← h) (inr refl)
 
   pub by_member : (e : Data) (r : Result (Option Relation) JsonFault) → bytes_eq name (codes "anchor") ≡ false → Some e ≡ get name d
-      → OrMemory r (member_answer name (member_place place name) e)
-      → OrMemory r (first_or (relation_errors place d name) (relation_of d name))
+      → OrError Memory r (member_answer name (member_place place name) e)
+      → OrError Memory r (first_or (relation_errors place d name) (relation_of d name))
   unfolding relation_errors relation_of targets_at
   by_member e r other h answer = rw (other, ← h) answer
 
@@ -273,17 +272,17 @@ module _ (place : List ℕ) (d : Data) where
   abbrev target_known : Result Target JsonFault
   target_known = first_or (target_errors place d) (target_of d)
 
-  pub no_href : (e : JsonFault) → OrMemory (Err e) (text_answer (codes "href") place d) → OrMemory (Err e) target_known
+  pub no_href : (e : JsonFault) → OrError Memory (Err e) (text_answer (codes "href") place d) → OrError Memory (Err e) target_known
   unfolding target_errors
   no_href e h = same_error (member_errors Text (codes "href") place d) (text_in (codes "href") d) (target_of d) e h
 
-  pub attrs_rejected : {X : Type 0} (x : X) (e : JsonFault) → OrMemory (Err e) (first_or (flat_map none_of (names_in d)) x) → OrMemory (Err e) target_known
+  pub attrs_rejected : {X : Type 0} (x : X) (e : JsonFault) → OrError Memory (Err e) (first_or (flat_map none_of (names_in d)) x) → OrError Memory (Err e) target_known
   attrs_rejected x e (inl h) = inl (let same : e ≡ Memory = cc in ap Err same)
   attrs_rejected x e (inr h) = absurd (let g = rw (no_errors (names_in d)) at h in let bad : Err e ≡ Ok x = g in cc)
 
-  pub target_read : (href : List ℕ) (attrs : List Attr) → OrMemory (Ok href) (text_answer (codes "href") place d)
-      → OrMemory (Ok attrs) (first_or (flat_map none_of (names_in d)) (filter_map (attr_of d) (names_in d)))
-      → OrMemory (Ok (record { href = href; attrs = attrs })) target_known
+  pub target_read : (href : List ℕ) (attrs : List Attr) → OrError Memory (Ok href) (text_answer (codes "href") place d)
+      → OrError Memory (Ok attrs) (first_or (flat_map none_of (names_in d)) (filter_map (attr_of d) (names_in d)))
+      → OrError Memory (Ok (record { href = href; attrs = attrs })) target_known
   unfolding target_errors target_of
   target_read href attrs h g =
       let own = none_first (member_errors Text (codes "href") place d) (text_in (codes "href") d) href h in

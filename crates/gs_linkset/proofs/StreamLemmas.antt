@@ -12,14 +12,13 @@ use Rattle.json.proofs.Grammar.{read_key-shorter, value_is}
 use Rattle.serde_json.specs.Data.{Data, number, array, object, Items, no_items, item, Members, no_members, put}
 use Rattle.serde_json.specs.Find.{as_object}
 use Rattle.serde_json.specs.Read.{converted, number_of, of_items, of_json, of_members, read as read_text}
-use Rattle.gs_chars.specs.Answers.{first_or}
-use Rattle.gs_json.specs.Answers.{OrMemory}
+use Rattle.gs_chars.specs.Answers.{first_or, OrError}
 use Rattle.gs_json.specs.Members.{array_in}
 use Rattle.gs_json.specs.Places.{item_place}
 use Rattle.gs_json.specs.Shapes.{items_list}
 use Rattle.gs_json.specs.declared.error.JsonFault.{JsonFault}
 use Rattle.gs_json.proofs.ValueLoops.{converted-array, converted-object, converted_some, item_read, item_refused, items_over, key_refused, member_read, member_refused, members_over, array_opened, object_opened}
-use Rattle.gs_json.specs.declared.error.JsonFault.TheVariants.{Kind, Syntax}
+use Rattle.gs_json.specs.declared.error.JsonFault.TheVariants.{Kind, Syntax, Memory}
 use Rattle.gs_linkset.specs.Answers.{document_answer}
 use Rattle.gs_linkset.specs.AnswersSupport.{contexts_answer, linkset_answer, linkset_place}
 use Rattle.gs_linkset.specs.Documents.{context_errors, context_of, item_errors}
@@ -53,15 +52,15 @@ module _ (errors : List ℕ → Data → List JsonFault) (place : List ℕ) (d :
 
 module _ (items : List Data) (d : Data) where
   -- after an error the first one stays
-  pub error_stays : (e : JsonFault) → OrMemory (Err e) (contexts_answer items) → OrMemory (Err e) (contexts_answer (items ++ d ∷ []))
+  pub error_stays : (e : JsonFault) → OrError Memory (Err e) (contexts_answer items) → OrError Memory (Err e) (contexts_answer (items ++ d ∷ []))
   unfolding contexts_answer
   error_stays e h = rw (errors_more context_errors linkset_place d items) (error_in_front (item_errors context_errors linkset_place items) _ _ _ e h)
 
-  module _ (read : List Context) (so_far : OrMemory (Ok read) (contexts_answer items)) where
+  module _ (read : List Context) (so_far : OrError Memory (Ok read) (contexts_answer items)) where
     -- the next item's error is the first
     pub error_comes : (e : JsonFault)
-        → OrMemory (Err e) (first_or (context_errors (item_place linkset_place (length read)) d) (context_of d))
-        → OrMemory (Err e) (contexts_answer (items ++ d ∷ []))
+        → OrError Memory (Err e) (first_or (context_errors (item_place linkset_place (length read)) d) (context_of d))
+        → OrError Memory (Err e) (contexts_answer (items ++ d ∷ []))
     unfolding contexts_answer
     error_comes e h =
         let known = none_first _ _ read so_far in
@@ -69,9 +68,9 @@ module _ (items : List Data) (d : Data) where
         rw (errors_more context_errors linkset_place d items, known.0) (same_error _ _ _ e (rw count at h))
 
     pub context_more : (context : Context) (more : List Context)
-        → OrMemory (Ok context) (first_or (context_errors (item_place linkset_place (length read)) d) (context_of d))
+        → OrError Memory (Ok context) (first_or (context_errors (item_place linkset_place (length read)) d) (context_of d))
         → more ≡ read ++ context ∷ []
-        → OrMemory (Ok more) (contexts_answer (items ++ d ∷ []))
+        → OrError Memory (Ok more) (contexts_answer (items ++ d ∷ []))
     unfolding contexts_answer
     context_more context more h e =
         let known = none_first _ _ read so_far in
@@ -80,33 +79,33 @@ module _ (items : List Data) (d : Data) where
         rw (errors_more context_errors linkset_place d items, known.0, own.0, e, own.1, known.1, map-append) (inr refl)
 
 module _ (fault : Option JsonFault) (read : List Context) (items : List Data) (d : Data)
-    (so_far : OrMemory (first_or (option_to_list fault) read) (contexts_answer items)) where
-  pub stays : true ≡ is_some fault → OrMemory (first_or (option_to_list fault) read) (contexts_answer (items ++ d ∷ []))
+    (so_far : OrError Memory (first_or (option_to_list fault) read) (contexts_answer items)) where
+  pub stays : true ≡ is_some fault → OrError Memory (first_or (option_to_list fault) read) (contexts_answer (items ++ d ∷ []))
   stays h = by fault h so_far
     where
-      by : (f : Option JsonFault) → true ≡ is_some f → OrMemory (first_or (option_to_list f) read) (contexts_answer items)
-          → OrMemory (first_or (option_to_list f) read) (contexts_answer (items ++ d ∷ []))
+      by : (f : Option JsonFault) → true ≡ is_some f → OrError Memory (first_or (option_to_list f) read) (contexts_answer items)
+          → OrError Memory (first_or (option_to_list f) read) (contexts_answer (items ++ d ∷ []))
       by None h so_far = absurd (let g : true ≡ false = h in cc)
       by (Some e) h so_far = error_stays items d e so_far
 
   pub failed : (e : JsonFault) → false ≡ is_some fault
-      → OrMemory (Err e) (first_or (context_errors (item_place linkset_place (length read)) d) (context_of d))
-      → OrMemory (Err e) (contexts_answer (items ++ d ∷ []))
+      → OrError Memory (Err e) (first_or (context_errors (item_place linkset_place (length read)) d) (context_of d))
+      → OrError Memory (Err e) (contexts_answer (items ++ d ∷ []))
   failed e h own = by fault h so_far
     where
-      by : (f : Option JsonFault) → false ≡ is_some f → OrMemory (first_or (option_to_list f) read) (contexts_answer items)
-          → OrMemory (Err e) (contexts_answer (items ++ d ∷ []))
+      by : (f : Option JsonFault) → false ≡ is_some f → OrError Memory (first_or (option_to_list f) read) (contexts_answer items)
+          → OrError Memory (Err e) (contexts_answer (items ++ d ∷ []))
       by None h so_far = error_comes items d read so_far e own
       by (Some _) h so_far = absurd (let g : false ≡ true = h in cc)
 
   pub added : (context : Context) (more : List Context) → false ≡ is_some fault
-      → OrMemory (Ok context) (first_or (context_errors (item_place linkset_place (length read)) d) (context_of d))
+      → OrError Memory (Ok context) (first_or (context_errors (item_place linkset_place (length read)) d) (context_of d))
       → more ≡ read ++ context ∷ []
-      → OrMemory (first_or (option_to_list fault) more) (contexts_answer (items ++ d ∷ []))
+      → OrError Memory (first_or (option_to_list fault) more) (contexts_answer (items ++ d ∷ []))
   added context more h own e = by fault h so_far
     where
-      by : (f : Option JsonFault) → false ≡ is_some f → OrMemory (first_or (option_to_list f) read) (contexts_answer items)
-          → OrMemory (first_or (option_to_list f) more) (contexts_answer (items ++ d ∷ []))
+      by : (f : Option JsonFault) → false ≡ is_some f → OrError Memory (first_or (option_to_list f) read) (contexts_answer items)
+          → OrError Memory (first_or (option_to_list f) more) (contexts_answer (items ++ d ∷ []))
       by None h so_far = context_more items d read so_far context more own e
       by (Some _) h so_far = absurd (let g : false ≡ true = h in cc)
 
@@ -116,7 +115,7 @@ done (Ok u) h f = f h
 done (Err e) h f = tt
 
 -- no item has no error
-pub none_read : OrMemory (Ok []) (contexts_answer [])
+pub none_read : OrError Memory (Ok []) (contexts_answer [])
 unfolding contexts_answer
 none_read = inr refl
 
@@ -176,7 +175,7 @@ module _ (depth : ℕ) (initial ts r : List Token) (old : Contexts) (so_far : It
 
   pub items_end : (answer : Result (List Context) JsonFault) → after_end_array ts ≡ Some r
       → answer ≡ first_or (option_to_list old.fault) old.read.items
-      → Begins (items_from depth initial) (λ items. OrMemory answer (contexts_answer (items_list items))) r
+      → Begins (items_from depth initial) (λ items. OrError Memory answer (contexts_answer (items_list items))) r
   items_end answer end e = record {
     first = before so_far.found no_items;
     is = so_far.as_whole ∙ ap (parse_map (before so_far.found)) (items_over (value depth) so_far.turns ts r so_far.enough end);
@@ -304,8 +303,8 @@ object_token Token.bad e = absurd (let g : false ≡ true = e in cc)
 
 module _ (depth : ℕ) (t : Token) (ts r : List Token) (some : 0 < depth) where
   pub array_read : opens_array t ≡ true → (answer : Result (List Context) JsonFault)
-      → Begins (items_from (depth - 1) ts) (λ items. OrMemory answer (contexts_answer (items_list items))) r
-      → Begins (value_from depth (t ∷ ts)) (λ d. OrMemory answer (linkset_answer d)) r
+      → Begins (items_from (depth - 1) ts) (λ items. OrError Memory answer (contexts_answer (items_list items))) r
+      → Begins (value_from depth (t ∷ ts)) (λ d. OrError Memory answer (linkset_answer d)) r
   array_read e answer h = record {
     first = array h.first;
     is = array_opened depth (t ∷ ts) ts (ap (λ k. k ∷ ts) (array_token t e)) some ∙ ap (parse_map array) h.is;
@@ -316,7 +315,7 @@ module _ (depth : ℕ) (t : Token) (ts r : List Token) (some : 0 < depth) where
   array_refused e h = array_opened depth (t ∷ ts) ts (ap (λ k. k ∷ ts) (array_token t e)) some ∙ ap (parse_map array) h
 
   pub object_read : opens_object t ≡ true → (answer : Result (List Context) JsonFault) → Begins (members_from (depth - 1) ts) (IsAnswer answer) r
-      → Begins (value_from depth (t ∷ ts)) (λ d. OrMemory answer (document_answer d)) r
+      → Begins (value_from depth (t ∷ ts)) (λ d. OrError Memory answer (document_answer d)) r
   object_read e answer h = record {
     first = object h.first;
     is = object_opened depth (t ∷ ts) ts (ap (λ k. k ∷ ts) (object_token t e)) some ∙ ap (parse_map object) h.is;
@@ -327,10 +326,10 @@ module _ (depth : ℕ) (t : Token) (ts r : List Token) (some : 0 < depth) where
   object_refused e h = object_opened depth (t ∷ ts) ts (ap (λ k. k ∷ ts) (object_token t e)) some ∙ ap (parse_map object) h
 
 module _ (depth : ℕ) (t : Token) (ts r : List Token) (d : Data) (found : value_from depth (t ∷ ts) ≡ Some (d, r)) (place : List ℕ) where
-  pub other_linkset : opens_array t ≡ false → place ≡ linkset_place → Begins (value_from depth (t ∷ ts)) (λ d. OrMemory (Err (Kind place)) (linkset_answer d)) r
+  pub other_linkset : opens_array t ≡ false → place ≡ linkset_place → Begins (value_from depth (t ∷ ts)) (λ d. OrError Memory (Err (Kind place)) (linkset_answer d)) r
   other_linkset e at = record { first = d; is = found; has = inr (ap (λ p. Err (Kind p)) at ∙ sym (no_linkset d (not_array depth t ts r d found e))) }
 
-  pub other_root : opens_object t ≡ false → place ≡ [] → Begins (value_from depth (t ∷ ts)) (λ d. OrMemory (Err (Kind place)) (document_answer d)) r
+  pub other_root : opens_object t ≡ false → place ≡ [] → Begins (value_from depth (t ∷ ts)) (λ d. OrError Memory (Err (Kind place)) (document_answer d)) r
   other_root e at = record { first = d; is = found; has = inr (ap (λ p. Err (Kind p)) at ∙ sym (no_object d (not_object depth t ts r d found e))) }
 
 pub no_value : (depth : ℕ) (ts : List Token) → ts ≡ [] → value_from depth ts ≡ None
@@ -361,7 +360,7 @@ more_than_one o r s t d e more = let j = converted_some of_json o d r e in more_
 
 -- more tokens after the value
 pub not_last : {P : Data → Type 0} (text : List ℕ) (r : List Token) (t : Token) (s : List Token) → Begins (value_from 127 (tokens text)) P r
-    → r ≡ t ∷ s → OrMemory {X = List Context} (Err Syntax) (option_map_or document_answer (read_text text) (Err Syntax))
+    → r ≡ t ∷ s → OrError {X = List Context} Memory (Err Syntax) (option_map_or document_answer (read_text text) (Err Syntax))
 not_last text r t s h more = rw (more_than_one (value 127 (tokens text)) r s t h.first h.is more) (inr refl)
 
 pub mapped : {X E : Type 0} {P Q : X → Type 0} (r : Result X E) → IfOk r P → ((x : X) → P x → Q x) → IfOk r Q

@@ -5,7 +5,7 @@ use Rattle.std.specs.Str.{is_utf8}
 use Rattle.std.proofs.lemmas.Str.{IsUtf8-string_bytes, is_utf8-from_IsUtf8}
 use Rattle.serde_json.specs.Data.{Data}
 use Rattle.serde_json.specs.Find.{as_str}
-use Rattle.gs_json.specs.Answers.{OrMemory, asked}
+use Rattle.gs_json.specs.Answers.{asked}
 use Rattle.gs_chars.proofs.ErrorAnswers.{no_error}
 use Rattle.gs_json.specs.declared.error.JsonFault.{JsonFault}
 use Rattle.gs_json.specs.declared.error.JsonFault.TheVariants.{Memory}
@@ -13,6 +13,7 @@ use Rattle.serde_json.specs.View.{view, view_step}
 use Rattle.serde_json.specs.declared.value.Value.{Value as Tree, out-Value, map-Value}
 use Rattle.serde_json.specs.declared.value.Value.TheFolds.{fold_out-Value}
 use Rattle.serde_json.specs.declared.value.Value.TheOpen as layer
+use Rattle.gs_chars.specs.Answers.{OrError}
 
 step_text : (x : layer.Value-F Data) (t : List ℕ) → as_str (view_step x) ≡ Some t → is_utf8 t ≡ true
 step_text layer.Value-F.Null t h = absurd (let g : None ≡ Some t = h in cc)
@@ -38,6 +39,6 @@ own_text place v t h = by (as_str (view v)) refl
         let same : t ≡ s = cc in
         rw same (text_is_utf8 v s e)
 
-pub read_text : (place : List ℕ) (v : Tree) (r : Result (List ℕ) JsonFault) → OrMemory r (asked place (as_str (view v))) → IfOk r (λ t. is_utf8 t ≡ true)
+pub read_text : (place : List ℕ) (v : Tree) (r : Result (List ℕ) JsonFault) → OrError Memory r (asked place (as_str (view v))) → IfOk r (λ t. is_utf8 t ≡ true)
 read_text place v (Ok t) h = own_text place v t (no_error Memory t (asked place (as_str (view v))) h)
 read_text place v (Err error) h = tt

@@ -7,8 +7,7 @@ use Rattle.gs_json.specs.declared.error.JsonFault.{JsonFault}
 use Rattle.gs_json.specs.declared.error.JsonFault.TheVariants.{Kind, Memory}
 use Rattle.gs_json.specs.declared.plan.Sort.TheVariants.{Text}
 use Rattle.gs_json.specs.Places.{item_place, member_place}
-use Rattle.gs_chars.specs.Answers.{first_or}
-use Rattle.gs_json.specs.Answers.{OrMemory}
+use Rattle.gs_chars.specs.Answers.{first_or, OrError}
 use Rattle.gs_json.specs.Members.{array_in, text_in}
 use Rattle.gs_linkset.specs.Documents.{context_errors, context_of, item_errors, member_errors, relation_with, target_errors, target_of}
 use Rattle.gs_linkset.specs.declared.link_types.Context.{Context}
@@ -34,7 +33,7 @@ linkset_answer d = option_map_or contexts_answer (array_in d) (Err (Kind linkset
 -- holds if the result is the answer to the item of `whole` at index `i`, or `Memory`
 abbrev pub ItemAnswer : {X : Type 0} → (List ℕ → Data → Result X JsonFault) → List ℕ → ℕ → Data → Result X JsonFault → Type 0
 ItemAnswer answer place i whole result =
-    (result ≡ Err Memory) ⊎ ((d : Data) × (Some d ≡ at i whole) × OrMemory result (answer (item_place place i) d))
+    (result ≡ Err Memory) ⊎ ((d : Data) × (Some d ≡ at i whole) × OrError Memory result (answer (item_place place i) d))
 
 -- the target `d` at `place`, or its first error
 abbrev pub target_answer : List ℕ → Data → Result Target JsonFault

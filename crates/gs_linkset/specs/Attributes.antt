@@ -23,21 +23,15 @@ is_tagged name = ends_with (λ a b. a == b) name (codes "*")
 abbrev pub is_single : List ℕ → Bool
 is_single name = bytes_eq name (codes "type") || (bytes_eq name (codes "title") || bytes_eq name (codes "media"))
 
--- trusted, own: the texts of `d`, if it is an array of only texts
-abbrev pub texts_of : Data → Option (List (List ℕ))
-texts_of d = option_and_then (every as_str) (array_in d)
-
 -- trusted, own: the language of `d`, or the empty text if it has none
 abbrev pub language_of : Data → Option (List ℕ)
 language_of d = option_map_or as_str (get (codes "language") d) (Some [])
 
--- trusted, own: the pair of `text` and the language of `d`, if it has one
-abbrev pub text_with : Data → List ℕ → Option (List ℕ × List ℕ)
-text_with d text = option_map (λ language. (text, language)) (language_of d)
-
 -- trusted, own: the text and language of the object `d`, if it has them
 abbrev pub tagged_text : Data → Option (List ℕ × List ℕ)
-tagged_text d = option_and_then (text_with d) (option_and_then as_str (get (codes "value") d))
+tagged_text d =
+    option_and_then (λ text. option_map (λ language. (text, language)) (language_of d))
+    (option_and_then as_str (get (codes "value") d))
 
 -- trusted, own: the texts and languages of `d`, if it is an array of only such objects
 abbrev pub tagged_texts : Data → Option (List (List ℕ × List ℕ))
@@ -48,4 +42,4 @@ unfoldable pub value_of : List ℕ → Data → Option AttrValue
 value_of name d =
     if is_tagged name then option_map Tagged (tagged_texts d)
     else if is_single name then option_map One (as_str d)
-    else option_map Many (texts_of d)
+    else option_map Many (option_and_then (every as_str) (array_in d))

@@ -3,7 +3,7 @@ use Rattle.std.specs.Prelude.{ℕ, if◌then◌else◌, List, [], ◌∷◌, ◌
 use Rattle.std.specs.List.{enumerate_from, filter_map, flat_map}
 use Rattle.std.specs.Option.{option_map_or}
 use Rattle.std.specs.Str.{bytes_eq}
-use Rattle.serde_json.specs.Data.{Data, Members}
+use Rattle.serde_json.specs.Data.{Data}
 use Rattle.serde_json.specs.Find.{as_object, get}
 use Rattle.gs_json.specs.Answers.{names_of}
 use Rattle.gs_json.specs.Members.{array_in, items_in, must, text_in}
@@ -15,7 +15,6 @@ use Rattle.gs_json.specs.declared.plan.Sort.{Sort}
 use Rattle.gs_json.specs.declared.plan.Sort.TheVariants.{Text, Array}
 use Rattle.gs_linkset.specs.Attributes.{value_of}
 use Rattle.gs_linkset.specs.declared.link_types.Attr.{Attr}
-use Rattle.gs_linkset.specs.declared.link_types.AttrValue.{AttrValue}
 use Rattle.gs_linkset.specs.declared.link_types.Context.{Context}
 use Rattle.gs_linkset.specs.declared.link_types.Relation.{Relation}
 use Rattle.gs_linkset.specs.declared.link_types.Target.{Target}
@@ -24,13 +23,9 @@ use Rattle.gs_linkset.specs.declared.link_types.Target.{Target}
 abbrev pub names_in : Data → List (List ℕ)
 names_in d = unwrap_or (names_of d) []
 
--- trusted, own: the errors of the member `name` that `members` must have
-abbrev pub must_errors : Sort → List ℕ → List ℕ → Members → List JsonFault
-must_errors sort name place members = entry_errors place members (must name sort)
-
 -- trusted, own: the errors of the member `name` of `d`, or `Kind` if `d` is not an object
 abbrev pub member_errors : Sort → List ℕ → List ℕ → Data → List JsonFault
-member_errors sort name place d = option_map_or (must_errors sort name place) (as_object d) (Kind place ∷ [])
+member_errors sort name place d = option_map_or (λ members. entry_errors place members (must name sort)) (as_object d) (Kind place ∷ [])
 
 -- trusted, own: the errors of the items of the array at `place`, item by item
 abbrev pub item_errors : (List ℕ → Data → List JsonFault) → List ℕ → List Data → List JsonFault
@@ -38,13 +33,9 @@ item_errors errors place items = flat_map (λ row. errors (item_place place row.
 
 -- ---- targets (section 4.2.3)
 
--- trusted, own: the attribute of this name and value
-abbrev pub attr_with : List ℕ → AttrValue → Attr
-attr_with name value = record { name = name; value = value }
-
 -- trusted, own: the attribute of this name, if the value `d` is of its kind
 abbrev pub attr_named : List ℕ → Data → Option Attr
-attr_named name d = option_map (attr_with name) (value_of name d)
+attr_named name d = option_map (λ value. record { name = name; value = value }) (value_of name d)
 
 -- trusted, RFC 9264, section 4.2.4; ignoring is own: the attribute of the member `name`, if this is not `href` and its value
 -- is of its kind

@@ -6,8 +6,7 @@ use Rattle.json.specs.Token.{Token}
 use Rattle.json.specs.Json.{items, members, value}
 use Rattle.serde_json.specs.Data.{Data, Items, Members, no_members, object, put}
 use Rattle.serde_json.specs.Read.{converted, of_items, of_json, of_members}
-use Rattle.gs_chars.specs.Answers.{first_or}
-use Rattle.gs_json.specs.Answers.{OrMemory}
+use Rattle.gs_chars.specs.Answers.{first_or, OrError}
 use Rattle.gs_json.specs.Shapes.{items_list}
 use Rattle.gs_json.specs.declared.error.JsonFault.{JsonFault}
 use Rattle.gs_linkset.specs.Answers.{document_answer}
@@ -15,6 +14,7 @@ use Rattle.gs_linkset.specs.AnswersSupport.{contexts_answer}
 use Rattle.gs_linkset.specs.LinkShapes.{is_context}
 use Rattle.gs_linkset.specs.declared.document.Contexts.{Contexts}
 use Rattle.gs_linkset.specs.declared.link_types.Context.{Context}
+use Rattle.gs_json.specs.declared.error.JsonFault.TheVariants.{Memory}
 
 -- the value that the tokens begin with, nested no deeper than `depth`, and the tokens after it
 abbrev pub value_from : ℕ → List Token → Option (Data × List Token)
@@ -36,7 +36,7 @@ pub record Begins {A : Type 0} (found : Option (A × List Token)) (Has : A → T
 
 -- holds if `result` is the answer to the value that was found, or `Memory`
 abbrev pub Answers : {A X : Type 0} → (A → Result X JsonFault) → Option (A × List Token) → List Token → Result X JsonFault → Type 0
-Answers answer found rest result = Begins found (λ first. OrMemory result (answer first)) rest
+Answers answer found rest result = Begins found (λ first. OrError Memory result (answer first)) rest
 
 -- holds if the token opens an array
 abbrev pub opens_array : Token → Bool
@@ -67,12 +67,12 @@ opens_object Token.bad = false
 -- holds if these are the contexts of the items, or their first error
 abbrev pub AreRead : Contexts → List Data → Type 0
 AreRead contexts items =
-    (OrMemory (first_or (option_to_list contexts.fault) contexts.read.items) (contexts_answer items))
+    (OrError Memory (first_or (option_to_list contexts.fault) contexts.read.items) (contexts_answer items))
     × (list_all is_context contexts.read.items ≡ true)
 
 -- holds if this is the answer to the object with these members
 abbrev pub IsAnswer : Result (List Context) JsonFault → Members → Type 0
-IsAnswer answer ms = (OrMemory answer (document_answer (object ms))) × (IfOk answer (λ contexts. list_all is_context contexts ≡ true))
+IsAnswer answer ms = (OrError Memory answer (document_answer (object ms))) × (IfOk answer (λ contexts. list_all is_context contexts ≡ true))
 
 -- the contexts of the items of an array, or their first error
 abbrev pub items_answer : Items → Result (List Context) JsonFault

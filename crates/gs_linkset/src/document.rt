@@ -7,8 +7,7 @@ ghost use Rattle.json.specs.Reads.{token_of};
 ghost use Rattle.serde_json.specs.Data.{Data};
 ghost use Rattle.serde_json.specs.Read.{read as read_text};
 ghost use Rattle.serde_json.specs.View.{view};
-ghost use Rattle.gs_chars.specs.Answers.{first_or};
-ghost use Rattle.gs_json.specs.Answers.{OrMemory};
+ghost use Rattle.gs_chars.specs.Answers.{first_or, OrError};
 ghost use Rattle.gs_linkset.specs.Answers.{document_answer};
 ghost use Rattle.gs_linkset.specs.AnswersSupport.{linkset_answer, linkset_place, text_answer};
 ghost use Rattle.gs_linkset.specs.LinkShapes.{is_context};
@@ -218,7 +217,7 @@ fn read_root(
 
 /// Reads the contexts of a document. Returns its first error after it has read the whole text.
 pub(crate) fn read_document(alloc: Global, text: &str) -> Result<List<Context>, JsonFault>
-    ensures answer { OrMemory result
+    ensures answer { OrError JsonFault.Memory result
         (option_map_or document_answer (read_text text.now) (Err (JsonFault.Syntax))) }
     ensures shape { IfOk result (λ contexts. list_all is_context contexts ≡ true) }
 {
@@ -235,7 +234,8 @@ pub(crate) fn read_document(alloc: Global, text: &str) -> Result<List<Context>, 
 
 /// Reads the text of a member that the object must have.
 pub(crate) fn must_text(alloc: Global, object: &Node<'_>, name: &str) -> Result<Text, JsonFault>
-    ensures answer { OrMemory result (text_answer name.now object.now.place (view object.now.tree)) }
+    ensures answer { OrError JsonFault.Memory result
+        (text_answer name.now object.now.place (view object.now.tree)) }
     ensures utf8 { IfOk result (λ text. is_utf8 text ≡ true) }
 {
     let member = object.member(alloc, name)?;

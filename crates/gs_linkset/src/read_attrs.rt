@@ -6,8 +6,8 @@ ghost use Rattle.gs_json.specs.Members.{array_in};
 ghost use Rattle.gs_linkset.specs.Attributes.{every, language_of, tagged_text, value_of};
 ghost use Rattle.gs_linkset.specs.Documents.{attr_named, names_in};
 ghost use Rattle.gs_linkset.specs.LinkShapes.{is_attr, is_value, ascend};
-ghost use Rattle.gs_json.specs.Answers.{AscendByBytes, OrMemory};
-ghost use Rattle.gs_chars.specs.Answers.{first_or};
+ghost use Rattle.gs_json.specs.Answers.{AscendByBytes};
+ghost use Rattle.gs_chars.specs.Answers.{first_or, OrError};
 
 use crate::copies::{push_some, with_room};
 use crate::link_shapes::{Named, Shaped, is_single, is_tagged};
@@ -188,7 +188,7 @@ pub(crate) trait ReadMember: Named + Drop {
 
     /// Reads the member of a name. Returns `None` if it is not such a member.
     fn read(alloc: Global, object: &Node<'_>, name: &str) -> Result<Option<Self>, JsonFault>
-        ensures answer { OrMemory result (first_or
+        ensures answer { OrError JsonFault.Memory result (first_or
             (errors object.now.place (view object.now.tree) name.now)
             (made (view object.now.tree) name.now)) }
         ensures shape { IfOk result (λ read. IfSome read (λ read. Self.shape read ≡ true)) };
@@ -203,7 +203,7 @@ pub(crate) fn read_members<M: ReadMember>(
     alloc: Global,
     object: &Node<'_>,
 ) -> Result<List<M>, JsonFault>
-    ensures answer { OrMemory result (first_or
+    ensures answer { OrError JsonFault.Memory result (first_or
         (flat_map (M.errors object.now.place (view object.now.tree)) (names_in (view object.now.tree)))
         (filter_map (M.made (view object.now.tree)) (names_in (view object.now.tree)))) }
     ensures shape { IfOk result (λ all. list_all M.shape all ≡ true) }
@@ -224,7 +224,7 @@ fn named_members<M: ReadMember>(
 ) -> Result<List<M>, JsonFault>
     requires names { map (λ name. name.now) names.now ≡ names_in (view object.now.tree) }
     requires ascending { AscendByBytes (map (λ name. name.now) names.now) }
-    ensures answer { OrMemory result (first_or
+    ensures answer { OrError JsonFault.Memory result (first_or
         (flat_map (M.errors object.now.place (view object.now.tree)) (names_in (view object.now.tree)))
         (filter_map (M.made (view object.now.tree)) (names_in (view object.now.tree)))) }
     ensures shape { IfOk result (λ all. list_all M.shape all ≡ true) }

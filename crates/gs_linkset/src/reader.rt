@@ -4,10 +4,10 @@ ghost use Rattle.std.specs.Option.{option_map_or};
 ghost use Rattle.std.specs.Str.{bytes_eq};
 ghost use Rattle.serde_json.specs.Read.{read as read_text};
 ghost use Rattle.serde_json.specs.View.{view};
-ghost use Rattle.gs_json.specs.Answers.{OrMemory, items_count};
+ghost use Rattle.gs_json.specs.Answers.{items_count};
 ghost use Rattle.gs_json.specs.Members.{items_of};
 ghost use Rattle.gs_json.specs.Places.{item_place};
-ghost use Rattle.gs_chars.specs.Answers.{first_or};
+ghost use Rattle.gs_chars.specs.Answers.{first_or, OrError};
 ghost use Rattle.gs_linkset.specs.Answers.{document_answer, read_answer};
 ghost use Rattle.gs_linkset.specs.AnswersSupport.{ItemAnswer, linkset_place, member_answer};
 ghost use Rattle.gs_linkset.specs.Documents.{context_errors, context_of, item_errors};
@@ -39,7 +39,7 @@ trait ReadItem: Shaped + Drop {
 
     /// Reads an item, or returns its first error.
     fn read(alloc: Global, item: &Node<'_>) -> Result<Self, JsonFault>
-        ensures answer { OrMemory result
+        ensures answer { OrError JsonFault.Memory result
             (first_or (errors item.now.place (view item.now.tree)) (made (view item.now.tree))) }
         ensures shape { IfOk result (λ read. Self.shape read ≡ true) };
 }
@@ -64,7 +64,7 @@ fn read_items<T: ReadItem>(
     count: usize,
 ) -> Result<List<T>, JsonFault>
     requires { count ≡ items_count (view array.now.tree) }
-    ensures answer { OrMemory result (first_or
+    ensures answer { OrError JsonFault.Memory result (first_or
         (item_errors T.errors array.now.place (items_of (view array.now.tree)))
         (map T.made (items_of (view array.now.tree)))) }
     ensures shape { IfOk result (λ read. list_all T.shape read ≡ true) }
@@ -101,7 +101,8 @@ pub fn is_anchor(name: &[u8]) -> bool
 /// Reads the relation of a name. Returns `None` if the member is not one.
 fn relation_at(alloc: Global, member: &Node<'_>, name: &str) -> Result<Option<Relation>, JsonFault>
     requires { bytes_eq name.now (codes "anchor") ≡ false }
-    ensures answer { OrMemory result (member_answer name.now member.now.place (view member.now.tree)) }
+    ensures answer { OrError JsonFault.Memory result
+        (member_answer name.now member.now.place (view member.now.tree)) }
     ensures shape { IfOk result (λ relation. IfSome relation (λ relation. is_relation relation ≡ true)) }
 {
     let Some(count) = member.items_len() else {
@@ -152,7 +153,7 @@ impl ReadItem for Context {
 
 /// Reads the context of the item of the array `linkset` at an index.
 pub(crate) fn context_at(alloc: Global, item: &Value, i: usize) -> Result<Context, JsonFault>
-    ensures answer { OrMemory result (first_or
+    ensures answer { OrError JsonFault.Memory result (first_or
         (context_errors (item_place linkset_place i) (view item.now)) (context_of (view item.now))) }
     ensures shape { IfOk result (λ context. is_context context ≡ true) }
 {
@@ -171,7 +172,7 @@ pub(crate) fn context_at(alloc: Global, item: &Value, i: usize) -> Result<Contex
 ///
 /// Never returns `Unknown`.
 pub fn read(alloc: Global, bytes: &[u8]) -> Result<LinkDoc, JsonFault>
-    ensures { OrMemory result (read_answer bytes.now) }
+    ensures { OrError JsonFault.Memory result (read_answer bytes.now) }
 {
     match str::from_utf8(bytes) {
         Ok(text) => read_linkset(alloc, text),
@@ -181,7 +182,8 @@ pub fn read(alloc: Global, bytes: &[u8]) -> Result<LinkDoc, JsonFault>
 
 /// Reads a linkset from a text in JSON.
 fn read_linkset(alloc: Global, text: &str) -> Result<LinkDoc, JsonFault>
-    ensures { OrMemory result (option_map_or document_answer (read_text text.now) (Err (JsonFault.Syntax))) }
+    ensures { OrError JsonFault.Memory result
+        (option_map_or document_answer (read_text text.now) (Err (JsonFault.Syntax))) }
 {
     let contexts = read_document(alloc, text)?;
     Ok(LinkDoc::of_contexts(contexts))

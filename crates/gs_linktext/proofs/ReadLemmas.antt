@@ -8,7 +8,7 @@ use Rattle.gs_linkset.specs.declared.link_types.Target.{Target}
 use Rattle.gs_linktext_grammar.specs.Answers.{IsSyntax}
 use Rattle.gs_linktext.specs.Contexts.{IsCut}
 use Rattle.gs_linktext_grammar.specs.Grammar.{is_some_part, IsDocument}
-use Rattle.gs_linktext.specs.Links.{first_error, first_value, is_rel_error, link_error, or_error, types_of, IsAttributes, IsLinksOf, IsLinksOfLink}
+use Rattle.gs_linktext.specs.Links.{first_error, first_value, is_rel_error, link_error, types_of, IsAttributes, IsLinksOf, IsLinksOfLink}
 use Rattle.gs_linktext.specs.ReadAnswers.{IsReadAs, IsReadError}
 use Rattle.gs_linktext.specs.Steps.{IsErrorOfLink, IsMoreLinks}
 use Rattle.gs_linktext_grammar.specs.declared.error.LinkTextFault.{LinkTextFault}
@@ -16,6 +16,7 @@ use Rattle.gs_linktext_grammar.specs.declared.error.LinkTextFault.TheVariants.{S
 use Rattle.gs_linktext_grammar.specs.declared.written_link.Param.{Param}
 use Rattle.gs_linktext_grammar.specs.declared.written_link.WrittenLink.{WrittenLink}
 use Rattle.gs_linktext_grammar.proofs.PartLemmas.{drop_all, drop_at}
+use Rattle.std.specs.Option.{option_or}
 
 -- a link: its anchor, its relation type and its target
 abbrev Link : Type 0
@@ -61,7 +62,7 @@ pub error_one : (written : List WrittenLink) (i : ℕ) (link : WrittenLink) → 
     → first_error 0 written ≡ first_error i (drop i written) → link_error i link ≡ None
     → first_error 0 written ≡ first_error (i + 1) (drop (i + 1) written)
 error_one written i link at h none =
-    h ∙ ap (first_error i) (drop_at written i link at) ∙ ap (λ o. or_error o (first_error (i + 1) (drop (i + 1) written))) none
+    h ∙ ap (first_error i) (drop_at written i link at) ∙ ap (λ o. option_or o (first_error (i + 1) (drop (i + 1) written))) none
 
 pub no_error : (written : List WrittenLink) (i : ℕ) → length written ≤ i → first_error 0 written ≡ first_error i (drop i written) → first_error 0 written ≡ None
 no_error written i all h = h ∙ ap (first_error i) (drop_all written i all)
@@ -76,9 +77,9 @@ pub is_rejected : (bytes : List ℕ) (written : List WrittenLink) (i : ℕ) (lin
     → IsErrorOfLink (link_error i link) error → IsReadError bytes error
 is_rejected bytes written i link Syntax document at h own = absurd own
 is_rejected bytes written i link (Anchor j) document at h own =
-    (written, document, h ∙ ap (first_error i) (drop_at written i link at) ∙ ap (λ o. or_error o (first_error (i + 1) (drop (i + 1) written))) own)
+    (written, document, h ∙ ap (first_error i) (drop_at written i link at) ∙ ap (λ o. option_or o (first_error (i + 1) (drop (i + 1) written))) own)
 is_rejected bytes written i link (Rel j) document at h own =
-    (written, document, h ∙ ap (first_error i) (drop_at written i link at) ∙ ap (λ o. or_error o (first_error (i + 1) (drop (i + 1) written))) own)
+    (written, document, h ∙ ap (first_error i) (drop_at written i link at) ∙ ap (λ o. option_or o (first_error (i + 1) (drop (i + 1) written))) own)
 is_rejected bytes written i link Memory document at h own = tt
 
 pub syntax_rejected : (bytes : List ℕ) (error : LinkTextFault)

@@ -2,7 +2,7 @@
 use Rattle.std.proofs.Common.{◌≡◌, ℕ, suc, ◌+◌, ◌/◌, ◌%◌, ◌<◌, ◌≤◌, ◌==◌, ◌||◌, ◌&&◌, nat_lt, not, Bool, true, false, List, [], ◌∷◌, ◌++◌, Option, Some, None, codes, drop, filter, map, slice_get, take, bytes_eq, refl, ap, subst, sym, ◌∙◌, inl, inr, arith, unwrap_or}
 use Rattle.std.specs.Char.{to_ascii_lowercase}
 use Rattle.std.specs.List.{flat_map, filter_map, list_all, list_any, slice_split, AllByRecursion}
-use Rattle.std.specs.Option.{option_map}
+use Rattle.std.specs.Option.{option_map, option_or}
 use Rattle.std.specs.Str.{is_utf8, IsUtf8}
 use Rattle.std.specs.Prelude.{encode_utf8_all, option_and_then}
 use Rattle.std.proofs.lemmas.Bool.Decides.{nat_tests}
@@ -28,7 +28,7 @@ use Rattle.gs_linktext_grammar.proofs.LexLemmas.{not_some, some_is}
 use Rattle.gs_linktext_grammar.specs.declared.error.LinkTextFault.{LinkTextFault}
 use Rattle.gs_linktext_grammar.specs.declared.error.LinkTextFault.TheVariants.{Anchor, Rel}
 use Rattle.gs_linktext.specs.Contexts.{ascends, has_target, is_full}
-use Rattle.gs_linktext.specs.Links.{attr_of, attr_value, first_error, first_value, is_language_byte, is_rel_error, is_reserved, link_error, many_value, or_error, tagged_by, tagged_text, tagged_value, types_of, values_of, IsAttributes, IsLinksOf, IsLinksOfLink}
+use Rattle.gs_linktext.specs.Links.{attr_of, attr_value, first_error, first_value, is_language_byte, is_rel_error, is_reserved, link_error, many_value, tagged_by, tagged_text, tagged_value, types_of, values_of, IsAttributes, IsLinksOf, IsLinksOfLink}
 use Rattle.gs_linktext.specs.ReadAnswers.{IsReadAs}
 use Rattle.gs_linktext.proofs.AttrLemmas.{no_values}
 use Rattle.gs_linktext.proofs.SpelledAttrs.{not_reserved}
@@ -350,7 +350,7 @@ link_shaped i link links h none own =
     let types = types_utf8 (unwrap_or (first_value (codes "rel") link.params) []) (first_utf8 (codes "rel") link.params params) in
     rw own.is (types_shaped (unwrap_or (first_value (codes "anchor") link.params) []) (record { href = link.href; attrs = own.attrs }) (types_of link.params) (first_utf8 (codes "anchor") link.params params) (target_is link own.attrs h own.attributes) types (no_anchor (types_of link.params) (rel_free i link none)))
 
-no_first : (a b : Option LinkTextFault) → or_error a b ≡ None → (a ≡ None) × (b ≡ None)
+no_first : (a b : Option LinkTextFault) → option_or a b ≡ None → (a ≡ None) × (b ≡ None)
 no_first None b h = (refl, h)
 no_first (Some e) b h = absurd (not_some e (sym h))
 

@@ -2,7 +2,7 @@
 use Rattle.std.specs.Prelude.{◌≡◌, ℕ, ◌+◌, Bool, true, ◌==◌, ◌&&◌, ◌||◌, if◌then◌else◌, List, [], ◌∷◌, ◌++◌, codes, drop, filter, find, map, slice_get, take, Option, Some, None, option_map, unwrap_or}
 use Rattle.std.specs.Char.{to_ascii_lowercase}
 use Rattle.std.specs.List.{filter_map, list_any, slice_split}
-use Rattle.std.specs.Option.{option_map_or}
+use Rattle.std.specs.Option.{option_map_or, option_or}
 use Rattle.std.specs.Str.{bytes_eq, is_utf8}
 use Rattle.percent_encoding.specs.Percent.{percent_decode}
 use Rattle.gs_linkset.specs.Attributes.{is_single, is_tagged}
@@ -114,12 +114,7 @@ abbrev pub link_error : ℕ → WrittenLink → Option LinkTextFault
 link_error i link =
     option_map_or (λ _. if is_rel_error (types_of link.params) then Some (Rel i) else None) (first_value (codes "anchor") link.params) (Some (Anchor i))
 
--- trusted, own: the first of two errors
-abbrev pub or_error : Option LinkTextFault → Option LinkTextFault → Option LinkTextFault
-or_error None other = other
-or_error (Some error) other = Some error
-
 -- trusted, own: the first error of the links; the first link has this index
 abbrev pub first_error : ℕ → List WrittenLink → Option LinkTextFault
 first_error i [] = None
-first_error i (link ∷ links) = or_error (link_error i link) (first_error (i + 1) links)
+first_error i (link ∷ links) = option_or (link_error i link) (first_error (i + 1) links)

@@ -20,7 +20,7 @@ use Rattle.gs_tables.specs.Tables.{IsShaped, TableRows}
 use Rattle.gs_tables.proofs.KeptSets.{options_kept}
 use Rattle.gs_epc.specs.declared.epc.Epc.{Epc}
 use Rattle.gs_epc.specs.Candidates.{HasFilter, is_asked, is_candidate}
-use Rattle.gs_epc.specs.Epcs.{IsOfSet, filter_of, value_at}
+use Rattle.gs_epc.specs.Epcs.{IsOfSet, value_at}
 use Rattle.gs_epc.specs.Filters.{IsFilter}
 use Rattle.gs_epc.specs.Readings.{Says}
 use Rattle.gs_epc.specs.Writes.{same_fields}
@@ -75,7 +75,7 @@ one_in_tags encoding parts h = and_second (not (is_empty encoding)) (is_one is_f
 
 kept_filter : (set : TableRows) (level : LevelName) (items : List Item) (info : OptInfo) (values words : List (List ℕ))
     → (kept : KeptOption set level items info) → EachWord items values words → is_one is_filter (items_of_field Filter kept.parts) ≡ true
-    → HasFilter (filter_of info.fields values)
+    → HasFilter (option_map decimal_value (value_at Filter info.fields values))
 kept_filter set level items info values words kept held one =
     let each : EachWord (alone kept.parts) values words = rw kept.items_are at held in
     let is = there kept.parts values words each one in
@@ -98,7 +98,7 @@ filter_said set level symbols epc shaped one says =
 -- ---- an EPC with a filter value names its encoding
 
 named : (level : LevelName) (encoding : List ℕ) (parts : List FieldItem) (values : List (List ℕ)) → keeps_level level encoding parts ≡ true
-    → HasFilter (filter_of (fields_of parts) values) → is_empty encoding ≡ false
+    → HasFilter (option_map decimal_value (value_at Filter (fields_of parts) values)) → is_empty encoding ≡ false
 unfolding keeps_level
 named Binary encoding parts values h has =
     let front = and_first (not (is_empty encoding) && is_one is_filter (items_of_field Filter parts)) (size_of_all (alone parts) % 16 == 0) h in
@@ -111,7 +111,7 @@ named Pure encoding parts values h has =
 pub names_encoding : (set : TableRows) (epc : Epc) → IsShaped set → IsOfSet set epc → HasFilter epc.filter → is_empty epc.encoding ≡ false
 names_encoding set epc shaped of has =
     let kept = options_kept set of.level shaped of.option of.items of.info of.of_level of.said in
-    let same : epc.filter ≡ filter_of (fields_of kept.parts) of.values = ap (λ (e : Epc). e.filter) of.fields ∙ ap (λ fields. filter_of fields of.values) kept.fields_are in
+    let same : epc.filter ≡ option_map decimal_value (value_at Filter (fields_of kept.parts) of.values) = ap (λ (e : Epc). e.filter) of.fields ∙ ap (λ fields. option_map decimal_value (value_at Filter fields of.values)) kept.fields_are in
     let filter = rw same at has in
     ap (λ (e : Epc). is_empty e.encoding) of.fields ∙ named of.level of.info.encoding kept.parts of.values kept.of_level filter
 

@@ -6,9 +6,9 @@ use Rattle.std.proofs.lemmas.Bool.Decides.{leb_tells}
 use Rattle.std.proofs.lemmas.List.{length-drop}
 use Rattle.std.proofs.lemmas.List.Elements.{All-append, All-drop, All-nil}
 use Rattle.gs_chars.specs.Escapes.{hex_value}
-use Rattle.gs_bits.specs.Bits.{AreBits, number_of}
+use Rattle.gs_bits.specs.Bits.{AreBits, bits_of, number_of}
 use Rattle.gs_bits.specs.BitLaws.{AreBits-bits_of}
-use Rattle.gs_bits.specs.HexText.{bits_of_digit, bits_of_hex}
+use Rattle.gs_bits.specs.HexText.{bits_of_hex}
 use Rattle.gs_bits.specs.declared.errors.HexFault.{HexFault}
 use Rattle.gs_bits.specs.declared.errors.HexFault.TheVariants.{OddDigits, Full, BadDigit}
 use Rattle.gs_bits.proofs.HexBits.{first_bad_same}
@@ -120,7 +120,7 @@ one_dump set text (Err error) (Err other) t u a b =
 
 hex_bits : (text : List ℕ) → AreBits (bits_of_hex text)
 hex_bits [] = All-nil (λ b. b < 2)
-hex_bits (c ∷ text) = All-append (λ b. b < 2) (bits_of_digit c) (bits_of_hex text) (AreBits-bits_of 4 (unwrap_or (hex_value c) 0)) (hex_bits text)
+hex_bits (c ∷ text) = All-append (λ b. b < 2) (bits_of 4 (unwrap_or (hex_value c) 0)) (bits_of_hex text) (AreBits-bits_of 4 (unwrap_or (hex_value c) 0)) (hex_bits text)
 
 -- 16 bits or more begin with a control word
 word_there : (b0 : List ℕ) → AreBits b0 → 16 ≤ length b0 → (word : ControlWord) × (behind : List ℕ) × BeginsWith b0 word behind

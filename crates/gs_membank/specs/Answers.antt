@@ -19,7 +19,7 @@ use Rattle.gs_membank.specs.declared.error.DumpWriteFault.TheVariants.{NoOption,
 use Rattle.gs_membank.specs.declared.error.DumpLineFault.{DumpLineFault}
 use Rattle.gs_membank.specs.declared.error.DumpLineFault.TheVariants.{Line, NoReading as NoTag, Memory as LineMemory}
 use Rattle.gs_membank.specs.Banks.{BeginsWith, IsPlain, control_bits}
-use Rattle.gs_membank.specs.ShownLines.{IsShownStart, shown_line}
+use Rattle.gs_membank.specs.ShownLines.{IsShownStart, shown_start}
 
 -- ---- dumps that are read
 
@@ -107,7 +107,7 @@ WritesDump set dump (Err WriteMemory) = Unit {0}
 pub record ShownDump (set : TableRows) (dump : Dump) (text : List ℕ) : Type 0 where
   pub tag : List ℕ
   pub written : Writes set Tag dump.epc tag
-  pub text_is : text ≡ shown_line dump.user dump.attributes tag
+  pub text_is : text ≡ shown_start dump.user dump.attributes ++ tag
 
 -- trusted, TDS 2.0, section 12; the form is own: Holds if the result is the line of `dump`, or why its EPC is not written as a
 -- tag URI. `Memory` may be returned instead.

@@ -11,10 +11,6 @@ start_with user high low = 117 ∷ (48 + bit_of user) ∷ 32 ∷ 97 ∷ high ∷
 abbrev pub shown_start : Bool → ℕ → List ℕ
 shown_start user attributes = start_with user (hex_digit (attributes / 16)) (hex_digit (attributes % 16))
 
--- trusted, own: the line of a dump, with the tag URI of its EPC
-abbrev pub shown_line : Bool → ℕ → List ℕ → List ℕ
-shown_line user attributes tag = shown_start user attributes ++ tag
-
 -- trusted, own: Holds if `text` begins as a line with the user memory bit `user` and the attribute bits `attributes`, and
 -- `rest` is left. The digits are read case-insensitively.
 pub record IsShownStart (text : List ℕ) (user : Bool) (attributes : ℕ) (rest : List ℕ) : Type 0 where

@@ -15,12 +15,14 @@ use Rattle.gs_links.specs.Loads.{targets_count}
 use Rattle.gs_links.specs.Shapes.{is_link, most_links}
 use Rattle.gs_links.specs.declared.link.Link.{Link}
 use Rattle.gs_merge.specs.Distinct.{distinct, is_same_target}
-use Rattle.gs_merge.specs.MergedDocuments.{OrMemory, anchor_text, ascending, context_with, contexts_of, links_at, links_by, merge_answer, merged, relation_with, relations_of, targets_of, with_relation}
+use Rattle.gs_merge.specs.MergedDocuments.{anchor_text, ascending, context_with, contexts_of, links_at, links_by, merge_answer, merged, relation_with, relations_of, targets_of, with_relation}
 use Rattle.gs_merge.specs.declared.error.MergeFault.TheVariants.{TooMany}
 use Rattle.gs_merge.proofs.DistinctLemmas.{all_distinct, filter_holds}
 use Rattle.gs_merge.proofs.NameSets.{ascend_test, ascending_ascends}
 use Rattle.gs_merge.proofs.SameTargets.{target_itself, target_one}
 use Rattle.std.proofs.lemmas.Bool.{and_from}
+use Rattle.gs_chars.specs.Answers.{OrError}
+use Rattle.gs_merge.specs.declared.error.MergeFault.TheVariants as merge
 
 pub link_target : (link : Link) → is_link link ≡ true → is_target link.target ≡ true
 unfolding is_link
@@ -140,11 +142,11 @@ made_shaped a b links (Err e) own shape h = h
 -- ---- the answer
 
 pub too_many_targets : (a b : List Link) (contexts : List Context) → contexts ≡ merged a b
-    → true ≡ nat_lt most_links (targets_count contexts) → OrMemory (Err TooMany) (merge_answer a b)
+    → true ≡ nat_lt most_links (targets_count contexts) → OrError merge.Memory (Err TooMany) (merge_answer a b)
 unfolding merge_answer
 too_many_targets a b contexts own over = let h = rw own at over in rw (← h) (inr refl)
 
 pub few_targets : (a b : List Link) (contexts doc : List Context) → contexts ≡ merged a b → doc ≡ contexts
-    → false ≡ nat_lt most_links (targets_count contexts) → OrMemory (Ok doc) (merge_answer a b)
+    → false ≡ nat_lt most_links (targets_count contexts) → OrError merge.Memory (Ok doc) (merge_answer a b)
 unfolding merge_answer
 few_targets a b contexts doc own made few = let h = rw own at few in rw (← h, made, own) (inr refl)

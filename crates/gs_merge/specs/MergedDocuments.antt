@@ -1,6 +1,6 @@
 -- The merged document of the links of stores (RFC 9264, section 4.2). An anchor is written only by its canonical link (GS1
 -- Digital Link URI Syntax, section 5). No standard says how link documents are merged: this is the project's own.
-use Rattle.std.specs.Prelude.{◌≡◌, ◌⊎◌, ℕ, Bool, not, nat_lt, if◌then◌else◌, List, [], ◌++◌, codes, filter, fold, map, Result, Ok, Err}
+use Rattle.std.specs.Prelude.{ℕ, Bool, not, nat_lt, if◌then◌else◌, List, [], ◌++◌, codes, filter, fold, map, Result, Ok, Err}
 use Rattle.std.specs.BTreeSet.{insert_key}
 use Rattle.std.specs.Cmp.Lexicographic.{slice_cmp}
 use Rattle.std.specs.Ordering.{nat_cmp}
@@ -14,7 +14,7 @@ use Rattle.gs_links.specs.Shapes.{most_links}
 use Rattle.gs_links.specs.declared.link.Link.{Link}
 use Rattle.gs_merge.specs.Distinct.{distinct}
 use Rattle.gs_merge.specs.declared.error.MergeFault.{MergeFault}
-use Rattle.gs_merge.specs.declared.error.MergeFault.TheVariants.{TooMany, Memory}
+use Rattle.gs_merge.specs.declared.error.MergeFault.TheVariants.{TooMany}
 
 -- trusted, own: the texts in ascending order of their bytes, each once
 abbrev pub ascending : List (List ℕ) → List (List ℕ)
@@ -67,7 +67,3 @@ is_too_many contexts = nat_lt most_links (targets_count contexts)
 -- trusted, own: the answer of merging
 unfoldable pub merge_answer : List Link → List Link → Result (List Context) MergeFault
 merge_answer a b = if is_too_many (merged a b) then Err TooMany else Ok (merged a b)
-
--- trusted, own: holds if `result` is `answer` or the error `Memory`
-abbrev pub OrMemory : Result (List Context) MergeFault → Result (List Context) MergeFault → Type 0
-OrMemory result answer = (result ≡ Err Memory) ⊎ (result ≡ answer)

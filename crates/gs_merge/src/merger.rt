@@ -1,11 +1,12 @@
 ghost use Rattle.std.specs.Prelude.{◌≡◌, IfOk, true, ◌∷◌, ◌++◌, [], map};
 ghost use Rattle.std.specs.List.{list_all};
 ghost use Rattle.gs_linkset.specs.LinkShapes.{is_context, is_target};
-ghost use Rattle.gs_merge.specs.MergedDocuments.{OrMemory, merge_answer, merged, contexts_of, relations_of, targets_of};
+ghost use Rattle.gs_merge.specs.MergedDocuments.{merge_answer, merged, contexts_of, relations_of, targets_of};
 ghost use Rattle.gs_merge.specs.Stores.{LoadsForBoth};
 ghost use Rattle.gs_merge.specs.Distinct.{distinct};
 ghost use Rattle.gs_linkset.specs.WrittenTrees.{target_text};
 ghost use Rattle.gs_merge.specs.Groups.{AreTextsOf, with_target};
+ghost use Rattle.gs_chars.specs.Answers.{OrError};
 
 use crate::error::MergeFault;
 use crate::groups::{Grouping, StoredLink, groups_of, stored_links};
@@ -31,7 +32,7 @@ fn merged_contexts(alloc: Global, a: &Store, b: &Store) -> Result<List<Context>,
 /// document has more than 65,536 targets. May return `Memory` instead. The document loads, to
 /// its links, by a table and a vocabulary that keeps names if both stores are of these. Takes O(n log n) steps for n links.
 pub fn merge(alloc: Global, a: &Store, b: &Store) -> Result<LinkDoc, MergeFault>
-    ensures answer { OrMemory result (merge_answer a.now b.now) }
+    ensures answer { OrError MergeFault.Memory result (merge_answer a.now b.now) }
     ensures loads { IfOk result (LoadsForBoth a.now b.now) }
 {
     let contexts = merged_contexts(alloc, a, b)?;

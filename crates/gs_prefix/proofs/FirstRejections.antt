@@ -4,12 +4,10 @@ use Rattle.std.specs.Prelude.{Result, Ok, Err}
 use Rattle.std.proofs.lemmas.List.{map-append, take_all, take_more}
 use Rattle.std.specs.List.{flat_map, enumerate_from}
 use Rattle.gs_chars.proofs.TruthsAndLists.{nil_parts}
-use Rattle.gs_json.specs.Answers.{OrMemory as JsonOrMemory}
 use Rattle.gs_json.specs.Shapes.{first_error}
 use Rattle.gs_json.specs.declared.error.JsonFault.{JsonFault}
 use Rattle.gs_json.specs.declared.error.JsonFault.TheVariants as json
 use Rattle.gs_chars.specs.Answers.{OrError, first_or}
-use Rattle.gs_prefix.specs.Answers.{OrMemory}
 use Rattle.gs_prefix.specs.AnswersSupport.{of_json}
 use Rattle.gs_prefix.specs.declared.error.PrefixFault.TheVariants.{Json, Memory}
 
@@ -92,7 +90,7 @@ module _ {X E : Type 0} (f : ℕ × X → List E) where
 abbrev unit : Unit {0}
 unit = tt
 
-judged_by : (errors : List JsonFault) (error : JsonFault) → Err error ≡ first_error errors → OrMemory (Err (of_json error)) (first_or (map Json errors) unit)
+judged_by : (errors : List JsonFault) (error : JsonFault) → Err error ≡ first_error errors → OrError Memory (Err (of_json error)) (first_or (map Json errors) unit)
 judged_by errors json.Memory h = inl refl
 judged_by [] json.Syntax h = absurd (cc)
 judged_by [] (json.Lacks p) h = absurd (cc)
@@ -103,8 +101,8 @@ judged_by (f ∷ errors) (json.Lacks p) h = inr (let same : json.Lacks p ≡ f =
 judged_by (f ∷ errors) (json.Kind p) h = inr (let same : json.Kind p ≡ f = cc in rw same refl)
 judged_by (f ∷ errors) (json.Unknown p) h = inr (let same : json.Unknown p ≡ f = cc in rw same refl)
 
-pub judged : (errors : List JsonFault) (error : JsonFault) → JsonOrMemory (Err error) (first_error errors)
-    → OrMemory (Err (of_json error)) (first_or (map Json errors) unit)
+pub judged : (errors : List JsonFault) (error : JsonFault) → OrError json.Memory (Err error) (first_error errors)
+    → OrError Memory (Err (of_json error)) (first_or (map Json errors) unit)
 judged errors error (inl h) = let same : error ≡ json.Memory = cc in rw same (inl refl)
 judged errors error (inr h) = judged_by errors error h
 

@@ -1,12 +1,12 @@
 -- The longest entry with which digits begin is found by its length.
-use Rattle.std.proofs.Common.{◌≡◌, ℕ, zero, suc, ◌+◌, ◌-◌, ◌<◌, ◌≤◌, ◌&&◌, nat_le, Bool, true, false, List, [], ◌∷◌, length, take, filter, find, Option, Some, None, option_map, is_some, slice_get, refl, sym, ap, ◌∙◌, arith, ◌⊎◌, inl, inr, true≢false}
+use Rattle.std.proofs.Common.{◌≡◌, ℕ, zero, suc, ◌+◌, ◌-◌, ◌<◌, ◌≤◌, ◌&&◌, nat_le, Bool, true, false, List, [], ◌∷◌, length, take, filter, find, Option, Some, None, option_map, is_some, slice_get, refl, sym, ap, ◌∙◌, arith, inl, inr, true≢false}
 use Rattle.std.specs.List.{list_all}
 use Rattle.std.specs.Option.{IfSome}
 use Rattle.std.proofs.lemmas.Bool.Decides.{nat_tests}
 use Rattle.gs_chars.proofs.TruthsAndLists.{and_first, and_second, equal_bytes, true_or_false, few_taken, one_truth as same_test, one_or_none}
 use Rattle.gs_chars.specs.Characters.{are_digits}
 use Rattle.gs_prefix.specs.declared.entry.PrefixEntry.{PrefixEntry}
-use Rattle.gs_prefix.specs.Lengths.{begins, beginning, has_prefix, is_longest, is_prefix, longest_entry, length_of_longest}
+use Rattle.gs_prefix.specs.Lengths.{begins, beginning, has_prefix, is_longest, is_prefix, longest_entry}
 use Rattle.gs_prefix.specs.LengthsSupport.{is_entry}
 use Rattle.std.proofs.lemmas.Bool.{and_from}
 
@@ -175,7 +175,7 @@ module _ (entries : List PrefixEntry) (digits : List ℕ) (ok : list_all is_entr
       | inr e ↦ let f : r ≡ None = rw e at h in absurd (true≢false (sym some ∙ ap is_some f))
     ]
 
-    pub length_found : n ≤ length digits → NoneFrom (n + 1) → r ≡ length_of_longest entries digits
+    pub length_found : n ≤ length digits → NoneFrom (n + 1) → r ≡ option_map (λ entry. entry.length) (longest_entry entries digits)
     length_found within none = let e = found_entry in e.2 ∙ rw (longest_found n e.0 within none e.1) refl
 
     pub length_few : IfSome r (λ m. m ≤ 12)
@@ -187,7 +187,7 @@ module _ (entries : List PrefixEntry) (digits : List ℕ) (ok : list_all is_entr
         let small : e.0.length ≤ 12 = grind (arith, nat_tests) in
         rw e.2 small
 
-  pub length_none : NoneFrom 1 → None ≡ length_of_longest entries digits
+  pub length_none : NoneFrom 1 → None ≡ option_map (λ entry. entry.length) (longest_entry entries digits)
   length_none none = rw (longest_none none) refl
 
 -- one more prefix that is not an entry

@@ -17,9 +17,9 @@ use Rattle.gs_json.specs.declared.error.JsonFault.TheVariants as json
 use Rattle.gs_prefix.specs.declared.entry.PrefixEntry.{PrefixEntry}
 use Rattle.gs_prefix.specs.declared.error.PrefixFault.{PrefixFault}
 use Rattle.gs_prefix.specs.declared.error.PrefixFault.TheVariants.{Json, BadPrefix, BadLength, Twice, Limit, Memory}
-use Rattle.gs_chars.specs.Answers.{first_or}
+use Rattle.gs_chars.specs.Answers.{first_or, OrError}
 use Rattle.gs_json.specs.Members.{document_of}
-use Rattle.gs_prefix.specs.Answers.{OrMemory, document_answer, load_answer}
+use Rattle.gs_prefix.specs.Answers.{document_answer, load_answer}
 use Rattle.gs_prefix.specs.AnswersSupport.{AddsEntry, of_json}
 use Rattle.gs_prefix.specs.Documents.{array_errors, entries_errors, entries_of, form_errors, list_plan, version_errors}
 use Rattle.gs_prefix.specs.Lengths.{has_prefix, is_prefix}
@@ -81,7 +81,7 @@ all_more (x ∷ es) e h t = rw (and_first (is_entry x) (list_all is_entry es) h)
 is_kept : (e : PrefixEntry) → is_prefix e.prefix ≡ true → e.length ≤ 12 → is_entry e ≡ true
 is_kept e p short = let l : nat_le e.length 12 ≡ true = grind (arith, nat_tests) in rw (p, l) refl
 
-pub limit_passed : (es : List PrefixEntry) → 65536 < length es → OrMemory {X = List PrefixEntry} (Err Limit) (first_or (rejections es) es)
+pub limit_passed : (es : List PrefixEntry) → 65536 < length es → OrError {X = List PrefixEntry} Memory (Err Limit) (first_or (rejections es) es)
 unfolding rejections
 limit_passed es h = let l : nat_lt 65536 (length es) ≡ true = grind (arith, nat_tests) in rw l (inr refl)
 
@@ -97,8 +97,8 @@ within_limit es h = let l : nat_lt 65536 (length es) ≡ false = grind (arith, n
 
 -- an entry was rejected after entries that none rejects
 pub entry_rejected : (entries index : List PrefixEntry) (i : ℕ) (x : PrefixEntry) (e : PrefixFault) → length entries ≤ 65536
-    → SoFar entries index i → slice_get entries i ≡ Some x → OrMemory (Err e) (first_or (entry_rejections index i x) (tt {0}))
-    → OrMemory {X = List PrefixEntry} (Err e) (first_or (rejections entries) entries)
+    → SoFar entries index i → slice_get entries i ≡ Some x → OrError Memory (Err e) (first_or (entry_rejections index i x) (tt {0}))
+    → OrError {X = List PrefixEntry} Memory (Err e) (first_or (rejections entries) entries)
 entry_rejected entries index i x e few so_far at h =
     let own = rw so_far.held at h in
     let split = split_at (rejections_at entries) entries i x at so_far.none in
@@ -118,7 +118,7 @@ one_entry_more entries index new i x so_far at adds =
     }
 
 pub all_entries : (entries index : List PrefixEntry) (i : ℕ) → length entries ≤ 65536 → length entries ≤ i → SoFar entries index i
-    → OrMemory {X = List PrefixEntry} (Ok index) (first_or (rejections entries) entries)
+    → OrError {X = List PrefixEntry} Memory (Ok index) (first_or (rejections entries) entries)
 all_entries entries index i few all so_far =
     let whole : index ≡ entries = so_far.held ∙ take_all i entries all in
     let none : rejections entries ≡ [] = within_limit entries few ∙ all_rows (rejections_at entries) entries i all so_far.none in
@@ -153,14 +153,14 @@ module _ (d : Data) where
   abbrev object_errors : List JsonFault
   object_errors = members_errors [] list_plan (as_object d)
 
-  pub object_rejected : (e : PrefixFault) → OrMemory {X = Unit {0}} (Err e) (first_or (map Json object_errors) (tt {0}))
-      → OrMemory {X = Unit {0}} (Err e) (first_or (map Json (form_errors d)) (tt {0}))
+  pub object_rejected : (e : PrefixFault) → OrError {X = Unit {0}} Memory (Err e) (first_or (map Json object_errors) (tt {0}))
+      → OrError {X = Unit {0}} Memory (Err e) (first_or (map Json (form_errors d)) (tt {0}))
   unfolding form_errors
   object_rejected e h = rw (joined object_errors (version_errors d ++ entries_errors d))
       (first_in_front Memory (map Json object_errors) (map Json (version_errors d ++ entries_errors d)) (tt {0}) (tt {0}) e h)
 
-  pub version_rejected : (e : PrefixFault) (y : Unit {0}) → OrMemory {X = Unit {0}} (Ok y) (first_or (map Json object_errors) (tt {0}))
-      → OrMemory {X = Unit {0}} (Err e) (first_or (map Json (version_errors d)) (tt {0})) → OrMemory {X = Unit {0}} (Err e)
+  pub version_rejected : (e : PrefixFault) (y : Unit {0}) → OrError {X = Unit {0}} Memory (Ok y) (first_or (map Json object_errors) (tt {0}))
+      → OrError {X = Unit {0}} Memory (Err e) (first_or (map Json (version_errors d)) (tt {0})) → OrError {X = Unit {0}} Memory (Err e)
       (first_or (map Json (form_errors d)) (tt {0}))
   unfolding form_errors
   version_rejected e y none h =
@@ -168,9 +168,9 @@ module _ (d : Data) where
       (first_behind Memory (map Json object_errors) (map Json (version_errors d) ++ map Json (entries_errors d)) (tt {0}) y (tt {0}) (Err e) none
       (first_in_front Memory (map Json (version_errors d)) (map Json (entries_errors d)) (tt {0}) (tt {0}) e h))
 
-  pub entries_judged : (answer : Result (Unit {0}) PrefixFault) (y z : Unit {0}) → OrMemory {X = Unit {0}} (Ok y)
-      (first_or (map Json object_errors) (tt {0})) → OrMemory {X = Unit {0}} (Ok z) (first_or (map Json (version_errors d)) (tt {0}))
-      → OrMemory answer (first_or (map Json (entries_errors d)) (tt {0})) → OrMemory answer (first_or (map Json (form_errors d)) (tt {0}))
+  pub entries_judged : (answer : Result (Unit {0}) PrefixFault) (y z : Unit {0}) → OrError {X = Unit {0}} Memory (Ok y)
+      (first_or (map Json object_errors) (tt {0})) → OrError {X = Unit {0}} Memory (Ok z) (first_or (map Json (version_errors d)) (tt {0}))
+      → OrError Memory answer (first_or (map Json (entries_errors d)) (tt {0})) → OrError Memory answer (first_or (map Json (form_errors d)) (tt {0}))
   unfolding form_errors
   entries_judged answer y z none same h =
       rw (joined object_errors (version_errors d ++ entries_errors d), joined (version_errors d) (entries_errors d))
@@ -184,7 +184,7 @@ unfolding load_answer document_of
 is_json bytes d h = let t = is_utf8-from_IsUtf8 bytes h.0 in rw (t, h.1) refl
 
 pub not_json : (bytes : List ℕ) (error : JsonFault) → (error ≡ json.Syntax → IsUtf8 bytes → read_text bytes ≡ None)
-    → (error ≡ json.Syntax) ⊎ (error ≡ json.Memory) → OrMemory {X = List PrefixEntry} (Err (of_json error)) (load_answer bytes)
+    → (error ≡ json.Syntax) ⊎ (error ≡ json.Memory) → OrError {X = List PrefixEntry} Memory (Err (of_json error)) (load_answer bytes)
 unfolding load_answer document_of
 not_json bytes error none (inr m) = rw m (inl refl)
 not_json bytes error none (inl s) = elim (true_or_false (is_utf8 bytes)) [
@@ -193,17 +193,17 @@ not_json bytes error none (inl s) = elim (true_or_false (is_utf8 bytes)) [
 ]
 
 pub document_is : (bytes : List ℕ) (d : Data) (answer : Result (List PrefixEntry) PrefixFault) → IsUtf8 bytes × (read_text bytes ≡ Some d)
-    → OrMemory answer (document_answer d) → OrMemory answer (load_answer bytes)
+    → OrError Memory answer (document_answer d) → OrError Memory answer (load_answer bytes)
 document_is bytes d answer is h = rw (is_json bytes d is) h
 
-pub form_rejected : (d : Data) (e : PrefixFault) → OrMemory {X = Unit {0}} (Err e) (first_or (map Json (form_errors d)) (tt {0}))
-    → OrMemory {X = List PrefixEntry} (Err e) (document_answer d)
+pub form_rejected : (d : Data) (e : PrefixFault) → OrError {X = Unit {0}} Memory (Err e) (first_or (map Json (form_errors d)) (tt {0}))
+    → OrError {X = List PrefixEntry} Memory (Err e) (document_answer d)
 unfolding document_answer
 form_rejected d e h = first_in_front Memory (map Json (form_errors d)) (rejections (entries_of d)) (tt {0}) (entries_of d) e h
 
 pub entries_answer : (d : Data) (entries : List PrefixEntry) (z : Unit {0}) (answer : Result (List PrefixEntry) PrefixFault)
-    → OrMemory {X = Unit {0}} (Ok z) (first_or (map Json (form_errors d)) (tt {0})) → entries ≡ entries_of d → OrMemory answer
-    (first_or (rejections entries) entries) → OrMemory answer (document_answer d)
+    → OrError {X = Unit {0}} Memory (Ok z) (first_or (map Json (form_errors d)) (tt {0})) → entries ≡ entries_of d → OrError Memory answer
+    (first_or (rejections entries) entries) → OrError Memory answer (document_answer d)
 unfolding document_answer
 entries_answer d entries z answer none e h =
     let own = rw e at h in

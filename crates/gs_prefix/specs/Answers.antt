@@ -3,18 +3,14 @@
 use Rattle.std.specs.Prelude.{ℕ, List, ◌++◌, map, Result, Err}
 use Rattle.std.specs.Option.{option_map_or}
 use Rattle.serde_json.specs.Data.{Data}
-use Rattle.gs_chars.specs.Answers.{OrError, first_or}
+use Rattle.gs_chars.specs.Answers.{first_or}
 use Rattle.gs_json.specs.Members.{document_of}
 use Rattle.gs_json.specs.declared.error.JsonFault.TheVariants.{Syntax}
 use Rattle.gs_prefix.specs.declared.entry.PrefixEntry.{PrefixEntry}
 use Rattle.gs_prefix.specs.declared.error.PrefixFault.{PrefixFault}
-use Rattle.gs_prefix.specs.declared.error.PrefixFault.TheVariants.{Json, Memory}
+use Rattle.gs_prefix.specs.declared.error.PrefixFault.TheVariants.{Json}
 use Rattle.gs_prefix.specs.Documents.{entries_of, form_errors}
 use Rattle.gs_prefix.specs.Rules.{rejections}
-
--- trusted, own: holds if the result is the answer, or `Memory`
-abbrev pub OrMemory : {X : Type 0} → Result X PrefixFault → Result X PrefixFault → Type 0
-OrMemory result answer = OrError Memory result answer
 
 -- trusted, own: the answer to a document: the errors of its form are before the rejections of its entries
 unfoldable pub document_answer : Data → Result (List PrefixEntry) PrefixFault

@@ -30,15 +30,8 @@ is_longest entries entry = list_all (λ other. nat_le (length other.prefix) (len
 unfoldable pub longest_entry : List PrefixEntry → List ℕ → Option PrefixEntry
 longest_entry entries digits = find (is_longest (beginning entries digits)) (beginning entries digits)
 
--- trusted, own: the length of the longest entry that begins the digits, if there is one
-abbrev pub length_of_longest : List PrefixEntry → List ℕ → Option ℕ
-length_of_longest entries digits = option_map (λ entry. entry.length) (longest_entry entries digits)
-
--- trusted, own: the length 0 says that the digits belong to no company prefix
-abbrev pub not_zero : ℕ → Option ℕ
-not_zero n = if n == 0 then None else Some n
-
 -- trusted, GS1 General Specifications, section 1.4.4; that the longest decides and what 0 says is own: the length of the
 -- company prefix with which the digits begin
 unfoldable pub prefix_length : List PrefixEntry → List ℕ → Option ℕ
-prefix_length entries digits = option_and_then not_zero (length_of_longest entries digits)
+prefix_length entries digits =
+    option_and_then (λ n. if n == 0 then None else Some n) (option_map (λ entry. entry.length) (longest_entry entries digits))

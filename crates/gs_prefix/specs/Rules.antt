@@ -7,10 +7,6 @@ use Rattle.gs_prefix.specs.declared.error.PrefixFault.{PrefixFault}
 use Rattle.gs_prefix.specs.declared.error.PrefixFault.TheVariants.{BadPrefix, BadLength, Twice, Limit}
 use Rattle.gs_prefix.specs.Lengths.{has_prefix, is_prefix}
 
--- trusted, own: the most entries that a list has
-abbrev pub most_entries : ℕ
-most_entries = 65536
-
 -- trusted, own: the rejections of entry i, given the earlier entries
 unfoldable pub entry_rejections : List PrefixEntry → ℕ → PrefixEntry → List PrefixFault
 entry_rejections earlier i entry =
@@ -25,5 +21,5 @@ rejections_at entries row = entry_rejections (take row.0 entries) row.0 row.1
 -- trusted, own: the list of all rejections of `entries`, in the order in which they are reported
 unfoldable pub rejections : List PrefixEntry → List PrefixFault
 rejections entries =
-    error_if (nat_lt most_entries (length entries)) Limit
+    error_if (nat_lt 65536 (length entries)) Limit
     ++ flat_map (rejections_at entries) (enumerate_from 0 entries)

@@ -1,9 +1,9 @@
 ghost use Rattle.std.specs.Prelude.{◌≡◌, ◌≤◌, [], IfSome, length, false, IfOk, find};
 ghost use Rattle.serde_json.specs.View.{view};
-ghost use Rattle.gs_chars.specs.Answers.{first_or};
-ghost use Rattle.gs_prefix.specs.Answers.{OrMemory, document_answer, load_answer};
+ghost use Rattle.gs_chars.specs.Answers.{first_or, OrError};
+ghost use Rattle.gs_prefix.specs.Answers.{document_answer, load_answer};
 ghost use Rattle.gs_prefix.specs.AnswersSupport.{AddsEntry};
-ghost use Rattle.gs_prefix.specs.Lengths.{length_of_longest, prefix_length, has_prefix};
+ghost use Rattle.gs_prefix.specs.Lengths.{prefix_length, has_prefix, longest_entry};
 ghost use Rattle.gs_prefix.specs.Rules.{rejections};
 ghost use Rattle.std.specs.List.{list_any};
 ghost use Rattle.std.specs.Option.{option_map};
@@ -56,7 +56,7 @@ impl PrefixList {
     /// answer. `Json`: the bytes are not JSON text; the document, its version or an entry has not this form. `Limit`: more than
     /// 65,536 entries. Then entry by entry `BadPrefix`, `BadLength`, `Twice`. May return `Memory` instead.
     pub fn load(alloc: Global, bytes: &[u8]) -> Result<PrefixList, PrefixFault>
-        ensures { OrMemory result (load_answer bytes.now) }
+        ensures { OrError PrefixFault.Memory result (load_answer bytes.now) }
     {
         match Doc::parse(alloc, bytes) {
             Ok(doc) => PrefixList::of_root(alloc, &doc.root(alloc)),
@@ -67,7 +67,7 @@ impl PrefixList {
     /// Returns the list that the document of this tree gives, or its first rejection.
     fn of_root(alloc: Global, root: &Node<'_>) -> Result<PrefixList, PrefixFault>
         requires { root.now.place ≡ [] }
-        ensures { OrMemory result (document_answer (view root.now.tree)) }
+        ensures { OrError PrefixFault.Memory result (document_answer (view root.now.tree)) }
     {
         judge_form(alloc, root)?;
         let entries = read_entries(alloc, root.value())?;
@@ -76,7 +76,7 @@ impl PrefixList {
 
     /// Returns the list of the entries, or their first rejection.
     fn of_entries(alloc: Global, entries: &[PrefixEntry]) -> Result<PrefixList, PrefixFault>
-        ensures { OrMemory result (first_or (rejections entries.now) entries.now) }
+        ensures { OrError PrefixFault.Memory result (first_or (rejections entries.now) entries.now) }
     {
         if entries.len() > MOST_ENTRIES {
             return Err(PrefixFault::Limit);
@@ -109,7 +109,7 @@ impl PrefixList {
 
     /// Returns the length of the longest entry that is a prefix of the digits.
     fn longest(&self, digits: &[u8]) -> Option<u8>
-        ensures length { result ≡ length_of_longest self.now digits.now }
+        ensures length { result ≡ option_map (λ entry. entry.length) (longest_entry self.now digits.now) }
         ensures range { IfSome result (λ n. n ≤ 12) }
     {
         for n in (1..13).rev() {

@@ -24,7 +24,7 @@ use Rattle.gs_tables.specs.declared.level_tables.LevelTable.{LevelTable}
 use Rattle.gs_tables_document.specs.declared.document.OptInfo.{OptInfo}
 use Rattle.gs_tables.specs.Forms.{further_at, serial_at}
 use Rattle.gs_tables_document.specs.Documents.{is_bits}
-use Rattle.gs_tables_document.specs.Limits.{most_items, most_kinds, most_rows}
+use Rattle.gs_tables_document.specs.Limits.{most_items}
 use Rattle.gs_tables_document.specs.Items.{FieldItem, alone, fields_of, present}
 use Rattle.gs_tables.specs.Rules.{is_kind, fits_kind, has_name, lacks_field}
 
@@ -77,9 +77,9 @@ has_long rows = list_any (λ (row : OptionRow). more_than most_items row.items) 
 -- trusted, own: the limits of the numbers of rows
 unfoldable pub limit_rejections : Document → List LoadFault
 limit_rejections document =
-    error_if (more_than most_rows document.ais) (Limit Ais)
-    ++ error_if (more_than most_kinds document.kinds) (Limit Kinds)
-    ++ error_if (more_than most_rows document.binary || more_than most_rows document.tag || more_than most_rows document.pure) (Limit Options)
+    error_if (more_than 256 document.ais) (Limit Ais)
+    ++ error_if (more_than 64 document.kinds) (Limit Kinds)
+    ++ error_if (more_than 256 document.binary || more_than 256 document.tag || more_than 256 document.pure) (Limit Options)
     ++ error_if (has_long document.binary || has_long document.tag || has_long document.pure) (Limit Items)
 
 -- trusted, own: the rejection of kind i, if it breaks a rule

@@ -2,7 +2,6 @@ ghost use Rattle.std.specs.Prelude.{◌≡◌, ◌||◌, ◌++◌, not, length, 
 ghost use Rattle.std.specs.List.{flat_map, enumerate_from};
 ghost use Rattle.gs_tables.specs.Rules.{is_kind};
 ghost use Rattle.gs_tables_document.specs.Documents.{is_bits};
-ghost use Rattle.gs_tables_document.specs.Limits.{most_rows};
 ghost use Rattle.gs_chars.specs.Answers.{error_if};
 ghost use Rattle.gs_tables.specs.Tables.{has_long, is_version, kind_rejections, kinds_rejections, level_rejections};
 ghost use Rattle.gs_tables.specs.Tables.{limit_rejections, more_than, option_rejections, kind_of};
@@ -50,7 +49,7 @@ fn has_long(rows: &[OptionRow]) -> bool
 
 /// Returns whether there are more application identifiers than there may be.
 fn has_many_ais(document: &Document) -> bool
-    ensures { result ≡ more_than most_rows document.now.ais }
+    ensures { result ≡ more_than 256 document.now.ais }
 {
     document.ais.items().len() > MOST_ROWS
 }

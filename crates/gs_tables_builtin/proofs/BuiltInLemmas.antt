@@ -1,11 +1,11 @@
 -- The built-in rows: bits and rows one by one, and tests that hold at each row.
-use Rattle.std.proofs.Common.{◌≡◌, ℕ, ◌+◌, ◌-◌, ◌<◌, ◌≤◌, ◌∙◌, zero, suc, Bool, true, false, List, [], ◌∷◌, ◌++◌, length, map, take, get_or, append_assoc, Option, refl, sym, ap, arith}
+use Rattle.std.proofs.Common.{◌≡◌, ℕ, ◌+◌, ◌-◌, ◌<◌, ◌≤◌, ◌∙◌, zero, suc, Bool, true, false, List, [], ◌∷◌, ◌++◌, length, map, take, get_or, append_assoc, Option, Some, refl, sym, ap, arith}
 use Rattle.std.proofs.lemmas.List.Folds.{list_all_at}
 use Rattle.std.specs.Int.{bit_at}
 use Rattle.std.proofs.lemmas.List.{flat_map_more, map-append, take_all, take_more}
 use Rattle.std.specs.List.{flat_map, list_all}
 use Rattle.gs_bits.specs.Bits.{bits_of}
-use Rattle.gs_tables_builtin.specs.BuiltIn.{asset_encodings, behind_prefix, document_encodings, encodings, further_encodings, item_encodings, there}
+use Rattle.gs_tables_builtin.specs.BuiltIn.{behind_prefix, encodings}
 use Rattle.gs_tables_builtin.specs.BuiltInSupport.{rests_fit}
 use Rattle.gs_tables_document.specs.Items.{FieldItem}
 use Rattle.gs_grammar.specs.declared.item.Item.{Item}
@@ -26,8 +26,8 @@ one_more old mid new x xs gained e = rw gained at e ∙ append_assoc old (x ∷ 
 
 -- the items after the company prefix, after the earlier ones
 pub same_behind : (old new : List (Option FieldItem)) (rest rest' : FieldItem) (pieces : List FieldItem) (serial serial' : Option Item)
-    → rest ≡ rest' → serial ≡ serial' → new ≡ old ++ map there (behind_prefix rest pieces serial)
-    → new ≡ old ++ map there (behind_prefix rest' pieces serial')
+    → rest ≡ rest' → serial ≡ serial' → new ≡ old ++ map Some (behind_prefix rest pieces serial)
+    → new ≡ old ++ map Some (behind_prefix rest' pieces serial')
 same_behind old new rest rest' pieces serial serial' r s h = rw (r, s) at h
 
 -- the row of one more of those that a row each is made for
@@ -48,7 +48,7 @@ flat_whole f xs i new all h = let whole : take i xs ≡ xs = take_all i xs all i
 
 -- the numbers of the encodings have at most 64 bits
 pub rests_of_encodings_fit : list_all rests_fit encodings ≡ true
-unfolding encodings item_encodings asset_encodings document_encodings further_encodings
+unfolding encodings
 rests_of_encodings_fit = refl
 
 -- the rows of one more of those that the rows are made for

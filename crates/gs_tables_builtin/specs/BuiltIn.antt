@@ -59,46 +59,26 @@ encoding name kind header width rest serial after = record { name = name; kind =
 abbrev pub zeros : ℕ → Item
 zeros n = Lit (replicate n 0)
 
--- trusted, own: the encodings of trade items, logistic units and locations
-unfoldable pub item_encodings : List Encoding
-item_encodings =
+-- trusted, TDS 2.0, section 14.6: the list of all encodings, in the order of the options
+unfoldable pub encodings : List Encoding
+encodings =
     encoding (codes "sgtin-96") (codes "sgtin") 48 44 (Digits 13) (Some (Num 38 274877906943)) None
     ∷ encoding (codes "sgtin-198") (codes "sgtin") 54 44 (Digits 13) (Some (Ascii7 1 20 140)) (Some (Fill 2 10))
     ∷ encoding (codes "sscc-96") (codes "sscc") 49 58 (Digits 17) None (Some (zeros 24))
     ∷ encoding (codes "sgln-96") (codes "sgln") 50 41 (Digits 12) (Some (Num 41 2199023255551)) None
-    ∷ encoding (codes "sgln-195") (codes "sgln") 57 41 (Digits 12) (Some (Ascii7 1 20 140)) (Some (Fill 5 13)) ∷ []
-
--- trusted, own: the encodings of assets
-unfoldable pub asset_encodings : List Encoding
-asset_encodings =
-    encoding (codes "grai-96") (codes "grai") 51 44 (Digits 12) (Some (Num 38 274877906943)) None
+    ∷ encoding (codes "sgln-195") (codes "sgln") 57 41 (Digits 12) (Some (Ascii7 1 20 140)) (Some (Fill 5 13))
+    ∷ encoding (codes "grai-96") (codes "grai") 51 44 (Digits 12) (Some (Num 38 274877906943)) None
     ∷ encoding (codes "grai-170") (codes "grai") 55 44 (Digits 12) (Some (Ascii7 1 16 112)) (Some (Fill 6 6))
     ∷ encoding (codes "giai-96") (codes "giai") 52 82 Number None None
-    ∷ encoding (codes "giai-202") (codes "giai") 56 188 Characters None (Some (Fill 6 6)) ∷ []
-
--- trusted, own: the encodings of documents and services
-unfoldable pub document_encodings : List Encoding
-document_encodings =
-    encoding (codes "gdti-96") (codes "gdti") 44 41 (Digits 12) (Some (Num 41 2199023255551)) None
+    ∷ encoding (codes "giai-202") (codes "giai") 56 188 Characters None (Some (Fill 6 6))
+    ∷ encoding (codes "gdti-96") (codes "gdti") 44 41 (Digits 12) (Some (Num 41 2199023255551)) None
     ∷ encoding (codes "gdti-174") (codes "gdti") 62 41 (Digits 12) (Some (Ascii7 1 17 119)) (Some (Fill 2 2))
-    ∷ encoding (codes "gsrn-96") (codes "gsrn") 45 58 (Digits 17) None (Some (zeros 24)) ∷ []
-
--- trusted, own: the encodings of coupons, pieces of trade items and service providers
-unfoldable pub further_encodings : List Encoding
-further_encodings =
-    encoding (codes "sgcn-96") (codes "sgcn") 63 41 (Digits 12) (Some (NumStr 41 12)) None
+    ∷ encoding (codes "gsrn-96") (codes "gsrn") 45 58 (Digits 17) None (Some (zeros 24))
+    ∷ encoding (codes "sgcn-96") (codes "sgcn") 63 41 (Digits 12) (Some (NumStr 41 12)) None
     ∷ encoding (codes "itip-110") (codes "itip") 64 44 (InPieces 13) (Some (Num 38 274877906943)) (Some (Fill 2 2))
     ∷ encoding (codes "gsrnp-96") (codes "gsrnp") 46 58 (Digits 17) None (Some (zeros 24)) ∷ []
 
--- trusted, TDS 2.0, section 14.6: the list of all encodings, in the order of the options
-unfoldable pub encodings : List Encoding
-encodings = item_encodings ++ asset_encodings ++ document_encodings ++ further_encodings
-
 -- ---- options
-
--- trusted, own: the item `i`, which is not absent
-abbrev pub there : FieldItem → Option FieldItem
-there i = Some i
 
 -- trusted, own: the item of a field, if there is one
 abbrev pub of_field : Option Field → Option Item → List FieldItem
@@ -192,7 +172,7 @@ row_with kind encoding p items = record { kind = kind; encoding = encoding; gcp 
 
 -- trusted, own: the option of a kind and an encoding for a company prefix length
 abbrev pub option_row : List ℕ → List ℕ → Partition → List FieldItem → OptionRow
-option_row kind encoding p items = row_with kind encoding p (map there items)
+option_row kind encoding p items = row_with kind encoding p (map Some items)
 
 -- trusted, own: the items of an option of an encoding for a length of the prefix, of tag bits or of tag URIs
 abbrev pub encoded_items : Bool → Encoding → Partition → List FieldItem
@@ -215,20 +195,15 @@ pure_row k p = option_row k.name [] p (pure_items k p)
 abbrev pub pure_rows : Identity → List OptionRow
 pure_rows k = map (pure_row k) partitions
 
--- trusted, own: the options of tag bits, for each encoding
-unfoldable pub builtin_binary : List OptionRow
-builtin_binary = flat_map (encoded_rows true) encodings
-
--- trusted, own: the options of tag URIs, for each encoding
-unfoldable pub builtin_tag : List OptionRow
-builtin_tag = flat_map (encoded_rows false) encodings
-
--- trusted, own: the options of pure identity URIs, for each kind
-unfoldable pub builtin_pure : List OptionRow
-builtin_pure = flat_map pure_rows identities
-
 -- ---- numbers that 64 bits hold, as the code has them
 
 -- trusted, own choice: the rows of the built-in tables
 abbrev pub builtin_document : Document
-builtin_document = record { version = 2; ais = builtin_ais; kinds = builtin_kinds; binary = builtin_binary; tag = builtin_tag; pure = builtin_pure }
+builtin_document = record {
+  version = 2;
+  ais = builtin_ais;
+  kinds = builtin_kinds;
+  binary = flat_map (encoded_rows true) encodings;
+  tag = flat_map (encoded_rows false) encodings;
+  pure = flat_map pure_rows identities;
+}

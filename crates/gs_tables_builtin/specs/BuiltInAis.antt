@@ -18,89 +18,43 @@ qualifier code p none = record { code = code; parts = p ∷ []; role = role.Qual
 abbrev pub key : List ℕ → List Part → List (List ℕ) → Bool → AiRow
 key code parts qualifiers short = record { code = code; parts = parts; role = role.Key; qualifiers = qualifiers; short = short; none = [] }
 
--- trusted, own: the rows of logistic units, trade items and lots
-unfoldable pub item_ais : List AiRow
-item_ais =
+-- trusted, GS1 General Specifications, section 3; the choice is own: the list of all rows, in ascending order of their codes
+unfoldable pub builtin_ais : List AiRow
+builtin_ais =
     key (codes "00") (part.NumCheck 18 ∷ []) [] false
     ∷ key (codes "01") (part.NumCheck 14 ∷ []) (codes "22" ∷ codes "10" ∷ codes "21" ∷ []) true
     ∷ attribute (codes "02") (part.NumCheck 14)
-    ∷ qualifier (codes "10") (part.Set 20) [] ∷ []
-
--- trusted, own: the rows of dates
-unfoldable pub date_ais : List AiRow
-date_ais =
-    attribute (codes "11") part.Date ∷ attribute (codes "12") part.Date ∷ attribute (codes "13") part.Date
-    ∷ attribute (codes "15") part.Date ∷ attribute (codes "16") part.Date ∷ attribute (codes "17") part.Date ∷ []
-
--- trusted, own: the rows of variants, serials and counts
-unfoldable pub variant_ais : List AiRow
-variant_ais =
-    attribute (codes "20") (part.Num 2)
+    ∷ qualifier (codes "10") (part.Set 20) []
+    ∷ attribute (codes "11") part.Date ∷ attribute (codes "12") part.Date ∷ attribute (codes "13") part.Date
+    ∷ attribute (codes "15") part.Date ∷ attribute (codes "16") part.Date ∷ attribute (codes "17") part.Date
+    ∷ attribute (codes "20") (part.Num 2)
     ∷ qualifier (codes "21") (part.Set 20) [] ∷ qualifier (codes "22") (part.Set 20) []
-    ∷ attribute (codes "30") (part.NumUpTo 8) ∷ attribute (codes "37") (part.NumUpTo 8) ∷ []
-
--- trusted, own: the rows of additional identifications, documents, extensions of locations and coupons
-unfoldable pub additional_ais : List AiRow
-additional_ais =
-    attribute (codes "240") (part.Set 30) ∷ attribute (codes "241") (part.Set 30)
+    ∷ attribute (codes "30") (part.NumUpTo 8) ∷ attribute (codes "37") (part.NumUpTo 8)
+    ∷ attribute (codes "240") (part.Set 30) ∷ attribute (codes "241") (part.Set 30)
     ∷ attribute (codes "250") (part.Set 30) ∷ attribute (codes "251") (part.Set 30)
     ∷ key (codes "253") (part.NumCheck 13 ∷ part.SetOpt 17 ∷ []) [] false
     ∷ qualifier (codes "254") (part.Set 20) (codes "0")
-    ∷ key (codes "255") (part.NumCheck 13 ∷ part.NumOpt 12 ∷ []) [] false ∷ []
-
--- trusted, own: the rows of net weights
-unfoldable pub weight_ais : List AiRow
-weight_ais =
-    attribute (codes "3100") (part.Num 6) ∷ attribute (codes "3101") (part.Num 6) ∷ attribute (codes "3102") (part.Num 6)
-    ∷ attribute (codes "3103") (part.Num 6) ∷ attribute (codes "3104") (part.Num 6) ∷ attribute (codes "3105") (part.Num 6) ∷ []
-
--- trusted, own: the rows of orders, consignments and shipments
-unfoldable pub shipment_ais : List AiRow
-shipment_ais =
-    attribute (codes "400") (part.Set 30)
+    ∷ key (codes "255") (part.NumCheck 13 ∷ part.NumOpt 12 ∷ []) [] false
+    ∷ attribute (codes "3100") (part.Num 6) ∷ attribute (codes "3101") (part.Num 6) ∷ attribute (codes "3102") (part.Num 6)
+    ∷ attribute (codes "3103") (part.Num 6) ∷ attribute (codes "3104") (part.Num 6) ∷ attribute (codes "3105") (part.Num 6)
+    ∷ attribute (codes "400") (part.Set 30)
     ∷ key (codes "401") (part.Set 30 ∷ []) [] false
     ∷ key (codes "402") (part.NumCheck 17 ∷ []) [] false
-    ∷ attribute (codes "403") (part.Set 30) ∷ []
-
--- trusted, own: the rows of parties that goods are sent, billed or bought for
-unfoldable pub party_ais : List AiRow
-party_ais =
-    attribute (codes "410") (part.NumCheck 13) ∷ attribute (codes "411") (part.NumCheck 13)
-    ∷ attribute (codes "412") (part.NumCheck 13) ∷ attribute (codes "413") (part.NumCheck 13) ∷ []
-
--- trusted, own: the rows of locations, and of parties by themselves
-unfoldable pub location_ais : List AiRow
-location_ais =
-    key (codes "414") (part.NumCheck 13 ∷ []) (codes "254" ∷ []) false
+    ∷ attribute (codes "403") (part.Set 30)
+    ∷ attribute (codes "410") (part.NumCheck 13) ∷ attribute (codes "411") (part.NumCheck 13)
+    ∷ attribute (codes "412") (part.NumCheck 13) ∷ attribute (codes "413") (part.NumCheck 13)
+    ∷ key (codes "414") (part.NumCheck 13 ∷ []) (codes "254" ∷ []) false
     ∷ attribute (codes "415") (part.NumCheck 13) ∷ attribute (codes "416") (part.NumCheck 13)
-    ∷ key (codes "417") (part.NumCheck 13 ∷ []) [] false ∷ []
-
--- trusted, own: the rows of assets, pieces of trade items and services
-unfoldable pub asset_ais : List AiRow
-asset_ais =
-    key (codes "8003") (part.Zero ∷ part.NumCheck 13 ∷ part.SetOpt 16 ∷ []) [] false
+    ∷ key (codes "417") (part.NumCheck 13 ∷ []) [] false
+    ∷ key (codes "8003") (part.Zero ∷ part.NumCheck 13 ∷ part.SetOpt 16 ∷ []) [] false
     ∷ key (codes "8004") (part.Set 30 ∷ []) [] false
     ∷ key (codes "8006") (part.NumCheck 14 ∷ part.Num 2 ∷ part.Num 2 ∷ []) (codes "22" ∷ codes "10" ∷ codes "21" ∷ []) false
     ∷ key (codes "8017") (part.NumCheck 18 ∷ []) (codes "8019" ∷ []) false
     ∷ key (codes "8018") (part.NumCheck 18 ∷ []) (codes "8019" ∷ []) false
     ∷ qualifier (codes "8019") (part.NumUpTo 10) []
-    ∷ attribute (codes "8020") (part.Set 25) ∷ []
-
--- trusted, own: the AIs that partners agree on, and that companies use internally
-unfoldable pub agreed_ais : List AiRow
-agreed_ais =
-    attribute (codes "90") (part.Set 30)
+    ∷ attribute (codes "8020") (part.Set 25)
+    ∷ attribute (codes "90") (part.Set 30)
     ∷ attribute (codes "91") (part.Set 90) ∷ attribute (codes "92") (part.Set 90) ∷ attribute (codes "93") (part.Set 90)
-    ∷ attribute (codes "94") (part.Set 90) ∷ []
-
--- trusted, own: the AIs that companies use internally
-unfoldable pub company_ais : List AiRow
-company_ais =
-    attribute (codes "95") (part.Set 90) ∷ attribute (codes "96") (part.Set 90) ∷ attribute (codes "97") (part.Set 90)
+    ∷ attribute (codes "94") (part.Set 90)
+    ∷ attribute (codes "95") (part.Set 90) ∷ attribute (codes "96") (part.Set 90) ∷ attribute (codes "97") (part.Set 90)
     ∷ attribute (codes "98") (part.Set 90) ∷ attribute (codes "99") (part.Set 90) ∷ []
-
--- trusted, GS1 General Specifications, section 3; the choice is own: the list of all rows, in ascending order of their codes
-unfoldable pub builtin_ais : List AiRow
-builtin_ais =
-    item_ais ++ date_ais ++ variant_ais ++ additional_ais ++ weight_ais ++ shipment_ais ++ party_ais ++ location_ais
-    ++ asset_ais ++ agreed_ais ++ company_ais

@@ -1,5 +1,5 @@
 -- Definitions for proofs and private functions, in addition to BuiltIn.antt.
-use Rattle.std.specs.Prelude.{◌≡◌, ℕ, ◌-◌, nat_le, Bool, true, false, List, [], ◌∷◌, ◌++◌, codes, Option, Some, None, option_map}
+use Rattle.std.specs.Prelude.{◌≡◌, ℕ, ◌-◌, nat_le, Bool, true, false, List, [], ◌∷◌, ◌++◌, codes, drop, take, Option, Some, None, option_map}
 use Rattle.std.specs.Borrow.{Bor}
 use Rattle.std.specs.List.{flat_map, list_all}
 use Rattle.gs_tables_builtin.specs.BuiltInAis.{builtin_ais}
@@ -21,7 +21,7 @@ use Rattle.gs_tables_builtin.specs.declared.encoding.SerialLine.{SerialLine}
 use Rattle.gs_tables_builtin.specs.declared.encoding.SerialLine.TheVariants as serial_line
 use Rattle.gs_tables_document.specs.declared.document.Field.TheVariants.{Filter, Gcp, Serial}
 use Rattle.gs_tables_document.specs.Items.{FieldItem}
-use Rattle.gs_tables_builtin.specs.BuiltIn.{kind, builtin_kinds, partitions, encoding, zeros, of_field, rest_in_bits, pieces_in_bits, pieces_in_text, in_text, behind_prefix, in_text_too, identity, encoded_rows, pure_rows}
+use Rattle.gs_tables_builtin.specs.BuiltIn.{kind, builtin_kinds, partitions, encoding, encodings, zeros, of_field, rest_in_bits, pieces_in_bits, pieces_in_text, in_text, behind_prefix, in_text_too, identity, encoded_rows, pure_rows}
 
 -- holds if the list, given by the old and the new one, has gained this row at its end
 abbrev pub Gains : {X : Type 0} → List X → List X → X → Type 0
@@ -48,6 +48,10 @@ item_known (item_line.Zeros n) = Some (zeros n)
 -- the encoding that a line of the code describes
 abbrev pub encoding_known : EncodingLine → Encoding
 encoding_known l = encoding l.name.now l.kind.now l.header l.width l.rest (item_known l.serial) (item_known l.after)
+
+-- the n encodings from index k
+abbrev pub encodings_at : ℕ → ℕ → List Encoding
+encodings_at k n = take n (drop k encodings)
 
 -- header, filter, partition and prefix
 abbrev pub binary_head : ℕ → Partition → List FieldItem

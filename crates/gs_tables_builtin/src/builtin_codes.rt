@@ -1,8 +1,6 @@
 ghost use Rattle.std.specs.Prelude.{◌≡◌, ◌++◌, IfOk, OnOk, map};
-ghost use Rattle.gs_tables_builtin.specs.BuiltInAis.{additional_ais, agreed_ais, asset_ais, builtin_ais, company_ais};
-ghost use Rattle.gs_tables_builtin.specs.BuiltInAis.{date_ais, item_ais, location_ais, party_ais, shipment_ais};
-ghost use Rattle.gs_tables_builtin.specs.BuiltInAis.{variant_ais, weight_ais};
-ghost use Rattle.gs_tables_builtin.specs.BuiltInAisSupport.{ai_row, goods_ais, other_ais, row_of, known};
+ghost use Rattle.gs_tables_builtin.specs.BuiltInAis.{builtin_ais};
+ghost use Rattle.gs_tables_builtin.specs.BuiltInAisSupport.{ai_row, goods_ais, known, other_ais, row_of, rows_at};
 
 use crate::builtin_codes::AiLine::{Attribute, Key, Qualifier};
 use gs_ai::Part::{Date, Num, NumCheck, NumOpt, NumUpTo, Set, SetOpt, Zero};
@@ -72,9 +70,9 @@ fn push_rows(alloc: Global, rows: &mut Vec<AiRow>, lines: &[AiLine<'_>]) -> Resu
 }
 
 /// Appends the rows of logistic units, trade items and lots.
-#[tactic(auto, unfolding(crate::specs::BuiltInAis::item_ais))]
+#[tactic(auto, unfolding(crate::specs::BuiltInAis::builtin_ais))]
 fn add_items(alloc: Global, rows: &mut Vec<AiRow>) -> Result<(), Memory>
-    ensures { OnOk result (rows.new.items ≡ rows.old.items ++ item_ais) }
+    ensures { OnOk result (rows.new.items ≡ rows.old.items ++ rows_at 0 4) }
 {
     push_rows(
         alloc,
@@ -89,9 +87,9 @@ fn add_items(alloc: Global, rows: &mut Vec<AiRow>) -> Result<(), Memory>
 }
 
 /// Appends the rows of dates.
-#[tactic(auto, unfolding(crate::specs::BuiltInAis::date_ais))]
+#[tactic(auto, unfolding(crate::specs::BuiltInAis::builtin_ais))]
 fn add_dates(alloc: Global, rows: &mut Vec<AiRow>) -> Result<(), Memory>
-    ensures { OnOk result (rows.new.items ≡ rows.old.items ++ date_ais) }
+    ensures { OnOk result (rows.new.items ≡ rows.old.items ++ rows_at 4 6) }
 {
     push_rows(
         alloc,
@@ -108,9 +106,9 @@ fn add_dates(alloc: Global, rows: &mut Vec<AiRow>) -> Result<(), Memory>
 }
 
 /// Appends the rows of variants, serials and counts.
-#[tactic(auto, unfolding(crate::specs::BuiltInAis::variant_ais))]
+#[tactic(auto, unfolding(crate::specs::BuiltInAis::builtin_ais))]
 fn add_variants(alloc: Global, rows: &mut Vec<AiRow>) -> Result<(), Memory>
-    ensures { OnOk result (rows.new.items ≡ rows.old.items ++ variant_ais) }
+    ensures { OnOk result (rows.new.items ≡ rows.old.items ++ rows_at 10 5) }
 {
     push_rows(
         alloc,
@@ -126,9 +124,9 @@ fn add_variants(alloc: Global, rows: &mut Vec<AiRow>) -> Result<(), Memory>
 }
 
 /// Appends the rows of additional identifications, documents, extensions of locations and coupons.
-#[tactic(auto, unfolding(crate::specs::BuiltInAis::additional_ais))]
+#[tactic(auto, unfolding(crate::specs::BuiltInAis::builtin_ais))]
 fn add_additional(alloc: Global, rows: &mut Vec<AiRow>) -> Result<(), Memory>
-    ensures { OnOk result (rows.new.items ≡ rows.old.items ++ additional_ais) }
+    ensures { OnOk result (rows.new.items ≡ rows.old.items ++ rows_at 15 7) }
 {
     push_rows(
         alloc,
@@ -146,9 +144,9 @@ fn add_additional(alloc: Global, rows: &mut Vec<AiRow>) -> Result<(), Memory>
 }
 
 /// Appends the rows of net weights.
-#[tactic(auto, unfolding(crate::specs::BuiltInAis::weight_ais))]
+#[tactic(auto, unfolding(crate::specs::BuiltInAis::builtin_ais))]
 fn add_weights(alloc: Global, rows: &mut Vec<AiRow>) -> Result<(), Memory>
-    ensures { OnOk result (rows.new.items ≡ rows.old.items ++ weight_ais) }
+    ensures { OnOk result (rows.new.items ≡ rows.old.items ++ rows_at 22 6) }
 {
     push_rows(
         alloc,
@@ -165,9 +163,9 @@ fn add_weights(alloc: Global, rows: &mut Vec<AiRow>) -> Result<(), Memory>
 }
 
 /// Appends the rows of orders, consignments and shipments.
-#[tactic(auto, unfolding(crate::specs::BuiltInAis::shipment_ais))]
+#[tactic(auto, unfolding(crate::specs::BuiltInAis::builtin_ais))]
 fn add_shipments(alloc: Global, rows: &mut Vec<AiRow>) -> Result<(), Memory>
-    ensures { OnOk result (rows.new.items ≡ rows.old.items ++ shipment_ais) }
+    ensures { OnOk result (rows.new.items ≡ rows.old.items ++ rows_at 28 4) }
 {
     push_rows(
         alloc,
@@ -182,9 +180,9 @@ fn add_shipments(alloc: Global, rows: &mut Vec<AiRow>) -> Result<(), Memory>
 }
 
 /// Appends the rows of parties that goods are sent, billed or bought for.
-#[tactic(auto, unfolding(crate::specs::BuiltInAis::party_ais))]
+#[tactic(auto, unfolding(crate::specs::BuiltInAis::builtin_ais))]
 fn add_parties(alloc: Global, rows: &mut Vec<AiRow>) -> Result<(), Memory>
-    ensures { OnOk result (rows.new.items ≡ rows.old.items ++ party_ais) }
+    ensures { OnOk result (rows.new.items ≡ rows.old.items ++ rows_at 32 4) }
 {
     push_rows(
         alloc,
@@ -199,9 +197,9 @@ fn add_parties(alloc: Global, rows: &mut Vec<AiRow>) -> Result<(), Memory>
 }
 
 /// Appends the rows of locations and other parties.
-#[tactic(auto, unfolding(crate::specs::BuiltInAis::location_ais))]
+#[tactic(auto, unfolding(crate::specs::BuiltInAis::builtin_ais))]
 fn add_locations(alloc: Global, rows: &mut Vec<AiRow>) -> Result<(), Memory>
-    ensures { OnOk result (rows.new.items ≡ rows.old.items ++ location_ais) }
+    ensures { OnOk result (rows.new.items ≡ rows.old.items ++ rows_at 36 4) }
 {
     push_rows(
         alloc,
@@ -216,9 +214,9 @@ fn add_locations(alloc: Global, rows: &mut Vec<AiRow>) -> Result<(), Memory>
 }
 
 /// Appends the rows of assets, pieces of trade items and services.
-#[tactic(auto, unfolding(crate::specs::BuiltInAis::asset_ais))]
+#[tactic(auto, unfolding(crate::specs::BuiltInAis::builtin_ais))]
 fn add_assets(alloc: Global, rows: &mut Vec<AiRow>) -> Result<(), Memory>
-    ensures { OnOk result (rows.new.items ≡ rows.old.items ++ asset_ais) }
+    ensures { OnOk result (rows.new.items ≡ rows.old.items ++ rows_at 40 7) }
 {
     push_rows(
         alloc,
@@ -241,9 +239,9 @@ fn add_assets(alloc: Global, rows: &mut Vec<AiRow>) -> Result<(), Memory>
 }
 
 /// Appends the rows that trading partners agree on, and the first company internal ones.
-#[tactic(auto, unfolding(crate::specs::BuiltInAis::agreed_ais))]
+#[tactic(auto, unfolding(crate::specs::BuiltInAis::builtin_ais))]
 fn add_agreed(alloc: Global, rows: &mut Vec<AiRow>) -> Result<(), Memory>
-    ensures { OnOk result (rows.new.items ≡ rows.old.items ++ agreed_ais) }
+    ensures { OnOk result (rows.new.items ≡ rows.old.items ++ rows_at 47 5) }
 {
     push_rows(
         alloc,
@@ -259,9 +257,9 @@ fn add_agreed(alloc: Global, rows: &mut Vec<AiRow>) -> Result<(), Memory>
 }
 
 /// Appends the company internal rows.
-#[tactic(auto, unfolding(crate::specs::BuiltInAis::company_ais))]
+#[tactic(auto, unfolding(crate::specs::BuiltInAis::builtin_ais))]
 fn add_company(alloc: Global, rows: &mut Vec<AiRow>) -> Result<(), Memory>
-    ensures { OnOk result (rows.new.items ≡ rows.old.items ++ company_ais) }
+    ensures { OnOk result (rows.new.items ≡ rows.old.items ++ rows_at 52 5) }
 {
     push_rows(
         alloc,

@@ -1,6 +1,6 @@
 ghost use Rattle.std.specs.Prelude.{◌≡◌, ◌++◌, IfOk, OnOk, map};
-ghost use Rattle.gs_tables_builtin.specs.BuiltIn.{asset_encodings, document_encodings, encodings, further_encodings, identities, item_encodings, zeros};
-ghost use Rattle.gs_tables_builtin.specs.BuiltInSupport.{encoding_known, identity_known, identity_with, item_known, serial_known};
+ghost use Rattle.gs_tables_builtin.specs.BuiltIn.{encodings, identities, zeros};
+ghost use Rattle.gs_tables_builtin.specs.BuiltInSupport.{encoding_known, encodings_at, identity_known, identity_with, item_known, serial_known};
 
 use crate::encoding::RestForm::{Characters, Digits, InPieces, Number};
 use crate::encoding::{
@@ -95,9 +95,9 @@ macro_rules! lines {
 }
 
 /// Appends the encodings of trade items, logistic units and locations.
-#[tactic(auto, unfolding(crate::specs::BuiltIn::item_encodings))]
+#[tactic(auto, unfolding(crate::specs::BuiltIn::encodings))]
 fn add_item_encodings(alloc: Global, rows: &mut Vec<Encoding>) -> Result<(), Memory>
-    ensures { OnOk result (rows.new.items ≡ rows.old.items ++ item_encodings) }
+    ensures { OnOk result (rows.new.items ≡ rows.old.items ++ encodings_at 0 5) }
 {
     push_encodings(
         alloc,
@@ -113,9 +113,9 @@ fn add_item_encodings(alloc: Global, rows: &mut Vec<Encoding>) -> Result<(), Mem
 }
 
 /// Appends the encodings of assets.
-#[tactic(auto, unfolding(crate::specs::BuiltIn::asset_encodings))]
+#[tactic(auto, unfolding(crate::specs::BuiltIn::encodings))]
 fn add_asset_encodings(alloc: Global, rows: &mut Vec<Encoding>) -> Result<(), Memory>
-    ensures { OnOk result (rows.new.items ≡ rows.old.items ++ asset_encodings) }
+    ensures { OnOk result (rows.new.items ≡ rows.old.items ++ encodings_at 5 4) }
 {
     push_encodings(
         alloc,
@@ -130,9 +130,9 @@ fn add_asset_encodings(alloc: Global, rows: &mut Vec<Encoding>) -> Result<(), Me
 }
 
 /// Appends the encodings of documents and services.
-#[tactic(auto, unfolding(crate::specs::BuiltIn::document_encodings))]
+#[tactic(auto, unfolding(crate::specs::BuiltIn::encodings))]
 fn add_document_encodings(alloc: Global, rows: &mut Vec<Encoding>) -> Result<(), Memory>
-    ensures { OnOk result (rows.new.items ≡ rows.old.items ++ document_encodings) }
+    ensures { OnOk result (rows.new.items ≡ rows.old.items ++ encodings_at 9 3) }
 {
     push_encodings(
         alloc,
@@ -146,9 +146,9 @@ fn add_document_encodings(alloc: Global, rows: &mut Vec<Encoding>) -> Result<(),
 }
 
 /// Appends the encodings of coupons, pieces of trade items and service providers.
-#[tactic(auto, unfolding(crate::specs::BuiltIn::further_encodings))]
+#[tactic(auto, unfolding(crate::specs::BuiltIn::encodings))]
 fn add_further_encodings(alloc: Global, rows: &mut Vec<Encoding>) -> Result<(), Memory>
-    ensures { OnOk result (rows.new.items ≡ rows.old.items ++ further_encodings) }
+    ensures { OnOk result (rows.new.items ≡ rows.old.items ++ encodings_at 12 3) }
 {
     push_encodings(
         alloc,

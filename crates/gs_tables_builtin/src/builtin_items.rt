@@ -2,7 +2,7 @@ ghost use Rattle.std.specs.Prelude.{◌≡◌, ◌≤◌, ◌-◌, ◌^◌, ◌�
 ghost use Rattle.std.specs.List.{flat_map};
 ghost use Rattle.gs_bits.specs.Bits.{bits_of};
 ghost use Rattle.gs_grammar.specs.declared.item.Item.TheVariants.{Lit};
-ghost use Rattle.gs_tables_builtin.specs.BuiltIn.{behind_prefix, binary_items, dotted, in_text, in_text_too, of_field, pieces_in_bits, pieces_in_text, pure_items, rest_in_bits, tag_items, there};
+ghost use Rattle.gs_tables_builtin.specs.BuiltIn.{behind_prefix, binary_items, dotted, in_text, in_text_too, of_field, pieces_in_bits, pieces_in_text, pure_items, rest_in_bits, tag_items};
 ghost use Rattle.gs_tables_builtin.specs.BuiltInSupport.{Gains, binary_head, binary_tail, rest_fits, tag_head, tag_tail};
 
 use crate::builtin_encodings::zeros;
@@ -18,7 +18,7 @@ fn push_item(
     field: Option<Field>,
     item: Item,
 ) -> Result<(), Memory>
-    ensures { OnOk result (Gains items.old.items items.new.items (there (field, item))) }
+    ensures { OnOk result (Gains items.old.items items.new.items (Some (field, item))) }
 {
     items.push(Some((field, item)))?;
     Ok(())
@@ -33,7 +33,7 @@ fn add_bits(
     number: u8,
 ) -> Result<(), Memory>
     requires { width ≤ 8 }
-    ensures { OnOk result (Gains items.old.items items.new.items (there (None, Lit (bits_of width number)))) }
+    ensures { OnOk result (Gains items.old.items items.new.items (Some (None, Lit (bits_of width number)))) }
 {
     let mut bits = Vec::new(alloc);
     let mut left = width;
@@ -46,7 +46,7 @@ fn add_bits(
 
 /// Appends a literal of the text.
 fn add_literal(alloc: Global, items: &mut Vec<Option<FieldItem>>, text: &[u8]) -> Result<(), Memory>
-    ensures { OnOk result (Gains items.old.items items.new.items (there (None, Lit text.now))) }
+    ensures { OnOk result (Gains items.old.items items.new.items (Some (None, Lit text.now))) }
 {
     let text = Text::from_bytes(alloc, text)?;
     push_item(items, None, Item::Lit(text))
@@ -70,7 +70,7 @@ fn add_beginning(
     name: &Text,
 ) -> Result<(), Memory>
     ensures { OnOk result (Gains items.old.items items.new.items
-        (there (None, Lit (beginning.now ++ name.now ++ codes ":")))) }
+        (Some (None, Lit (beginning.now ++ name.now ++ codes ":")))) }
 {
     let mut text = Vec::new(alloc);
     extend_with_name(&mut text, beginning, name)?;
@@ -172,7 +172,7 @@ fn add(
     field: Option<Field>,
     item: Option<Item>,
 ) -> Result<(), Memory>
-    ensures { OnOk result (items.new.items ≡ items.old.items ++ map there (of_field field item)) }
+    ensures { OnOk result (items.new.items ≡ items.old.items ++ map Some (of_field field item)) }
 {
     match item {
         Some(item) => push_item(items, field, item),
@@ -187,7 +187,7 @@ fn add_dotted(
     field: Field,
     item: Item,
 ) -> Result<(), Memory>
-    ensures { OnOk result (items.new.items ≡ items.old.items ++ map there (dotted field item)) }
+    ensures { OnOk result (items.new.items ≡ items.old.items ++ map Some (dotted field item)) }
 {
     add_literal(alloc, items, b".")?;
     push_item(items, Some(field), item)
@@ -200,7 +200,7 @@ fn add_serial(
     serial: Option<Item>,
 ) -> Result<(), Memory>
     ensures { OnOk result (items.new.items
-        ≡ items.old.items ++ map there (flat_map (dotted Field.Serial) (option_to_list serial))) }
+        ≡ items.old.items ++ map Some (flat_map (dotted Field.Serial) (option_to_list serial))) }
 {
     match serial {
         Some(serial) => add_dotted(alloc, items, Field::Serial, serial),
@@ -210,7 +210,7 @@ fn add_serial(
 
 /// Appends the piece and the total after the reference on the bit level, if the kind has them.
 fn add_pieces_in_bits(items: &mut Vec<Option<FieldItem>>, rest: RestForm) -> Result<(), Memory>
-    ensures { OnOk result (items.new.items ≡ items.old.items ++ map there (pieces_in_bits rest)) }
+    ensures { OnOk result (items.new.items ≡ items.old.items ++ map Some (pieces_in_bits rest)) }
 {
     match rest {
         RestForm::InPieces(_) => {
@@ -227,7 +227,7 @@ fn add_pieces_in_text(
     items: &mut Vec<Option<FieldItem>>,
     rest: RestForm,
 ) -> Result<(), Memory>
-    ensures { OnOk result (items.new.items ≡ items.old.items ++ map there (pieces_in_text rest)) }
+    ensures { OnOk result (items.new.items ≡ items.old.items ++ map Some (pieces_in_text rest)) }
 {
     match rest {
         RestForm::InPieces(_) => {
@@ -245,7 +245,7 @@ fn add_behind_dots(
     serial: Option<Item>,
 ) -> Result<(), Memory>
     ensures { OnOk result (items.new.items ≡ items.old.items
-        ++ there (None, Lit (codes "..")) ∷ map there (of_field (Some Field.Serial) serial)) }
+        ++ Some (None, Lit (codes "..")) ∷ map Some (of_field (Some Field.Serial) serial)) }
 {
     add_literal(alloc, items, b"..")?;
     add(items, Some(Field::Serial), serial)
@@ -260,7 +260,7 @@ fn add_behind_prefix(
     serial: Option<Item>,
 ) -> Result<(), Memory>
     ensures { OnOk result (items.new.items
-        ≡ items.old.items ++ map there (behind_prefix rest (pieces_in_text form) serial)) }
+        ≡ items.old.items ++ map Some (behind_prefix rest (pieces_in_text form) serial)) }
 {
     match rest {
         (None, _) => add_behind_dots(alloc, items, serial),
@@ -288,7 +288,7 @@ fn add_binary_head(
     header: u8,
     partition: Partition,
 ) -> Result<(), Memory>
-    ensures { OnOk result (items.new.items ≡ items.old.items ++ map there (binary_head header partition)) }
+    ensures { OnOk result (items.new.items ≡ items.old.items ++ map Some (binary_head header partition)) }
 {
     add_bits(alloc, items, 8, header)?;
     push_item(items, Some(Field::Filter), Item::Num { bits: 3, max: 7 })?;
@@ -309,7 +309,7 @@ fn add_binary_tail(
 ) -> Result<(), Memory>
     requires { IsTrue (rest_fits encoding.now.rest (encoding.now.width - partition.bits)) }
     ensures { OnOk result (items.new.items
-        ≡ items.old.items ++ map there (binary_tail encoding.now partition)) }
+        ≡ items.old.items ++ map Some (binary_tail encoding.now partition)) }
 {
     let bits = encoding.width.saturating_sub(partition.bits);
     let (field, rest) = rest_in_bits(alloc, encoding.rest, partition.digits, bits)?;
@@ -328,7 +328,7 @@ pub(crate) fn binary_items(
     partition: Partition,
 ) -> Result<List<Option<FieldItem>>, Memory>
     requires { IsTrue (rest_fits encoding.now.rest (encoding.now.width - partition.bits)) }
-    ensures { IfOk result (λ items. items ≡ map there (binary_items encoding.now partition)) }
+    ensures { IfOk result (λ items. items ≡ map Some (binary_items encoding.now partition)) }
 {
     let mut items = Vec::new(alloc);
     add_binary_head(alloc, &mut items, encoding.header, partition)?;
@@ -343,7 +343,7 @@ fn add_tag_head(
     name: &Text,
     n: u8,
 ) -> Result<(), Memory>
-    ensures { OnOk result (items.new.items ≡ items.old.items ++ map there (tag_head name.now n)) }
+    ensures { OnOk result (items.new.items ≡ items.old.items ++ map Some (tag_head name.now n)) }
 {
     add_beginning(alloc, items, b"urn:epc:tag:", name)?;
     push_item(items, Some(Field::Filter), Item::Int { max: 7 })?;
@@ -359,7 +359,7 @@ fn add_tag_tail(
     partition: Partition,
 ) -> Result<(), Memory>
     requires { IsTrue (rest_fits encoding.now.rest (encoding.now.width - partition.bits)) }
-    ensures { OnOk result (items.new.items ≡ items.old.items ++ map there (tag_tail encoding.now partition)) }
+    ensures { OnOk result (items.new.items ≡ items.old.items ++ map Some (tag_tail encoding.now partition)) }
 {
     let bits = encoding.width.saturating_sub(partition.bits);
     let rest = rest_in_text(alloc, encoding.rest, partition.digits, bits)?;
@@ -374,7 +374,7 @@ pub(crate) fn tag_items(
     partition: Partition,
 ) -> Result<List<Option<FieldItem>>, Memory>
     requires { IsTrue (rest_fits encoding.now.rest (encoding.now.width - partition.bits)) }
-    ensures { IfOk result (λ items. items ≡ map there (tag_items encoding.now partition)) }
+    ensures { IfOk result (λ items. items ≡ map Some (tag_items encoding.now partition)) }
 {
     let mut items = Vec::new(alloc);
     add_tag_head(alloc, &mut items, &encoding.name, partition.digits)?;
@@ -390,7 +390,7 @@ fn add_pure(
     partition: Partition,
 ) -> Result<(), Memory>
     ensures { OnOk result (items.new.items
-        ≡ items.old.items ++ map there (pure_items identity.now partition)) }
+        ≡ items.old.items ++ map Some (pure_items identity.now partition)) }
 {
     let n = partition.digits;
     add_beginning(alloc, items, b"urn:epc:id:", &identity.name)?;
@@ -406,7 +406,7 @@ pub(crate) fn pure_items(
     identity: &Identity,
     partition: Partition,
 ) -> Result<List<Option<FieldItem>>, Memory>
-    ensures { IfOk result (λ items. items ≡ map there (pure_items identity.now partition)) }
+    ensures { IfOk result (λ items. items ≡ map Some (pure_items identity.now partition)) }
 {
     let mut items = Vec::new(alloc);
     add_pure(alloc, &mut items, identity, partition)?;

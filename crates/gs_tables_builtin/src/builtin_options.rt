@@ -1,6 +1,6 @@
-ghost use Rattle.std.specs.Prelude.{◌≡◌, ◌-◌, ◌++◌, IfOk, IsTrue, OnOk, List, map};
+ghost use Rattle.std.specs.Prelude.{◌≡◌, ◌-◌, ◌++◌, IfOk, IsTrue, OnOk, List, Some, map};
 ghost use Rattle.std.specs.List.{flat_map, list_all};
-ghost use Rattle.gs_tables_builtin.specs.BuiltIn.{encoded_items, encoded_row, encoded_rows, pure_row, pure_rows, row_with, there};
+ghost use Rattle.gs_tables_builtin.specs.BuiltIn.{encoded_items, encoded_row, encoded_rows, pure_row, pure_rows, row_with};
 ghost use Rattle.gs_tables_builtin.specs.BuiltInSupport.{Gains, rest_fits, rests_fit};
 
 use crate::builtin_encodings::PARTITIONS;
@@ -62,7 +62,7 @@ fn encoded_items(
     partition: Partition,
 ) -> Result<List<Option<FieldItem>>, Memory>
     requires { IsTrue (rest_fits encoding.now.rest (encoding.now.width - partition.bits)) }
-    ensures { IfOk result (λ items. items ≡ map there (encoded_items bits encoding.now partition)) }
+    ensures { IfOk result (λ items. items ≡ map Some (encoded_items bits encoding.now partition)) }
 {
     if bits {
         binary_items(alloc, encoding, partition)

@@ -51,7 +51,7 @@ fn document_of(
 
 /// Returns the built-in rows: the application identifiers, ten kinds of key, and the options. Each encoding has the binary and
 /// the tag option for each company prefix length from 12 to 6, and each kind the pure option.
-#[tactic(auto, using(crate::proofs::BuiltInLemmas::rests_of_encodings_fit), unfolding(crate::specs::BuiltIn::builtin_binary, crate::specs::BuiltIn::builtin_tag, crate::specs::BuiltIn::builtin_pure))]
+#[tactic(auto, using(crate::proofs::BuiltInLemmas::rests_of_encodings_fit))]
 pub fn builtin_document(alloc: Global) -> Result<Document, Memory>
     ensures { IfOk result (λ document. document ≡ builtin_document) }
 {

@@ -2,7 +2,6 @@
 use Rattle.std.proofs.Common.{◌≡◌, List, inl, inr, ℕ}
 use Rattle.std.specs.Prelude.{Err}
 use Rattle.serde_json.specs.Data.{Data}
-use Rattle.gs_json.specs.Answers.{OrMemory}
 use Rattle.gs_json.specs.Shapes.{first_error}
 use Rattle.gs_json.specs.declared.error.JsonFault.{JsonFault}
 use Rattle.gs_json.specs.declared.error.JsonFault.TheVariants as json
@@ -10,6 +9,7 @@ use Rattle.gs_tables_document.specs.Documents.{document_errors}
 use Rattle.gs_tables_document.specs.Readings.{IsJson, IsFormRejection}
 use Rattle.gs_tables_document.specs.ReadingsSupport.{of_json}
 use Rattle.gs_tables_document.proofs.ErrorLists.{error_at}
+use Rattle.gs_chars.specs.Answers.{OrError}
 
 by_error : (bytes : List ℕ) (d : Data) (error : JsonFault) → IsJson bytes d → Err error ≡ first_error (document_errors d)
     → IsFormRejection bytes (of_json error)
@@ -21,6 +21,6 @@ by_error bytes d (json.Unknown p) is h = inr (d, is, error_at (document_errors d
 
 -- the answer to a document by the first error of its form
 pub form_rejected : (bytes : List ℕ) (d : Data) (error : JsonFault) → IsJson bytes d
-    → OrMemory (Err error) (first_error (document_errors d)) → IsFormRejection bytes (of_json error)
+    → OrError json.Memory (Err error) (first_error (document_errors d)) → IsFormRejection bytes (of_json error)
 form_rejected bytes d error is (inl h) = let same : error ≡ json.Memory = cc in rw same tt
 form_rejected bytes d error is (inr h) = by_error bytes d error is h

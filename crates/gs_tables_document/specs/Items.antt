@@ -88,69 +88,26 @@ no_field item = option_map (λ i. (None, i)) item
 abbrev pub both : Option ℕ → Option ℕ → (ℕ → ℕ → Item) → Option Item
 both a b make = option_and_then (λ x. option_map (λ y. make x y) b) a
 
--- trusted, own: the item of `["lit", TEXT]`, if `d` has this form
-abbrev pub literal : Data → Option FieldItem
-literal d = sized 2 d (no_field (option_map Lit (text_arg 1 d)))
-
--- trusted, own: the item of `["lit", BITS]` on a bit level, if `d` has this form
-abbrev pub bit_literal : Data → Option FieldItem
-bit_literal d = sized 2 d (no_field (option_map Lit (option_and_then bits_of (text_arg 1 d))))
-
--- trusted, own: the item of `["pad", FIELD, n]`, if `d` has this form
-abbrev pub pad : Data → Option FieldItem
-pad d = sized 3 d (with_field d (option_map Pad (byte_arg 2 d)))
-
--- trusted, own: the item of `["int", FIELD, max]`, if `d` has this form
-abbrev pub int : Data → Option FieldItem
-int d = sized 3 d (with_field d (option_map Int (number_arg 2 d)))
-
--- trusted, own: the item of `["esc", FIELD, lo, hi]`, if `d` has this form
-abbrev pub esc : Data → Option FieldItem
-esc d = sized 4 d (with_field d (both (byte_arg 2 d) (byte_arg 3 d) Esc))
-
--- trusted, own: the item of `["digits", FIELD, lo, hi]`, if `d` has this form
-abbrev pub digits : Data → Option FieldItem
-digits d = sized 4 d (with_field d (both (byte_arg 2 d) (byte_arg 3 d) Digits))
-
--- trusted, own: the item of `["numpad", FIELD, bits, n]`, if `d` has this form
-abbrev pub numpad : Data → Option FieldItem
-numpad d = sized 4 d (with_field d (both (byte_arg 2 d) (byte_arg 3 d) NumPad))
-
--- trusted, own: the item of `["num", FIELD, bits, max]`, if `d` has this form
-abbrev pub num : Data → Option FieldItem
-num d = sized 4 d (with_field d (both (byte_arg 2 d) (number_arg 3 d) Num))
-
--- trusted, own: the item of `["numstr", FIELD, bits, hi]`, if `d` has this form
-abbrev pub numstr : Data → Option FieldItem
-numstr d = sized 4 d (with_field d (both (byte_arg 2 d) (byte_arg 3 d) NumStr))
-
--- trusted, own: the item of `["ascii7", FIELD, lo, hi, bits]`, if `d` has this form
-abbrev pub ascii7 : Data → Option FieldItem
-ascii7 d = sized 5 d (with_field d (option_and_then (λ bits. both (byte_arg 2 d) (byte_arg 3 d) (λ lo hi. Ascii7 lo hi bits)) (short_arg 4 d)))
-
--- trusted, own: the item of `["fill", a, b]`, if `d` has this form
-abbrev pub fill : Data → Option FieldItem
-fill d = sized 3 d (no_field (both (byte_arg 1 d) (byte_arg 2 d) Fill))
-
--- trusted, own: the items of a text level by their names
+-- trusted, own: the items of a text level by their names: an array of the name, a field if the item has values, and its numbers
 abbrev pub text_item : List ℕ → Data → Option FieldItem
 text_item name d =
-    if bytes_eq name (codes "lit") then literal d
-    else if bytes_eq name (codes "pad") then pad d
-    else if bytes_eq name (codes "int") then int d
-    else if bytes_eq name (codes "esc") then esc d
-    else if bytes_eq name (codes "digits") then digits d
+    if bytes_eq name (codes "lit") then sized 2 d (no_field (option_map Lit (text_arg 1 d)))
+    else if bytes_eq name (codes "pad") then sized 3 d (with_field d (option_map Pad (byte_arg 2 d)))
+    else if bytes_eq name (codes "int") then sized 3 d (with_field d (option_map Int (number_arg 2 d)))
+    else if bytes_eq name (codes "esc") then sized 4 d (with_field d (both (byte_arg 2 d) (byte_arg 3 d) Esc))
+    else if bytes_eq name (codes "digits") then sized 4 d (with_field d (both (byte_arg 2 d) (byte_arg 3 d) Digits))
     else None
 
 -- trusted, own: the items of a bit level by their names
 abbrev pub bit_item : List ℕ → Data → Option FieldItem
 bit_item name d =
-    if bytes_eq name (codes "lit") then bit_literal d
-    else if bytes_eq name (codes "numpad") then numpad d
-    else if bytes_eq name (codes "num") then num d
-    else if bytes_eq name (codes "ascii7") then ascii7 d
-    else if bytes_eq name (codes "fill") then fill d
-    else if bytes_eq name (codes "numstr") then numstr d
+    if bytes_eq name (codes "lit") then sized 2 d (no_field (option_map Lit (option_and_then bits_of (text_arg 1 d))))
+    else if bytes_eq name (codes "numpad") then sized 4 d (with_field d (both (byte_arg 2 d) (byte_arg 3 d) NumPad))
+    else if bytes_eq name (codes "num") then sized 4 d (with_field d (both (byte_arg 2 d) (number_arg 3 d) Num))
+    else if bytes_eq name (codes "ascii7") then sized 5 d (with_field d
+    (option_and_then (λ bits. both (byte_arg 2 d) (byte_arg 3 d) (λ lo hi. Ascii7 lo hi bits)) (short_arg 4 d)))
+    else if bytes_eq name (codes "fill") then sized 3 d (no_field (both (byte_arg 1 d) (byte_arg 2 d) Fill))
+    else if bytes_eq name (codes "numstr") then sized 4 d (with_field d (both (byte_arg 2 d) (byte_arg 3 d) NumStr))
     else None
 
 -- trusted, own: the item of a bit level or of a text level that the array is, and its field

@@ -17,18 +17,11 @@ IsJson bytes d = IsUtf8 bytes × (read_text bytes ≡ Some d)
 abbrev pub Holds : List ℕ → Document → Type 0
 Holds bytes document = (d : Data) × IsJson bytes d × (document_errors d ≡ []) × IsDocument d document
 
--- trusted, own: holds if `bytes` are not JSON text, and `error` is `Syntax`
-abbrev pub IsNoJson : List ℕ → JsonFault → Type 0
-IsNoJson bytes error = (error ≡ Syntax) × (IsUtf8 bytes → read_text bytes ≡ None)
-
--- trusted, own: holds if `bytes` are JSON text, and `error` is the first error of the form of the document
-abbrev pub IsFirstError : List ℕ → JsonFault → Type 0
-IsFirstError bytes error = (d : Data) × IsJson bytes d × (slice_get (document_errors d) 0 ≡ Some error)
-
 -- trusted, own: holds if `bytes` are not JSON text and `error` is `Syntax`, or it is the first error of the form of the
 -- document
 abbrev pub IsFormError : List ℕ → JsonFault → Type 0
-IsFormError bytes error = IsNoJson bytes error ⊎ IsFirstError bytes error
+IsFormError bytes error = ((error ≡ Syntax) × (IsUtf8 bytes → read_text bytes ≡ None))
+    ⊎ ((d : Data) × IsJson bytes d × (slice_get (document_errors d) 0 ≡ Some error))
 
 -- trusted, own: holds if the rejection is `Memory`, or an error of the form of the document `bytes`
 abbrev pub IsFormRejection : List ℕ → LoadFault → Type 0

@@ -1,7 +1,10 @@
-ghost use Rattle.std.specs.Prelude.{◌≡◌, option_map};
+ghost use Rattle.std.specs.Prelude.{◌≡◌, option_map, option_and_then};
 ghost use Rattle.serde_json.specs.View.{view};
-ghost use Rattle.gs_tables_document.specs.Items.{Reads, ascii7, bit_literal, digits, esc, fill, int, literal, num, numpad, numstr, pad};
+ghost use Rattle.gs_tables_document.specs.Items.{Reads, bits_of, both, byte_arg, short_arg};
 ghost use Rattle.gs_tables_document.specs.ItemsSupport.{literal_text};
+ghost use Rattle.gs_tables_document.specs.Items.{no_field, number_arg, sized, text_arg, with_field};
+ghost use Rattle.gs_grammar.specs.declared.item.Item.TheVariants.{Ascii7, Digits, Esc, Int, Lit, Num, NumPad, NumStr, Pad};
+ghost use Rattle.gs_grammar.specs.declared.item.Item.TheVariants.{Fill};
 
 use crate::document::FieldItem;
 use crate::error::ItemFault;
@@ -23,7 +26,8 @@ fn literal_text(item: &Value) -> Option<&str>
 
 /// Reads `["lit", TEXT]`.
 pub(crate) fn read_literal(alloc: Global, item: &Value) -> Result<FieldItem, ItemFault>
-    ensures { Reads result (literal (view item.now)) }
+    ensures { Reads result (sized 2 (view item.now)
+        (no_field (option_map Lit (text_arg 1 (view item.now))))) }
 {
     match literal_text(item) {
         Some(text) => Ok((None, Item::Lit(Text::from_bytes(alloc, text.as_bytes())?))),
@@ -33,7 +37,8 @@ pub(crate) fn read_literal(alloc: Global, item: &Value) -> Result<FieldItem, Ite
 
 /// Reads `["lit", BITS]`.
 pub(crate) fn read_bits(alloc: Global, item: &Value) -> Result<FieldItem, ItemFault>
-    ensures { Reads result (bit_literal (view item.now)) }
+    ensures { Reads result (sized 2 (view item.now)
+        (no_field (option_map Lit (option_and_then bits_of (text_arg 1 (view item.now)))))) }
 {
     match literal_text(item) {
         Some(digits) => Ok((None, Item::Lit(bits_of(alloc, digits.as_bytes())?))),
@@ -43,7 +48,8 @@ pub(crate) fn read_bits(alloc: Global, item: &Value) -> Result<FieldItem, ItemFa
 
 /// Reads `["pad", FIELD, n]`.
 pub(crate) fn read_pad(item: &Value) -> Option<FieldItem>
-    ensures { result ≡ pad (view item.now) }
+    ensures { result ≡ sized 3 (view item.now)
+        (with_field (view item.now) (option_map Pad (byte_arg 2 (view item.now)))) }
 {
     let field = field_arg(item, 3)?;
     let n = byte_arg(item, 2)?;
@@ -52,7 +58,8 @@ pub(crate) fn read_pad(item: &Value) -> Option<FieldItem>
 
 /// Reads `["int", FIELD, max]`.
 pub(crate) fn read_int(item: &Value) -> Option<FieldItem>
-    ensures { result ≡ int (view item.now) }
+    ensures { result ≡ sized 3 (view item.now)
+        (with_field (view item.now) (option_map Int (number_arg 2 (view item.now)))) }
 {
     let field = field_arg(item, 3)?;
     let max = number_arg(item, 2)?;
@@ -61,7 +68,8 @@ pub(crate) fn read_int(item: &Value) -> Option<FieldItem>
 
 /// Reads `["esc", FIELD, lo, hi]`.
 pub(crate) fn read_esc(item: &Value) -> Option<FieldItem>
-    ensures { result ≡ esc (view item.now) }
+    ensures { result ≡ sized 4 (view item.now)
+        (with_field (view item.now) (both (byte_arg 2 (view item.now)) (byte_arg 3 (view item.now)) Esc)) }
 {
     let field = field_arg(item, 4)?;
     let (lo, hi) = two_bytes(item, 2)?;
@@ -70,7 +78,8 @@ pub(crate) fn read_esc(item: &Value) -> Option<FieldItem>
 
 /// Reads `["digits", FIELD, lo, hi]`.
 pub(crate) fn read_digits(item: &Value) -> Option<FieldItem>
-    ensures { result ≡ digits (view item.now) }
+    ensures { result ≡ sized 4 (view item.now)
+        (with_field (view item.now) (both (byte_arg 2 (view item.now)) (byte_arg 3 (view item.now)) Digits)) }
 {
     let field = field_arg(item, 4)?;
     let (lo, hi) = two_bytes(item, 2)?;
@@ -79,7 +88,8 @@ pub(crate) fn read_digits(item: &Value) -> Option<FieldItem>
 
 /// Reads `["numpad", FIELD, bits, n]`.
 pub(crate) fn read_numpad(item: &Value) -> Option<FieldItem>
-    ensures { result ≡ numpad (view item.now) }
+    ensures { result ≡ sized 4 (view item.now)
+        (with_field (view item.now) (both (byte_arg 2 (view item.now)) (byte_arg 3 (view item.now)) NumPad)) }
 {
     let field = field_arg(item, 4)?;
     let (bits, n) = two_bytes(item, 2)?;
@@ -88,7 +98,8 @@ pub(crate) fn read_numpad(item: &Value) -> Option<FieldItem>
 
 /// Reads `["num", FIELD, bits, max]`.
 pub(crate) fn read_num(item: &Value) -> Option<FieldItem>
-    ensures { result ≡ num (view item.now) }
+    ensures { result ≡ sized 4 (view item.now)
+        (with_field (view item.now) (both (byte_arg 2 (view item.now)) (number_arg 3 (view item.now)) Num)) }
 {
     let field = field_arg(item, 4)?;
     let bits = byte_arg(item, 2)?;
@@ -98,7 +109,8 @@ pub(crate) fn read_num(item: &Value) -> Option<FieldItem>
 
 /// Reads `["numstr", FIELD, bits, hi]`.
 pub(crate) fn read_numstr(item: &Value) -> Option<FieldItem>
-    ensures { result ≡ numstr (view item.now) }
+    ensures { result ≡ sized 4 (view item.now)
+        (with_field (view item.now) (both (byte_arg 2 (view item.now)) (byte_arg 3 (view item.now)) NumStr)) }
 {
     let field = field_arg(item, 4)?;
     let (bits, hi) = two_bytes(item, 2)?;
@@ -107,7 +119,10 @@ pub(crate) fn read_numstr(item: &Value) -> Option<FieldItem>
 
 /// Reads `["ascii7", FIELD, lo, hi, bits]`.
 pub(crate) fn read_ascii7(item: &Value) -> Option<FieldItem>
-    ensures { result ≡ ascii7 (view item.now) }
+    ensures { result ≡ sized 5 (view item.now)
+        (with_field (view item.now) (option_and_then
+        (λ bits. both (byte_arg 2 (view item.now)) (byte_arg 3 (view item.now)) (λ lo hi. Ascii7 lo hi bits))
+        (short_arg 4 (view item.now)))) }
 {
     let field = field_arg(item, 5)?;
     let bits = short_arg(item, 4)?;
@@ -117,7 +132,8 @@ pub(crate) fn read_ascii7(item: &Value) -> Option<FieldItem>
 
 /// Reads `["fill", a, b]`.
 pub(crate) fn read_fill(item: &Value) -> Option<FieldItem>
-    ensures { result ≡ fill (view item.now) }
+    ensures { result ≡ sized 3 (view item.now)
+        (no_field (both (byte_arg 1 (view item.now)) (byte_arg 2 (view item.now)) Fill)) }
 {
     must_have(item, 3)?;
     let (a, b) = two_bytes(item, 1)?;

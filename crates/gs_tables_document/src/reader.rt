@@ -1,12 +1,12 @@
 ghost use Rattle.std.specs.Prelude.{◌≡◌, ℕ, List, [], IfOk, IfErr, codes};
 ghost use Rattle.serde_json.specs.View.{view};
-ghost use Rattle.gs_json.specs.Answers.{OrMemory};
 ghost use Rattle.gs_json.specs.Shapes.{first_error};
 ghost use Rattle.gs_json.specs.Members.{items_of};
 ghost use Rattle.gs_tables_document.specs.Documents.{IsDocument, ai_plan, document_errors, document_plan, is_second, kind_plan, object_errors, of_bits, of_texts, option_plan, row_errors, rows_errors};
 ghost use Rattle.gs_tables_document.specs.DocumentsSupport.{AreOptions};
 ghost use Rattle.gs_tables_document.specs.Readings.{Holds, IsFormRejection, IsJson};
 ghost use Rattle.gs_tables_document.specs.ReadingsSupport.{of_json};
+ghost use Rattle.gs_chars.specs.Answers.{OrError};
 
 use crate::document::{Document, OptionRow};
 use crate::error::LoadFault;
@@ -56,7 +56,7 @@ fn of_json(error: JsonFault) -> LoadFault
 /// Finds the first error of the form of a document: of its object, then of the rows of each array.
 fn judge_document(alloc: Global, root: &Node<'_>) -> Result<(), JsonFault>
     requires { root.now.place ≡ [] }
-    ensures { OrMemory result (first_error (document_errors (view root.now.tree))) }
+    ensures { OrError JsonFault.Memory result (first_error (document_errors (view root.now.tree))) }
 {
     judge_object(alloc, root)?;
     judge_ais(alloc, root)?;
@@ -69,7 +69,8 @@ fn judge_document(alloc: Global, root: &Node<'_>) -> Result<(), JsonFault>
 /// Finds the first error of the document's object.
 fn judge_object(alloc: Global, root: &Node<'_>) -> Result<(), JsonFault>
     requires { root.now.place ≡ [] }
-    ensures { OrMemory result (first_error (object_errors [] document_plan (view root.now.tree))) }
+    ensures { OrError JsonFault.Memory result
+        (first_error (object_errors [] document_plan (view root.now.tree))) }
 {
     let plan = document_plan(alloc)?;
     root.shaped(alloc, plan.items())
@@ -78,7 +79,8 @@ fn judge_object(alloc: Global, root: &Node<'_>) -> Result<(), JsonFault>
 /// Finds the first error of the rows of application identifiers.
 fn judge_ais(alloc: Global, root: &Node<'_>) -> Result<(), JsonFault>
     requires { root.now.place ≡ [] }
-    ensures { OrMemory result (first_error (rows_errors (codes "ais") ai_plan (view root.now.tree))) }
+    ensures { OrError JsonFault.Memory result
+        (first_error (rows_errors (codes "ais") ai_plan (view root.now.tree))) }
 {
     let plan = ai_plan(alloc)?;
     judge_rows(alloc, root, "ais", plan.items())
@@ -87,7 +89,7 @@ fn judge_ais(alloc: Global, root: &Node<'_>) -> Result<(), JsonFault>
 /// Finds the first error of the rows of kinds.
 fn judge_kinds(alloc: Global, root: &Node<'_>) -> Result<(), JsonFault>
     requires { root.now.place ≡ [] }
-    ensures { OrMemory result (first_error
+    ensures { OrError JsonFault.Memory result (first_error
         (rows_errors (codes "kinds") (kind_plan (is_second (view root.now.tree))) (view root.now.tree))) }
 {
     let plan = kind_plan(alloc, is_second(root.value()))?;
@@ -97,7 +99,8 @@ fn judge_kinds(alloc: Global, root: &Node<'_>) -> Result<(), JsonFault>
 /// Finds the first error of the rows of the options of a level.
 fn judge_options(alloc: Global, root: &Node<'_>, name: &str) -> Result<(), JsonFault>
     requires { root.now.place ≡ [] }
-    ensures { OrMemory result (first_error (rows_errors name.now option_plan (view root.now.tree))) }
+    ensures { OrError JsonFault.Memory result
+        (first_error (rows_errors name.now option_plan (view root.now.tree))) }
 {
     let plan = option_plan(alloc)?;
     judge_rows(alloc, root, name, plan.items())
@@ -107,7 +110,8 @@ fn judge_options(alloc: Global, root: &Node<'_>, name: &str) -> Result<(), JsonF
 #[tactic(auto, unfolding(crate::specs::Documents::rows_errors))]
 fn judge_rows(alloc: Global, root: &Node<'_>, name: &str, plan: &[Entry]) -> Result<(), JsonFault>
     requires { root.now.place ≡ [] }
-    ensures { OrMemory result (first_error (rows_errors name.now plan.now (view root.now.tree))) }
+    ensures { OrError JsonFault.Memory result
+        (first_error (rows_errors name.now plan.now (view root.now.tree))) }
 {
     match root.find(alloc, name)? {
         Some(array) => judge_items(alloc, &array, plan),
@@ -117,7 +121,7 @@ fn judge_rows(alloc: Global, root: &Node<'_>, name: &str, plan: &[Entry]) -> Res
 
 /// Finds the first error of the rows of an array, row by row.
 fn judge_items(alloc: Global, array: &Node<'_>, plan: &[Entry]) -> Result<(), JsonFault>
-    ensures { OrMemory result
+    ensures { OrError JsonFault.Memory result
         (first_error (row_errors array.now.place plan.now (items_of (view array.now.tree)))) }
 {
     let count = array.items_len().unwrap_or(0);

@@ -10,7 +10,7 @@ use Rattle.gs_chars.proofs.TruthsAndLists.{mapped_some}
 use Rattle.gs_grammar.specs.declared.item.Item.{Item}
 use Rattle.gs_grammar.specs.declared.item.Item.TheVariants.{Lit, Pad, Digits, Int, Esc, NumPad, Num, NumStr, Ascii7, Fill}
 use Rattle.gs_json.specs.Answers.{items_count}
-use Rattle.gs_tables_document.specs.Items.{FieldItem, ascii7, bit_item, bit_literal, both, bits_of, byte_arg, field_arg, field_of, fill, held, int, item_of, literal, no_field, num, number_arg, pad, short_arg, sized, text_arg, text_item, with_field}
+use Rattle.gs_tables_document.specs.Items.{FieldItem, bit_item, both, bits_of, byte_arg, field_arg, field_of, held, item_of, no_field, number_arg, short_arg, sized, text_arg, text_item, with_field}
 
 -- ---- optional results that are present
 
@@ -122,11 +122,11 @@ module _ (ds : Items) where
     bytes_parts make h =
         with_parts 2 (both (byte_arg 2 (array ds)) (byte_arg 3 (array ds)) make) (λ i is. let two = two_bytes 2 3 make i is in (two.0, (two.1, tt))) h
 
-    literal_whole : literal (array ds) ≡ Some x → items_have_float ds ≡ false
+    literal_whole : sized 2 (array ds) (no_field (option_map Lit (text_arg 1 (array ds)))) ≡ Some x → items_have_float ds ≡ false
     literal_whole h =
         no_parts 1 (option_map Lit (text_arg 1 (array ds))) (λ i is. let text = mapped_some Lit (text_arg 1 (array ds)) i is in (text_leaf (get_item 1 ds) text.0 text.1, tt)) h
 
-    bit_literal_whole : bit_literal (array ds) ≡ Some x → items_have_float ds ≡ false
+    bit_literal_whole : sized 2 (array ds) (no_field (option_map Lit (option_and_then bits_of (text_arg 1 (array ds))))) ≡ Some x → items_have_float ds ≡ false
     bit_literal_whole h =
         no_parts 1 (option_map Lit (option_and_then bits_of (text_arg 1 (array ds))))
         (λ i is.
@@ -135,16 +135,16 @@ module _ (ds : Items) where
         (text_leaf (get_item 1 ds) text.0 text.1, tt))
         h
 
-    pad_whole : pad (array ds) ≡ Some x → items_have_float ds ≡ false
+    pad_whole : sized 3 (array ds) (with_field (array ds) (option_map Pad (byte_arg 2 (array ds)))) ≡ Some x → items_have_float ds ≡ false
     pad_whole h =
         with_parts 1 (option_map Pad (byte_arg 2 (array ds))) (λ i is. let n = mapped_some Pad (byte_arg 2 (array ds)) i is in (byte_leaf 2 n.0 n.1, tt)) h
 
-    int_whole : int (array ds) ≡ Some x → items_have_float ds ≡ false
+    int_whole : sized 3 (array ds) (with_field (array ds) (option_map Int (number_arg 2 (array ds)))) ≡ Some x → items_have_float ds ≡ false
     int_whole h =
         with_parts 1 (option_map Int (number_arg 2 (array ds)))
         (λ i is. let n = mapped_some Int (number_arg 2 (array ds)) i is in (number_leaf (get_item 2 ds) n.0 n.1, tt)) h
 
-    num_whole : num (array ds) ≡ Some x → items_have_float ds ≡ false
+    num_whole : sized 4 (array ds) (with_field (array ds) (both (byte_arg 2 (array ds)) (number_arg 3 (array ds)) Num)) ≡ Some x → items_have_float ds ≡ false
     num_whole h =
         with_parts 2 (both (byte_arg 2 (array ds)) (number_arg 3 (array ds)) Num)
         (λ i is.
@@ -152,7 +152,7 @@ module _ (ds : Items) where
         (byte_leaf 2 found.0 found.1, (number_leaf (get_item 3 ds) found.2.0 found.2.1, tt)))
         h
 
-    ascii7_whole : ascii7 (array ds) ≡ Some x → items_have_float ds ≡ false
+    ascii7_whole : sized 5 (array ds) (with_field (array ds) (option_and_then (λ bits. both (byte_arg 2 (array ds)) (byte_arg 3 (array ds)) (λ lo hi. Ascii7 lo hi bits)) (short_arg 4 (array ds)))) ≡ Some x → items_have_float ds ≡ false
     ascii7_whole h =
         with_parts 3 (option_and_then (λ bits. both (byte_arg 2 (array ds)) (byte_arg 3 (array ds)) (λ lo hi. Ascii7 lo hi bits)) (short_arg 4 (array ds)))
         (λ i is.
@@ -161,7 +161,7 @@ module _ (ds : Items) where
         (two.0, (two.1, (short_leaf 4 bits.0 bits.1, tt))))
         h
 
-    fill_whole : fill (array ds) ≡ Some x → items_have_float ds ≡ false
+    fill_whole : sized 3 (array ds) (no_field (both (byte_arg 1 (array ds)) (byte_arg 2 (array ds)) Fill)) ≡ Some x → items_have_float ds ≡ false
     fill_whole h =
         no_parts 2 (both (byte_arg 1 (array ds)) (byte_arg 2 (array ds)) Fill) (λ i is. let two = two_bytes 1 2 Fill i is in (two.0, (two.1, tt))) h
 

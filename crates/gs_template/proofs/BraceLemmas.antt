@@ -6,10 +6,13 @@ use Rattle.gs_chars.proofs.TruthsAndLists.{and_first, and_second, none_behind, n
 use Rattle.gs_ai.specs.declared.row.AiRow.{AiRow}
 use Rattle.gs_ident.specs.Elements.{Elements}
 use Rattle.gs_ident.specs.Links.{is_unescaped, percent_encoded}
-use Rattle.gs_template.specs.Errors.{codes_beside, errors_from, is_brace, part_errors, part_size, place_errors}
+use Rattle.gs_template.specs.Errors.{errors_from, is_brace, part_errors, part_size, place_errors}
 use Rattle.gs_template.specs.Templates.{HoldsBytes, Part, filled, is_place_byte, itself, parts, place, stands_for, value_under}
 use Rattle.gs_template.specs.declared.error.PlaceFault.TheVariants.{Brace}
 use Rattle.gs_template.proofs.TemplateLemmas.{encoded_plain, plain_small}
+use Rattle.std.specs.Prelude.{find}
+use Rattle.std.specs.Option.{option_map_or}
+use Rattle.gs_ai.specs.Values.{has_code}
 
 no_braces : agree_below (λ c. is_place_byte c && is_brace c) (λ _. false) 128 ≡ true
 unfolding is_unescaped
@@ -49,4 +52,4 @@ module _ (identity : Elements) (bytes : HoldsBytes identity) (beside : List (Lis
 pub no_brace : (table : List AiRow) (key href : List ℕ) (identity : Elements) → HoldsBytes identity → place_errors table key href ≡ []
     → list_any is_brace (filled href identity) ≡ false
 unfolding place_errors
-no_brace table key href identity bytes h = none_in_parts identity bytes (codes_beside table key) 0 (parts href) h
+no_brace table key href identity bytes h = none_in_parts identity bytes (key ∷ option_map_or (λ row. row.qualifiers) (find (has_code key) table) []) 0 (parts href) h

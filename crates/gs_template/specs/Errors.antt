@@ -12,10 +12,6 @@ use Rattle.gs_template.specs.declared.error.PlaceFault.TheVariants.{Brace, Code}
 abbrev pub is_brace : ℕ → Bool
 is_brace c = c == 123 || c == 125
 
--- trusted, own: the codes that a place may have for a key: the key's own code, and the qualifiers that its row lists
-abbrev pub codes_beside : List AiRow → List ℕ → List (List ℕ)
-codes_beside table key = key ∷ option_map_or (λ row. row.qualifiers) (find (has_code key) table) []
-
 -- trusted, own: the error of a part at a place: a brace that stands for itself, or a place of another code
 abbrev pub part_errors : List (List ℕ) → ℕ → Part → List PlaceFault
 part_errors codes at (itself c) = if is_brace c then Brace at ∷ [] else []
@@ -33,7 +29,7 @@ errors_from codes at (part ∷ parts) = part_errors codes at part ++ errors_from
 
 -- trusted, own: the errors of a template for a key, from the start
 unfoldable pub place_errors : List AiRow → List ℕ → List ℕ → List PlaceFault
-place_errors table key href = errors_from (codes_beside table key) 0 (parts href)
+place_errors table key href = errors_from (key ∷ option_map_or (λ row. row.qualifiers) (find (has_code key) table) []) 0 (parts href)
 
 -- trusted, own: the first error, or that there is none
 abbrev pub first_error : List PlaceFault → Result (Unit {0}) PlaceFault

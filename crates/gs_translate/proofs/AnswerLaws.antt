@@ -34,7 +34,7 @@ use Rattle.gs_translate.specs.declared.form.Form.{Form}
 use Rattle.gs_translate.specs.declared.form.Form.TheVariants as form
 use Rattle.gs_translate.specs.declared.reader.Meaning.{Meaning}
 use Rattle.gs_translate.specs.declared.reason.Reason.TheVariants.{Epc as NoEpc, Long}
-use Rattle.gs_translate.specs.Answers.{IsAnswer, IsCanonical}
+use Rattle.gs_translate.specs.Answers.{IsAnswer}
 use Rattle.gs_translate.specs.Conditions.{AsksForOne, AsksForSome}
 use Rattle.gs_translate.specs.Meanings.{IsRead, Means, MeansEpc, ReadsBracketed, ReadsRaw, epc_meaning, short, too_long}
 use Rattle.gs_translate.specs.MeaningsSupport.{ReadsLink}
@@ -146,11 +146,11 @@ one_read set form text asks one other (too_long more e) (short few m) = absurd (
 one_read set form text asks one other (short few m) (too_long more e) = absurd (omega arith)
 one_read set form text asks one other (short few m) (short few' m') = one_meaning set form text asks one other m m'
 
-one_canonical : (meaning : Meaning) → HasOne (IsCanonical meaning)
+one_canonical : (meaning : Meaning) → HasOne (λ answer. answer ≡ Ok (canonical_link meaning.identity))
 one_canonical meaning one other a b = a ∙ sym b
 
 pub one_answer : (set : TableRows) (form : Form) (text : List ℕ) → AsksForOne form set → HasOne (IsAnswer set form text)
-one_answer set form text asks = then_one (IsRead set form text) IsCanonical (one_read set form text asks) one_canonical
+one_answer set form text asks = then_one (IsRead set form text) (λ meaning link. link ≡ Ok (canonical_link meaning.identity)) (one_read set form text asks) one_canonical
 
 -- ---- an answer to the symbols of a level
 
@@ -249,11 +249,11 @@ some_read set form text asks = elim (leb_tells (length text) 2048) as (λ _. Has
   | inr e ↦ (Err Long, too_long e.1 refl)
 ]
 
-some_canonical : (meaning : Meaning) → HasSome (IsCanonical meaning)
+some_canonical : (meaning : Meaning) → HasSome (λ answer. answer ≡ Ok (canonical_link meaning.identity))
 some_canonical meaning = (Ok (canonical_link meaning.identity), refl)
 
 pub some_answer : (set : TableRows) (form : Form) (text : List ℕ) → AsksForSome form set → HasSome (IsAnswer set form text)
-some_answer set form text asks = then_some (IsRead set form text) IsCanonical (some_read set form text asks) (λ meaning read. some_canonical meaning)
+some_answer set form text asks = then_some (IsRead set form text) (λ meaning link. link ≡ Ok (canonical_link meaning.identity)) (some_read set form text asks) (λ meaning read. some_canonical meaning)
 
 -- ---- loaded tables satisfy the conditions of each form
 

@@ -8,7 +8,7 @@ use Rattle.gs_ai.specs.Tables.{KeepsRules, table_errors}
 use Rattle.gs_ai.proofs.RuleLemmas.{rules_kept}
 use Rattle.gs_dlink.specs.declared.error.LinkFault.{LinkFault}
 use Rattle.gs_dlink.specs.declared.error.LinkFault.TheVariants as link
-use Rattle.gs_dlink.specs.Answers.{error_in, link_answer, link_error}
+use Rattle.gs_dlink.specs.Answers.{link_answer, link_error}
 use Rattle.gs_tables_document.specs.declared.document.Document.{Document}
 use Rattle.gs_tables_document.specs.declared.error.LoadFault.TheVariants.{Ai}
 use Rattle.gs_element.specs.declared.errors.RawFault.{RawFault}
@@ -29,6 +29,7 @@ use Rattle.gs_translate.specs.MeaningsSupport.{ReadsLink, elements_reason, ident
 use Rattle.gs_translate.specs.Steps.{Then, UnlessMemory, rejects, reworded}
 use Rattle.gs_translate.specs.StepsSupport.{HasOne, HasSome}
 use Rattle.gs_translate.proofs.StepLaws.{then_one, then_some}
+use Rattle.std.specs.Result.{result_err}
 
 -- ---- the application identifiers of a set satisfy their rules
 
@@ -90,7 +91,7 @@ module _ (set : TableRows) (text : List ℕ) (rules : KeepsRules set.ais) where
 pub some_link : (set : TableRows) (text : List ℕ) → HasSome (ReadsLink set text)
 some_link set text = (reworded link_reason (link_answer set.ais text), refl)
 
-error_said : (said : Result (List Pair) LinkFault) (error : LinkFault) → error_in said ≡ Some error → said ≡ Err error
+error_said : (said : Result (List Pair) LinkFault) (error : LinkFault) → result_err said ≡ Some error → said ≡ Err error
 error_said (Ok pairs) error e = absurd (let f : None ≡ Some error = e in cc)
 error_said (Err own) error e = let same : own ≡ error = (let f : Some own ≡ Some error = e in cc) in ap Err same
 

@@ -11,7 +11,7 @@ use Rattle.gs_translate.specs.declared.reader.Meaning.{Meaning}
 use Rattle.gs_translate.specs.declared.form.Options.{Options}
 use Rattle.gs_translate.specs.declared.reason.Reason.{Reason}
 use Rattle.gs_translate.specs.declared.form.Target.TheVariants.{Canon}
-use Rattle.gs_translate.specs.Answers.{IsAnswer, IsCanonical}
+use Rattle.gs_translate.specs.Answers.{IsAnswer}
 use Rattle.gs_translate.specs.Conditions.{AsksForOne}
 use Rattle.gs_translate.specs.Meanings.{IsRead}
 use Rattle.gs_translate.specs.Steps.{goes_on, rejects}
@@ -69,13 +69,13 @@ spelled_so : (set : TableRows) (prefixes : List PrefixEntry) (options : Options)
     → options.keys_only ≡ false → IsTranslation set prefixes options form Canon text answer → IsAnswer set form text answer
 spelled_so set prefixes options form text answer all (rejects error read e) = rejects error read e
 spelled_so set prefixes options form text answer all (goes_on meaning read e) = goes_on meaning read
-    (subst (λ (m : Meaning). IsCanonical m answer) (all_kept set options.keys_only meaning all) e)
+    (subst (λ (m : Meaning). answer ≡ Ok (canonical_link m.identity)) (all_kept set options.keys_only meaning all) e)
 
 answered_so : (set : TableRows) (prefixes : List PrefixEntry) (options : Options) (form : Form) (text : List ℕ) (answer : Result (List ℕ) Reason)
     → options.keys_only ≡ false → IsAnswer set form text answer → IsTranslation set prefixes options form Canon text answer
 answered_so set prefixes options form text answer all (rejects error read e) = rejects error read e
 answered_so set prefixes options form text answer all (goes_on meaning read e) = goes_on meaning read
-    (subst (λ (m : Meaning). IsCanonical m answer) (sym (all_kept set options.keys_only meaning all)) e)
+    (subst (λ (m : Meaning). answer ≡ Ok (canonical_link m.identity)) (sym (all_kept set options.keys_only meaning all)) e)
 
 pub canonical_translation : (set : TableRows) (prefixes : List PrefixEntry) (options : Options) (form : Form) (text : List ℕ) (answer : Result (List ℕ) Reason)
     → options.keys_only ≡ false → IsTranslation set prefixes options form Canon text answer ↔ IsAnswer set form text answer

@@ -9,7 +9,7 @@ use Rattle.gs_epc.specs.declared.error.EpcWriteFault.{EpcWriteFault}
 use Rattle.gs_epc.specs.declared.error.EpcWriteFault.TheVariants as write
 use Rattle.gs_epc.specs.Writes.{WritesAs}
 use Rattle.gs_ident.specs.Elements.{Elements, pairs_of}
-use Rattle.gs_ident.specs.Links.{spelled}
+use Rattle.gs_ident.specs.Links.{canonical_link, spelled}
 use Rattle.gs_prefix.specs.declared.entry.PrefixEntry.{PrefixEntry}
 use Rattle.gs_tables.specs.Tables.{TableRows}
 use Rattle.gs_translate.specs.declared.form.Form.{Form}
@@ -20,7 +20,6 @@ use Rattle.gs_translate.specs.declared.reason.Reason.{Reason}
 use Rattle.gs_translate.specs.declared.reason.Reason.TheVariants.{NoOption, CannotHold, Memory}
 use Rattle.gs_translate.specs.declared.form.Target.{Target}
 use Rattle.gs_translate.specs.declared.form.Target.TheVariants.{Hex, Tag, Pure, Raw, Bracketed, Link, Canon}
-use Rattle.gs_translate.specs.Answers.{IsCanonical}
 use Rattle.gs_translate.specs.Meanings.{IsRead, Means}
 use Rattle.gs_translate.specs.Steps.{Reworded, Then}
 use Rattle.gs_translate.specs.Targets.{FitsFilter, epc_for, kept}
@@ -55,7 +54,7 @@ IsSpelling set prefixes options Pure meaning answer = IsOfLevel set prefixes opt
 IsSpelling set prefixes options Raw meaning answer = answer ≡ Ok (raw_text (pairs_of meaning.identity))
 IsSpelling set prefixes options Bracketed meaning answer = answer ≡ Ok (bracketed_text (pairs_of meaning.identity))
 IsSpelling set prefixes options Link meaning answer = answer ≡ Ok (spelled options.stem meaning.identity)
-IsSpelling set prefixes options Canon meaning answer = IsCanonical meaning answer
+IsSpelling set prefixes options Canon meaning answer = answer ≡ Ok (canonical_link meaning.identity)
 
 -- trusted, TDS 2.0, sections 6, 7, 12 and 14; GS1 General Specifications, sections 4 and 7.8; GS1 Digital Link URI Syntax,
 -- sections 4 and 5; the reasons are own: Holds if `answer` is the translation of `text`, or why it is rejected. The translation

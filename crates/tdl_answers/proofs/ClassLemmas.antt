@@ -6,7 +6,7 @@ use Rattle.gs_class.specs.declared.error.ClassFault.TheVariants as reading
 use Rattle.gs_class.specs.declared.error.ClassWriteFault.{ClassWriteFault}
 use Rattle.gs_class.specs.declared.error.ClassWriteFault.TheVariants as writing
 use Rattle.gs_class.specs.Meanings.{ReadsAs}
-use Rattle.gs_class.specs.Written.{OrMemory, class_answer}
+use Rattle.gs_class.specs.Written.{class_answer}
 use Rattle.gs_ident.specs.Elements.{Elements}
 use Rattle.gs_ident.specs.Links.{canonical_link}
 use Rattle.gs_translate.specs.declared.form.Form.TheVariants.{Link}
@@ -21,6 +21,7 @@ use Rattle.tdl_answers.specs.ClassAnswers.{ClassReading, ClassWriting, IsClassLi
 use Rattle.tdl_answers.specs.ClassReasons.{of_class, of_class_writing}
 use Rattle.tdl_answers.specs.LongTexts.{is_short}
 use Rattle.gs_chars.specs.Limits.{longest_text}
+use Rattle.gs_chars.specs.Answers.{OrError}
 
 -- ---- class URIs
 
@@ -47,7 +48,7 @@ module _ (by : ClassWriting) (text : List ℕ) where
 
   -- the class URI that is written of its meaning
   pub class_writes : (meaning : Meaning) (answer : Result (List ℕ) ClassWriteFault) → IsRead by.tables Link text (Ok meaning)
-      → answer ≢ Err writing.Memory → OrMemory answer (class_answer by.tables.ais by.classes by.prefixes by.gcp meaning.identity)
+      → answer ≢ Err writing.Memory → OrError writing.Memory answer (class_answer by.tables.ais by.classes by.prefixes by.gcp meaning.identity)
       → IsClassText by text (reworded of_class_writing answer)
   class_writes meaning answer read enough (inl memory) = absurd (enough memory)
   class_writes meaning answer read enough (inr is) = goes_on meaning (record { given = Ok meaning; is_given = read; is = refl })

@@ -21,7 +21,7 @@ use Rattle.gs_membank.specs.declared.error.DumpWriteFault.{DumpWriteFault}
 use Rattle.gs_membank.specs.declared.error.DumpWriteFault.TheVariants as writing
 use Rattle.gs_membank.specs.Answers.{ReadsDump, ReadsShown, ShowsDump, WritesDump, of_writing, word_of}
 use Rattle.gs_membank.specs.Banks.{bit_of, control_bits}
-use Rattle.gs_membank.specs.ShownLines.{IsShownStart, shown_line}
+use Rattle.gs_membank.specs.ShownLines.{IsShownStart, shown_start}
 use Rattle.gs_membank.proofs.DumpLaws.{one_epc, equal_dumps as same_dump}
 use Rattle.gs_membank.proofs.OneDump.{SomeKnown, some_dump}
 use Rattle.gs_membank.proofs.RoundTrips.{one_start}
@@ -87,7 +87,7 @@ text_enough : (text : List ℕ) → Ok text ≡ Err write.Memory → ⊥
 text_enough text e = cc
 
 abbrev shown_by : Dump → Result (List ℕ) EpcWriteFault → Result (List ℕ) DumpWriteFault
-shown_by dump (Ok tag) = Ok (shown_line dump.user dump.attributes tag)
+shown_by dump (Ok tag) = Ok (shown_start dump.user dump.attributes ++ tag)
 shown_by dump (Err error) = Err (of_writing error)
 
 shown_made : (set : TableRows) (dump : Dump) (answer : Result (List ℕ) DumpWriteFault) → answer ≢ Err writing.Memory
@@ -107,7 +107,7 @@ some_shown set dump = by (writes_some set level.Tag dump.epc)
   where
     by_answer : (given : Result (List ℕ) EpcWriteFault) → given ≢ Err write.Memory → WritesAs set level.Tag dump.epc given
         → SomeKnown writing.Memory (ShowsDump set dump)
-    by_answer (Ok tag) t w = (Ok (shown_line dump.user dump.attributes tag), (λ e. let f : Ok (shown_line dump.user dump.attributes tag) ≡ Err writing.Memory = e in cc), record { tag = tag; written = w; text_is = refl })
+    by_answer (Ok tag) t w = (Ok (shown_start dump.user dump.attributes ++ tag), (λ e. let f : Ok (shown_start dump.user dump.attributes ++ tag) ≡ Err writing.Memory = e in cc), record { tag = tag; written = w; text_is = refl })
     by_answer (Err write.NoOption) t w = (Err writing.NoOption, (λ e. cc), w)
     by_answer (Err (write.CannotHold field why)) t w = (Err (writing.CannotHold field why), (λ e. cc), w)
     by_answer (Err write.Memory) t w = absurd (t refl)

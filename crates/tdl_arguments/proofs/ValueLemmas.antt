@@ -1,7 +1,7 @@
 -- Values that are named are in range.
 use Rattle.std.proofs.Common.{◌≡◌, ℕ, ◌≤◌, ◌&&◌, ◌||◌, Bool, true, false, List, [], ◌∷◌, Option, None, Some, refl, sym, ◌∙◌, ap, inl, inr}
 use Rattle.std.specs.List.{list_any}
-use Rattle.std.specs.Prelude.{IfSome, bytes_eq, if◌then◌else◌, is_some, nat_le, not, option_and_then, option_to_list, unwrap_or}
+use Rattle.std.specs.Prelude.{IfSome, bytes_eq, codes, if◌then◌else◌, is_some, nat_le, not, option_and_then, option_to_list, unwrap_or}
 use Rattle.std.proofs.lemmas.Bool.{leb-true, and_parts}
 use Rattle.gs_chars.proofs.TruthsAndLists.{equal_bytes, true_or_false}
 use Rattle.gs_dlink.specs.Stems.{stem_ok}
@@ -14,9 +14,9 @@ use Rattle.tdl_arguments.specs.declared.name.Name.TheVariants.{Tables, Prefixes,
 use Rattle.tdl_arguments.specs.declared.name.NameRow.{NameRow}
 use Rattle.tdl_arguments.specs.declared.command.Command.TheVariants.{Migrate}
 use Rattle.tdl_arguments.specs.Commands.{names_of}
-use Rattle.tdl_arguments.specs.Names.{AreTaken, has_required, in_range, is_given, look_up, name_named, name_takes, name_word, none_taken, one_taken, row_takes, takes}
+use Rattle.tdl_arguments.specs.Names.{AreTaken, has_required, in_range, is_given, look_up, name_named, name_word, none_taken, one_taken, row_takes, takes}
 use Rattle.tdl_arguments.specs.Ranges.{filter_of, is_numeral, is_vocabulary}
-use Rattle.tdl_arguments.specs.Requests.{Asked, WordsInOrder, default_voc, options_of}
+use Rattle.tdl_arguments.specs.Requests.{Asked, WordsInOrder, options_of}
 
 -- ---- names by their words
 
@@ -45,17 +45,17 @@ same_name one other e = let f : Some one ≡ Some other = sym (name_read one) �
 -- ---- values that are taken
 
 -- a name that takes a pair is the one of its word, whose range has the value
-taken_by_name : (other name : Name) (n value : List ℕ) → name_takes other n value ≡ true → bytes_eq n (name_word name) ≡ true → in_range name value ≡ true
+taken_by_name : (other name : Name) (n value : List ℕ) → (bytes_eq (name_word other) n && in_range other value) ≡ true → bytes_eq n (name_word name) ≡ true → in_range name value ≡ true
 taken_by_name other name n value t e =
     let both = and_parts (bytes_eq (name_word other) n) (in_range other value) t in
     let same = same_name other name (equal_bytes (name_word other) n both.0 ∙ equal_bytes n (name_word name) e) in
     rw same at both.1
 
 -- one of some names takes a pair
-taken_by_one : (others : List Name) (name : Name) (n value : List ℕ) → list_any (λ other. name_takes other n value) others ≡ true
+taken_by_one : (others : List Name) (name : Name) (n value : List ℕ) → list_any (λ other. bytes_eq (name_word other) n && in_range other value) others ≡ true
     → bytes_eq n (name_word name) ≡ true → in_range name value ≡ true
 taken_by_one [] name n value t e = absurd (let f : false ≡ true = t in cc)
-taken_by_one (other ∷ others) name n value t e = elim (true_or_false (name_takes other n value)) as (λ _. in_range name value ≡ true) [
+taken_by_one (other ∷ others) name n value t e = elim (true_or_false (bytes_eq (name_word other) n && in_range other value)) as (λ _. in_range name value ≡ true) [
   | inl here ↦ taken_by_name other name n value here e
   | inr none ↦ taken_by_one others name n value (rw none at t) e
 ]
@@ -113,7 +113,7 @@ options_fit words asked o =
 -- ---- the vocabulary
 
 vocabulary_by : (named : Option (List ℕ)) → ((value : List ℕ) → named ≡ Some value → is_vocabulary value ≡ true)
-    → is_vocabulary (unwrap_or named default_voc) ≡ true
+    → is_vocabulary (unwrap_or named (codes "https://ref.gs1.org/voc/")) ≡ true
 vocabulary_by None ok = refl
 vocabulary_by (Some value) ok = ok value refl
 

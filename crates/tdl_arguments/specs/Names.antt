@@ -76,13 +76,9 @@ is_named pairs name = is_some (look_up (name_word name) pairs)
 abbrev pub has_name : (Name → Bool) → NameRow → Bool
 has_name property row = list_any property (row.name ∷ option_to_list row.instead)
 
--- trusted, own: holds if `word` is that of `name`, and `name` may have `value`
-abbrev pub name_takes : Name → List ℕ → List ℕ → Bool
-name_takes name word value = bytes_eq (name_word name) word && in_range name value
-
 -- trusted, own: holds if `row` takes the name `word` with `value`
 abbrev pub row_takes : NameRow → List ℕ → List ℕ → Bool
-row_takes row word value = has_name (λ name. name_takes name word value) row
+row_takes row word value = has_name (λ name. bytes_eq (name_word name) word && in_range name value) row
 
 -- trusted, own: holds if `pairs` have a value of one of the names of `row`
 abbrev pub is_given : NamedPairs → NameRow → Bool

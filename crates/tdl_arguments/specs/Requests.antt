@@ -59,29 +59,17 @@ abbrev pub links_by : Option (List ℕ) → Option (List ℕ) → Option LinksNa
 links_by (Some name) text = Some (in_json name)
 links_by None text = option_map as_text text
 
--- trusted, own: the name of the file of links in the pairs
-abbrev pub links_of_pairs : NamedPairs → Option LinksName
-links_of_pairs pairs = links_by (look_up (name_word Links) pairs) (look_up (name_word LinkText) pairs)
-
 -- trusted, own: the names of files in the pairs
 abbrev pub named_files : NamedPairs → FileNames
 named_files pairs = record {
   tables = look_up (name_word Tables) pairs;
   prefixes = look_up (name_word Prefixes) pairs;
-  links = links_of_pairs pairs;
+  links = links_by (look_up (name_word Links) pairs) (look_up (name_word LinkText) pairs);
   second = look_up (name_word Second) pairs;
   third = look_up (name_word Third) pairs;
   describe = look_up (name_word Describe) pairs;
   classes = look_up (name_word Classes) pairs;
 }
-
--- trusted, own: the vocabulary that stands for `gs1:` in link types, if the pairs name none
-abbrev pub default_voc : List ℕ
-default_voc = codes "https://ref.gs1.org/voc/"
-
--- trusted, own: the address of the server, if the pairs name none
-abbrev pub default_listen : List ℕ
-default_listen = codes "127.0.0.1:8080"
 
 -- trusted, own: the value of a name in the pairs, or the default
 abbrev pub value_or : List ℕ → Name → NamedPairs → List ℕ
@@ -91,29 +79,17 @@ value_or default name pairs = unwrap_or (look_up (name_word name) pairs) default
 abbrev pub number_named : (List ℕ → Option ℕ) → Name → NamedPairs → Option ℕ
 number_named number_of name pairs = option_and_then number_of (look_up (name_word name) pairs)
 
--- trusted, own: the filter value in the pairs
-abbrev pub filter_named : NamedPairs → Option ℕ
-filter_named pairs = number_named filter_of Filter pairs
-
--- trusted, own: the number of digits of the company prefix in the pairs
-abbrev pub gcp_named : NamedPairs → Option ℕ
-gcp_named pairs = number_named gcp_of Gcp pairs
-
--- trusted, own: the number of connections in the pairs, or 0 if they name none
-abbrev pub count_named : NamedPairs → ℕ
-count_named pairs = unwrap_or (number_named count_of Count pairs) 0
-
 -- trusted, own: The values of the names in the pairs, with their defaults. The defaults are references that are not templates,
 -- no connection, no filter value and no company prefix length. They are also no encoding, all elements kept, and the stem of
 -- canonical links.
 abbrev pub named_values : NamedPairs → Values
 named_values pairs = record {
-  voc = value_or default_voc Voc pairs;
+  voc = value_or (codes "https://ref.gs1.org/voc/") Voc pairs;
   templates = bytes_eq (value_or (codes "no") Templates pairs) (codes "yes");
-  listen = value_or default_listen Listen pairs;
-  count = count_named pairs;
-  filter = filter_named pairs;
-  gcp = gcp_named pairs;
+  listen = value_or (codes "127.0.0.1:8080") Listen pairs;
+  count = unwrap_or (number_named count_of Count pairs) 0;
+  filter = number_named filter_of Filter pairs;
+  gcp = number_named gcp_of Gcp pairs;
   encoding = value_or [] Encoding pairs;
   keys_only = bytes_eq (value_or (codes "no") KeysOnly pairs) (codes "yes");
   stem = value_or canonical_stem Stem pairs;

@@ -1,5 +1,5 @@
-ghost use Rattle.std.specs.Prelude.{◌≡◌};
-ghost use Rattle.tdl_arguments.specs.Names.{in_range, name_named, name_takes, name_word, row_takes};
+ghost use Rattle.std.specs.Prelude.{bytes_eq, ◌&&◌, ◌≡◌};
+ghost use Rattle.tdl_arguments.specs.Names.{in_range, name_named, name_word, row_takes};
 
 use crate::value_reader::{count_of, filter_of, gcp_of, is_vocabulary};
 use gs_dlink::stem_ok;
@@ -118,7 +118,7 @@ impl Name {
 
     /// Returns whether the word is that of the name, and the name may have the value.
     pub fn takes(self, word: &str, value: &str) -> bool
-        ensures { result ≡ name_takes self word.now value.now }
+        ensures { result ≡ (bytes_eq (name_word self) word.now && in_range self value.now) }
     {
         self.word() == word && self.has_in_range(value)
     }

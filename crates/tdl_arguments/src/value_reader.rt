@@ -1,7 +1,7 @@
 ghost use Rattle.std.specs.Prelude.{◌≡◌, Option, unwrap_or, ◌≤◌, ◌<◌, ◌^◌, true, IfSome, SomeIff};
-ghost use Rattle.tdl_arguments.specs.Names.{OfPairs};
-ghost use Rattle.tdl_arguments.specs.Requests.{count_named, filter_named, gcp_named, known_files, known_links};
-ghost use Rattle.tdl_arguments.specs.Requests.{known_values, known_words, links_of_pairs, named_files, named_values};
+ghost use Rattle.tdl_arguments.specs.Names.{OfPairs, look_up, name_word};
+ghost use Rattle.tdl_arguments.specs.Requests.{known_files, known_links, links_by, number_named};
+ghost use Rattle.tdl_arguments.specs.Requests.{known_values, known_words, named_files, named_values};
 ghost use Rattle.tdl_arguments.specs.Requests.{value_or};
 ghost use Rattle.std.specs.Char.{is_ascii_graphic};
 ghost use Rattle.std.specs.List.{list_all};
@@ -9,6 +9,7 @@ ghost use Rattle.gs_grammar.specs.Words.{decimal_value};
 ghost use Rattle.gs_grammar.specs.WrittenWords.{has_leading_zero};
 ghost use Rattle.tdl_arguments.specs.Ranges.{count_of, filter_of, gcp_of, is_numeral, is_vocabulary, lines_of};
 ghost use Rattle.tdl_arguments.specs.Ranges.{most_lines, number_within};
+ghost use Rattle.tdl_arguments.specs.declared.name.Name.TheVariants.{Count, Filter, Gcp, LinkText, Links};
 
 use crate::name::Name;
 use crate::pairs::look_up;
@@ -24,7 +25,8 @@ const DEFAULT_LISTEN: &str = "127.0.0.1:8080";
 
 /// Returns the file of links that pairs name, in JSON or as text.
 fn named_links(words: &[String]) -> Option<LinksFile<'_>>
-    ensures { OfPairs (known_words words.now) (λ pairs. known_links result ≡ links_of_pairs pairs) }
+    ensures { OfPairs (known_words words.now) (λ pairs. known_links result
+        ≡ links_by (look_up (name_word Links) pairs) (look_up (name_word LinkText) pairs)) }
 {
     match look_up(words, Name::Links.word()) {
         Some(name) => Some(LinksFile::Json(name)),
@@ -59,7 +61,8 @@ fn value_or<'a>(words: &'a [String], name: Name, default: &'a str) -> &'a str
 
 /// Returns the number of connections that is named, and 0 if none is.
 fn named_count(words: &[String]) -> u32
-    ensures { OfPairs (known_words words.now) (λ pairs. result ≡ count_named pairs) }
+    ensures { OfPairs (known_words words.now) (λ pairs. result
+        ≡ unwrap_or (number_named count_of Count pairs) 0) }
 {
     let Some(value) = look_up(words, Name::Count.word()) else {
         return 0;
@@ -69,14 +72,14 @@ fn named_count(words: &[String]) -> u32
 
 /// Returns the filter value that is named.
 fn named_filter(words: &[String]) -> Option<u8>
-    ensures { OfPairs (known_words words.now) (λ pairs. result ≡ filter_named pairs) }
+    ensures { OfPairs (known_words words.now) (λ pairs. result ≡ number_named filter_of Filter pairs) }
 {
     filter_of(look_up(words, Name::Filter.word())?)
 }
 
 /// Returns the number of digits of a company prefix that is named.
 fn named_gcp(words: &[String]) -> Option<u8>
-    ensures { OfPairs (known_words words.now) (λ pairs. result ≡ gcp_named pairs) }
+    ensures { OfPairs (known_words words.now) (λ pairs. result ≡ number_named gcp_of Gcp pairs) }
 {
     gcp_of(look_up(words, Name::Gcp.word())?)
 }

@@ -1,30 +1,19 @@
 -- The lines of the generator: EPC URIs of SGTINs (TDS 2.0, section 6.3.1) by the states of a linear congruential generator.
 use Rattle.std.specs.Prelude.{ℕ, zero, suc, ◌+◌, ◌-◌, ◌*◌, ◌/◌, ◌%◌, ◌^◌, List, ◌∷◌, ◌++◌, codes, decimal, length, replicate}
 
--- trusted, own: the state after a state
-abbrev pub next_state : ℕ → ℕ
-next_state x = (x * 6364136223846793005 + 1442695040888963407) % 2 ^ 64
-
 -- trusted, own: the state after that many steps from 0
 abbrev pub state_after : ℕ → ℕ
 state_after zero = 0
-state_after (suc n) = next_state (state_after n)
+state_after (suc n) = (state_after n * 6364136223846793005 + 1442695040888963407) % 2 ^ 64
 
 -- trusted, own: the decimal digits of a number, with leading zeros if it has fewer digits than these
 abbrev pub digits_in : ℕ → ℕ → List ℕ
 digits_in width n = replicate (width - length (decimal n)) 48 ++ decimal n
 
--- trusted, own: the seven digits of a company prefix that a state gives
-abbrev pub company_digits : ℕ → List ℕ
-company_digits x = digits_in 7 ((x / 2 ^ 40) % 10000000)
-
--- trusted, own: the six digits of an indicator and an item reference that a state gives
-abbrev pub item_digits : ℕ → List ℕ
-item_digits x = digits_in 6 ((x / 2 ^ 20) % 1000000)
-
 -- trusted, own: the pure identity of an SGTIN whose serial is this number, by a state
 abbrev pub sgtin_text : ℕ → ℕ → List ℕ
-sgtin_text x serial = codes "urn:epc:id:sgtin:" ++ company_digits x ++ 46 ∷ item_digits x ++ 46 ∷ decimal serial
+sgtin_text x serial =
+    codes "urn:epc:id:sgtin:" ++ digits_in 7 ((x / 2 ^ 40) % 10000000) ++ 46 ∷ digits_in 6 ((x / 2 ^ 20) % 1000000) ++ 46 ∷ decimal serial
 
 -- trusted, TDS 2.0, section 6.3.1: the line of this number, from 0: by the state after one step more, and with the number
 -- as its serial

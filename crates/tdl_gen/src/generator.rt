@@ -1,5 +1,5 @@
-ghost use Rattle.std.specs.Prelude.{◌≡◌, ◌+◌, ◌<◌, ◌^◌, IfOk, string_bytes, []};
-ghost use Rattle.tdl_gen.specs.Generator.{generated_line, next_state, sgtin_text};
+ghost use Rattle.std.specs.Prelude.{◌≡◌, ◌+◌, ◌<◌, ◌^◌, IfOk, string_bytes, [], ◌%◌, ◌*◌};
+ghost use Rattle.tdl_gen.specs.Generator.{generated_line, sgtin_text};
 ghost use Rattle.gs_tables.specs.Judgements.{IsLoaded};
 ghost use Rattle.tdl_gen.specs.Counts.{Generated, IsLineAnswer, IsPlain, filter_one};
 ghost use Rattle.tdl_gen.specs.Counters.{WritesGenerated};
@@ -63,7 +63,7 @@ impl Generator {
 
 /// Returns the state after a state.
 fn next_state(state: u64) -> u64
-    ensures { result ≡ next_state state }
+    ensures { result ≡ (state * 6364136223846793005 + 1442695040888963407) % 2 ^ 64 }
 {
     state.wrapping_mul(FACTOR).wrapping_add(INCREMENT)
 }

@@ -17,8 +17,8 @@ use Rattle.gs_class.specs.Rules.{class_rejections}
 use Rattle.gs_class.proofs.SetParts.{none_of_table}
 use Rattle.gs_json.specs.Members.{document_of, number_in}
 use Rattle.gs_json.specs.declared.error.JsonFault.TheVariants.{Syntax}
-use Rattle.gs_port.specs.Files.{IsFile}
-use Rattle.gs_translate.specs.Steps.{goes_on, rejects}
+use Rattle.gs_port.specs.Files.{IsFile, FilesHeld}
+use Rattle.gs_translate.specs.Steps.{goes_on, rejects, reworded}
 use Rattle.tdl_arguments.specs.declared.command.Command.{Command}
 use Rattle.tdl_arguments.specs.Requests.{Asked}
 use Rattle.tdl_messages.specs.declared.file_kind.FileKind.TheVariants as kind
@@ -28,7 +28,7 @@ use Rattle.tdl_messages.specs.Rejections.{file_limit}
 use Rattle.tdl_loads.specs.declared.loads.Loaded.{Loaded}
 use Rattle.tdl_loads.specs.declared.loads.Unloaded.{Unloaded}
 use Rattle.tdl_loads.specs.declared.loads.Unloaded.TheVariants as unloaded
-use Rattle.tdl_loads.specs.Loads.{ClassesGive, FilesGive, FilesInMemory, JudgesClasses, StandsFor, Stop, UnnamedClasses, absent, classes_verdict, is_of_classes, judged, missing, of_verdict, rejected, too_large}
+use Rattle.tdl_loads.specs.Loads.{ClassesGive, FilesGive, JudgesClasses, StandsFor, Stop, UnnamedClasses, absent, is_of_classes, judged, missing, of_verdict, rejected, too_large}
 use Rattle.tdl_loads.specs.LoadsSupport.{AreKept, AreUnnamedClasses, LoadedBy, PartsGive}
 use Rattle.tdl_loads.specs.Reads.{ClassesUnloadedAs}
 use Rattle.tdl_loads.proofs.FlatLoads.{flat_parts}
@@ -78,7 +78,7 @@ judged_kept : (ais : List AiRow) (Answer : Result ClassRows ClassLoadFault → T
     → AreKept ais set
 judged_kept ais Answer verdict set kept j e = by j.answer j.is_answer (e ∙ ap (of_verdict kind.Classes) j.is)
   where
-    by : (answer : Result ClassRows ClassLoadFault) → Answer answer → Ok set ≡ of_verdict kind.Classes (classes_verdict answer) → AreKept ais set
+    by : (answer : Result ClassRows ClassLoadFault) → Answer answer → Ok set ≡ of_verdict kind.Classes (reworded Classes answer) → AreKept ais set
     by (Ok other) a f = let same : set ≡ other = cc in rw same (kept other a)
     by (Err error) a f = absurd (let g : Ok set ≡ Err (rejected (record { kind = kind.Classes; error = Classes error })) = f in cc)
 
@@ -90,7 +90,7 @@ unnamed_kept ais false verdict set u e =
     let same : set ≡ set_of [] = cc in
     rw same (none_kept ais)
 
-file_kept : (files : Option FilesInMemory) (ais : List AiRow) (command : Command) (name : List ℕ) (set : ClassRows)
+file_kept : (files : Option FilesHeld) (ais : List AiRow) (command : Command) (name : List ℕ) (set : ClassRows)
     → ClassesGive files ais command (Some name) (Ok set) → AreKept ais set
 file_kept files ais command name set (absent none e) = absurd (let f : Ok set ≡ Err (missing kind.Classes) = e in cc)
 file_kept files ais command name set (too_large bytes is more e) = absurd
@@ -98,12 +98,12 @@ file_kept files ais command name set (too_large bytes is more e) = absurd
 file_kept files ais command name set (judged bytes verdict is few j e) = judged_kept ais (LoadAnswer ais bytes) verdict set
     (kept_of ais (ruled_bytes ais bytes) (of_table_bytes ais bytes)) j e
 
-given_kept : (files : Option FilesInMemory) (ais : List AiRow) (command : Command) (name : Option (List ℕ)) (set : ClassRows)
+given_kept : (files : Option FilesHeld) (ais : List AiRow) (command : Command) (name : Option (List ℕ)) (set : ClassRows)
     → ClassesGive files ais command name (Ok set) → AreKept ais set
 given_kept files ais command None set gives = unnamed_kept ais (is_of_classes command) gives.verdict set gives.judged gives.is
 given_kept files ais command (Some name) set gives = file_kept files ais command name set gives
 
-parts_kept : (files : Option FilesInMemory) (asked : Asked) (loaded : Loaded) → PartsGive files asked (Ok loaded) → AreKept loaded.tables.ais loaded.classes
+parts_kept : (files : Option FilesHeld) (asked : Asked) (loaded : Loaded) → PartsGive files asked (Ok loaded) → AreKept loaded.tables.ais loaded.classes
 parts_kept files asked loaded (rejects stop gives e) = absurd (let f : Ok loaded ≡ Err stop = e in cc)
 parts_kept files asked loaded (goes_on tabled gives (rejects stop g e)) = absurd (let f : Ok loaded ≡ Err stop = e in cc)
 parts_kept files asked loaded (goes_on tabled gives (goes_on linked g (rejects stop h e))) = absurd (let f : Ok loaded ≡ Err stop = e in cc)
@@ -113,7 +113,7 @@ parts_kept files asked loaded (goes_on tabled gives (goes_on linked g (goes_on s
     let same : loaded ≡ record { tables = tabled.tables; source = tabled.source; prefixes = tabled.prefixes; links = linked.links; merged = linked.merged; settings = settings; classes = classes } = cc in
     rw same (given_kept files tabled.tables.ais asked.command asked.files.classes classes k)
 
-pub classes_kept : (files : Option FilesInMemory) (asked : Asked) (loaded : Loaded) → FilesGive files asked (Ok loaded)
+pub classes_kept : (files : Option FilesHeld) (asked : Asked) (loaded : Loaded) → FilesGive files asked (Ok loaded)
     → AreKept loaded.tables.ais loaded.classes
 classes_kept files asked loaded gives = parts_kept files asked loaded (flat_parts files asked (Ok loaded) gives)
 
@@ -121,7 +121,7 @@ classes_kept files asked loaded gives = parts_kept files asked loaded (flat_part
 
 -- classes that were judged are loaded, or rejected, or memory ran out
 known_classes : (Give : Result ClassRows Stop → Type 0) (errored : Bool) (answer : Result ClassRows ClassLoadFault) (result : Result ClassRows Unloaded) (Answer : Result ClassRows ClassLoadFault → Type 0)
-    → OrMemory Answer answer → ClassesUnloadedAs answer result → (Answer answer → Give (of_verdict kind.Classes (classes_verdict answer)))
+    → OrMemory Answer answer → ClassesUnloadedAs answer result → (Answer answer → Give (of_verdict kind.Classes (reworded Classes answer)))
     → LoadedBy Give errored result
 known_classes Give errored answer (Ok set) Answer (inl none) u give = absurd (let f : Ok set ≡ Err class.Memory = sym u ∙ none in cc)
 known_classes Give errored answer (Ok set) Answer (inr is) u give = let g = give is in rw u at g
@@ -130,19 +130,19 @@ known_classes Give errored answer (Err unloaded.ReadFault) Answer o u give = abs
 known_classes Give errored answer (Err (unloaded.Refused rejection)) Answer (inl none) u give = absurd (u.0 none)
 known_classes Give errored answer (Err (unloaded.Refused rejection)) Answer (inr is) u give = let g = give is in rw u.1 at g
 
-pub file_loaded : (files : Option FilesInMemory) (ais : List AiRow) (command : Command) (name bytes : List ℕ) (errored : Bool) (answer : Result ClassRows ClassLoadFault) (result : Result ClassRows Unloaded)
+pub file_loaded : (files : Option FilesHeld) (ais : List AiRow) (command : Command) (name bytes : List ℕ) (errored : Bool) (answer : Result ClassRows ClassLoadFault) (result : Result ClassRows Unloaded)
     → IsFile files name bytes → length bytes ≤ file_limit kind.Classes → OrMemory (LoadAnswer ais bytes) answer
     → ClassesUnloadedAs answer result → LoadedBy (ClassesGive files ais command (Some name)) errored result
 file_loaded files ais command name bytes errored answer result is few load u =
     known_classes (ClassesGive files ais command (Some name)) errored answer result (LoadAnswer ais bytes) load u
-    (λ a. judged bytes (classes_verdict answer) is few (record { answer = answer; is_answer = a; is = refl }) refl)
+    (λ a. judged bytes (reworded Classes answer) is few (record { answer = answer; is_answer = a; is = refl }) refl)
 
 pub built_in_loaded : (ais : List AiRow) (command : Command) (answer : Result ClassRows ClassLoadFault) (result : Result ClassRows Unloaded)
     → is_of_classes command ≡ true → OrMemory (BuiltInAnswer ais) answer → ClassesUnloadedAs answer result
     → AreUnnamedClasses ais command result
 built_in_loaded ais command answer result of load u = λ errored. rw of
     (known_classes (StandsFor kind.Classes (UnnamedClasses ais true)) errored answer result (BuiltInAnswer ais) load u
-    (λ a. record { verdict = classes_verdict answer; judged = record { answer = answer; is_answer = a; is = refl }; is = refl }))
+    (λ a. record { verdict = reworded Classes answer; judged = record { answer = answer; is_answer = a; is = refl }; is = refl }))
 
 pub none_loaded : (ais : List AiRow) (command : Command) (set : ClassRows) → is_of_classes command ≡ false → set ≡ set_of []
     → AreUnnamedClasses ais command (Ok set)

@@ -14,10 +14,11 @@ use Rattle.tdl_arguments.specs.Requests.{Asked, FileNames, Values, classes_named
 use Rattle.tdl_loads.specs.declared.loads.Linked.{Linked}
 use Rattle.tdl_loads.specs.declared.loads.Tabled.{Tabled}
 use Rattle.tdl_loads.specs.declared.loads.TablesWithSource.{TablesWithSource}
-use Rattle.tdl_loads.specs.Loads.{FileGives, FilesInMemory, Gives, LinksGive, OtherGives, Stop, TablesGive, absent, judged, kind_of, merging, missing, named_up_to, of_verdict, rejected, too_large}
+use Rattle.tdl_loads.specs.Loads.{FileGives, Gives, LinksGive, OtherGives, Stop, TablesGive, absent, judged, kind_of, merging, missing, named_up_to, of_verdict, rejected, too_large}
 use Rattle.tdl_loads.specs.LoadsSupport.{GivesClasses, GivesLinks, GivesOthers, GivesPrefixes, GivesSettings, GivesThird, LinkedGive, SettingsGive, TabledGive, linked_with, links_up_to, others_up_to, rest_up_to, settings_up_to}
 use Rattle.tdl_loads.proofs.LoadLemmas.{given_tables_one, linked_one, links_one, other_one, settings_one, tabled_one}
 use Rattle.tdl_loads.proofs.LoadSteps.{Row}
+use Rattle.gs_port.specs.Files.{FilesHeld}
 
 -- ---- the kinds of the files at which a load stops
 
@@ -29,13 +30,13 @@ verdict_kind : {A : Type 0} (kind : FileKind) (verdict : Result A FileFault) (st
 verdict_kind kind (Ok a) stop given e f = absurd (let g : given ≡ Ok a = f in cc)
 verdict_kind kind (Err error) stop given e f = same_stop stop (rejected (record { kind = kind; error = error })) given e f
 
-file_kind : {A : Type 0} (files : Option FilesInMemory) (kind : FileKind) (Judges : List ℕ → Result A FileFault → Type 0) (name : List ℕ) (stop : Stop)
+file_kind : {A : Type 0} (files : Option FilesHeld) (kind : FileKind) (Judges : List ℕ → Result A FileFault → Type 0) (name : List ℕ) (stop : Stop)
     → FileGives files kind Judges name (Err stop) → kind_of stop ≡ kind
 file_kind files kind Judges name stop (absent none e) = same_stop stop (missing kind) _ refl e
 file_kind files kind Judges name stop (too_large bytes is more e) = verdict_kind kind (Err Over) stop _ refl e
 file_kind files kind Judges name stop (judged bytes verdict is few j e) = verdict_kind kind verdict stop _ refl e
 
-gives_kind : {A : Type 0} (files : Option FilesInMemory) (kind : FileKind) (Judges : List ℕ → Result A FileFault → Type 0) (Unnamed : Result A FileFault → Type 0) (name : Option (List ℕ)) (stop : Stop)
+gives_kind : {A : Type 0} (files : Option FilesHeld) (kind : FileKind) (Judges : List ℕ → Result A FileFault → Type 0) (Unnamed : Result A FileFault → Type 0) (name : Option (List ℕ)) (stop : Stop)
     → Gives files kind Judges Unnamed name (Err stop) → kind_of stop ≡ kind
 gives_kind files kind Judges Unnamed None stop gives = verdict_kind kind gives.verdict stop _ refl gives.is
 gives_kind files kind Judges Unnamed (Some name) stop gives = file_kind files kind Judges name stop gives
@@ -53,7 +54,7 @@ then_kind First Next Is first next stop (goes_on a gives n) = next a stop n
 not_given : {A : Type 0} (stop : Stop) (a : A) (Is : Type 0) → Err stop ≡ Ok a → Is
 not_given {A = A} stop a Is e = absurd (let given : Result A Stop = Err stop in let f : given ≡ Ok a = e in cc)
 
-prefixes_kind : (files : Option FilesInMemory) (names : FileNames) (given : TablesWithSource) (stop : Stop)
+prefixes_kind : (files : Option FilesHeld) (names : FileNames) (given : TablesWithSource) (stop : Stop)
     → GivesPrefixes files names given (Err stop) → kind_of stop ≡ kind.Prefixes
 prefixes_kind files names given = then_kind _ _ (λ k. k ≡ kind.Prefixes) (gives_kind files kind.Prefixes _ _ names.prefixes)
     (λ list stop e. not_given stop _ _ e)
@@ -77,38 +78,38 @@ merged_kind links (Err error) stop e =
     let given : Result Linked Stop = Err stop in
     same_stop stop (rejected (record { kind = kind.Merge; error = error })) given refl e
 
-third_kind : (files : Option FilesInMemory) (names : FileNames) (ais : List AiRow) (voc : List ℕ) (links : List Link) (second : Option (List Link)) (stop : Stop)
+third_kind : (files : Option FilesHeld) (names : FileNames) (ais : List AiRow) (voc : List ℕ) (links : List Link) (second : Option (List Link)) (stop : Stop)
     → GivesThird files names ais voc links second (Err stop) → OfThird (kind_of stop)
 third_kind files names ais voc links second = then_kind _ _ OfThird (λ stop g. inl (gives_kind files kind.Third _ _ names.third stop g))
     (λ third stop e. inr (merged_kind links (merging ais voc links second third) stop e))
 
-others_kind : (files : Option FilesInMemory) (names : FileNames) (ais : List AiRow) (voc : List ℕ) (links : List Link) (stop : Stop)
+others_kind : (files : Option FilesHeld) (names : FileNames) (ais : List AiRow) (voc : List ℕ) (links : List Link) (stop : Stop)
     → GivesOthers files names ais voc links (Err stop) → OfOthers (kind_of stop)
 others_kind files names ais voc links = then_kind _ _ OfOthers (λ stop g. inl (gives_kind files kind.Second _ _ names.second stop g))
     (λ second stop g. inr (third_kind files names ais voc links second stop g))
 
-linked_kind : (files : Option FilesInMemory) (names : FileNames) (values : Values) (ais : List AiRow) (stop : Stop)
+linked_kind : (files : Option FilesHeld) (names : FileNames) (values : Values) (ais : List AiRow) (stop : Stop)
     → LinkedGive files names values ais (Err stop) → OfLinks (kind_of stop)
 linked_kind files names values ais = then_kind _ _ OfLinks (λ stop g. inl (gives_kind files kind.Links _ _ _ stop g))
     (λ links stop g. inr (others_kind files names ais values.voc links stop g))
 
-settings_kind : (files : Option FilesInMemory) (names : FileNames) (values : Values) (stop : Stop)
+settings_kind : (files : Option FilesHeld) (names : FileNames) (values : Values) (stop : Stop)
     → SettingsGive files names values (Err stop) → kind_of stop ≡ kind.Describe
 settings_kind files names values = then_kind _ _ (λ k. k ≡ kind.Describe) (gives_kind files kind.Describe _ _ names.describe)
     (λ describe stop e. not_given stop _ _ e)
 
-classes_kind : (files : Option FilesInMemory) (asked : Asked) (tabled : Tabled) (linked : Linked) (settings : Settings) (stop : Stop)
+classes_kind : (files : Option FilesHeld) (asked : Asked) (tabled : Tabled) (linked : Linked) (settings : Settings) (stop : Stop)
     → GivesClasses files asked tabled linked settings (Err stop) → kind_of stop ≡ kind.Classes
 classes_kind files asked tabled linked settings = then_kind _ _ (λ k. k ≡ kind.Classes)
     (gives_kind files kind.Classes _ _ asked.files.classes) (λ classes stop e. not_given stop _ _ e)
 
-with_settings_kind : (files : Option FilesInMemory) (asked : Asked) (tabled : Tabled) (linked : Linked) (stop : Stop)
+with_settings_kind : (files : Option FilesHeld) (asked : Asked) (tabled : Tabled) (linked : Linked) (stop : Stop)
     → GivesSettings files asked tabled linked (Err stop) → OfSettings (kind_of stop)
 with_settings_kind files asked tabled linked = then_kind _ _ OfSettings
     (λ stop g. inl (settings_kind files asked.files asked.values stop g))
     (λ settings stop g. inr (classes_kind files asked tabled linked settings stop g))
 
-rest_kind : (files : Option FilesInMemory) (asked : Asked) (tabled : Tabled) (stop : Stop) → GivesLinks files asked tabled (Err stop)
+rest_kind : (files : Option FilesHeld) (asked : Asked) (tabled : Tabled) (stop : Stop) → GivesLinks files asked tabled (Err stop)
     → OfLinks (kind_of stop) ⊎ OfSettings (kind_of stop)
 rest_kind files asked tabled = then_kind _ _ (λ k. OfLinks k ⊎ OfSettings k)
     (λ stop g. inl (linked_kind files asked.files asked.values tabled.tables.ais stop g))

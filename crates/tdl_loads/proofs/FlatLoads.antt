@@ -11,8 +11,9 @@ use Rattle.tdl_loads.specs.declared.loads.Linked.{Linked}
 use Rattle.tdl_loads.specs.declared.loads.Loaded.{Loaded}
 use Rattle.tdl_loads.specs.declared.loads.Unloaded.{Unloaded}
 use Rattle.tdl_loads.specs.declared.loads.Unloaded.TheVariants as unloaded
-use Rattle.tdl_loads.specs.Loads.{FilesGive, FilesInMemory, Stop, missing, rejected}
+use Rattle.tdl_loads.specs.Loads.{FilesGive, Stop, missing, rejected}
 use Rattle.tdl_loads.specs.LoadsSupport.{LoadedBy, Loads, PartsGive, linked_with}
+use Rattle.gs_port.specs.Files.{FilesHeld}
 
 -- ---- steps in a row
 
@@ -78,7 +79,7 @@ module _ (links : List Link) (Next : Linked → Result Loaded Stop → Type 0) w
 
 -- ---- the results of the files
 
-pub parts_flat : (files : Option FilesInMemory) (asked : Asked) (answer : Result Loaded Stop) → PartsGive files asked answer → FilesGive files asked answer
+pub parts_flat : (files : Option FilesHeld) (asked : Asked) (answer : Result Loaded Stop) → PartsGive files asked answer → FilesGive files asked answer
 parts_flat files asked answer x =
     next_map _ _ _ (λ given answer t.
     next_map _ _ _ (λ prefixes answer t.
@@ -93,7 +94,7 @@ parts_flat files asked answer x =
     answer (then_row _ _ _ answer t))
     answer (then_row _ _ _ answer x)
 
-pub flat_parts : (files : Option FilesInMemory) (asked : Asked) (answer : Result Loaded Stop) → FilesGive files asked answer → PartsGive files asked answer
+pub flat_parts : (files : Option FilesHeld) (asked : Asked) (answer : Result Loaded Stop) → FilesGive files asked answer → PartsGive files asked answer
 flat_parts files asked answer x =
     row_then _ _ _ answer
     (next_map _ _ _ (λ given answer t.
@@ -119,7 +120,7 @@ flat_parts files asked answer x =
 
 -- ---- loads by one and by the other
 
-loaded_flat : (files : Option FilesInMemory) (asked : Asked) (errored : Bool) (answer : Result Loaded Unloaded)
+loaded_flat : (files : Option FilesHeld) (asked : Asked) (errored : Bool) (answer : Result Loaded Unloaded)
     → LoadedBy (PartsGive files asked) errored answer → LoadedBy (FilesGive files asked) errored answer
 loaded_flat files asked errored (Ok loaded) g = parts_flat files asked (Ok loaded) g
 loaded_flat files asked errored (Err (unloaded.Refused rejection)) g = parts_flat files asked (Err (rejected rejection)) g

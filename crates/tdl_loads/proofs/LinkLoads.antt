@@ -16,17 +16,18 @@ use Rattle.gs_linktext_grammar.proofs.PartLemmas.{drop_all, drop_at}
 use Rattle.gs_merge.specs.MergedDocuments.{merge_answer}
 use Rattle.gs_template.specs.Errors.{first_error}
 use Rattle.gs_template.specs.declared.error.PlaceFault.{PlaceFault}
-use Rattle.gs_translate.specs.Steps.{Then, goes_on}
+use Rattle.gs_translate.specs.Steps.{Then, goes_on, reworded}
 use Rattle.tdl_messages.specs.declared.file_kind.FileKind.{FileKind}
 use Rattle.tdl_messages.specs.declared.file_kind.FileKind.TheVariants as kind
 use Rattle.tdl_messages.specs.declared.rejection.FileFault.{FileFault}
-use Rattle.tdl_messages.specs.declared.rejection.FileFault.TheVariants.{Place}
+use Rattle.tdl_messages.specs.declared.rejection.FileFault.TheVariants.{Place, Store}
 use Rattle.tdl_messages.specs.declared.rejection.Rejection.{Rejection}
 use Rattle.tdl_loads.specs.declared.loads.Unloaded.{Unloaded}
 use Rattle.tdl_loads.specs.declared.loads.Unloaded.TheVariants as unloaded
-use Rattle.tdl_loads.specs.Loads.{JudgesText, Stop, link_errors, merge_verdict, merged_store, merged_with, merging, of_verdict, other_verdict, placed, places_errors, read_as, rejected, store_verdict, unread}
+use Rattle.tdl_loads.specs.Loads.{JudgesText, Stop, link_errors, merged_store, merged_with, merging, of_verdict, other_verdict, placed, places_errors, read_as, rejected, store_verdict, unread}
 use Rattle.tdl_loads.specs.LoadsSupport.{AreLinked, LoadedBy, linked_with}
 use Rattle.tdl_loads.specs.Reads.{JudgedAs, JudgedBy, unread_text}
+use Rattle.gs_links.specs.declared.error.StoreFault.TheVariants.{TooMany}
 
 -- ---- no link
 
@@ -194,11 +195,11 @@ with_unmerged ais voc verdict third (unloaded.Refused rejection) j =
 
 -- a merge without a result, and links with their merged document
 pub merging_not : (ais : List AiRow) (voc : List ℕ) (links : List Link) (second third : Option (List Link)) (some : List Link) (u : Unloaded)
-    → second ≡ Some some → JudgedAs kind.Merge (merge_verdict (merge_answer links some)) (Err u)
+    → second ≡ Some some → JudgedAs kind.Merge (reworded (λ _. Store TooMany) (merge_answer links some)) (Err u)
     → JudgedAs kind.Merge (merging ais voc links second third) (Err u)
 merging_not ais voc links second third some u e j =
     subst (λ (s : Option (List Link)). JudgedAs kind.Merge (merging ais voc links s third) (Err u)) (sym e)
-    (with_unmerged ais voc (merge_verdict (merge_answer links some)) third u j)
+    (with_unmerged ais voc (reworded (λ _. Store TooMany) (merge_answer links some)) third u j)
 
 pub linked_is : (ais : List AiRow) (voc : List ℕ) (links : List Link) (second third : Option (List Link)) (contexts : List Context)
     → merging ais voc links second third ≡ Ok contexts → AreLinked ais voc links second third

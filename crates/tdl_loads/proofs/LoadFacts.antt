@@ -9,9 +9,10 @@ use Rattle.tdl_arguments.specs.Requests.{Asked, names_in_order}
 use Rattle.tdl_loads.specs.declared.loads.Loaded.{Loaded}
 use Rattle.tdl_loads.specs.declared.loads.Unloaded.{Unloaded}
 use Rattle.tdl_loads.specs.declared.loads.Unloaded.TheVariants as unloaded
-use Rattle.tdl_loads.specs.Loads.{FilesGive, FilesInMemory, OpensUpTo, Stop, is_load_short, kind_of, missing, named_up_to}
+use Rattle.tdl_loads.specs.Loads.{FilesGive, OpensUpTo, Stop, is_load_short, kind_of, missing, named_up_to}
 use Rattle.tdl_loads.specs.LoadsSupport.{LoadedBy, Loads, after_load}
 use Rattle.tdl_loads.proofs.OpenedNames.{opens_as}
+use Rattle.gs_port.specs.Files.{FilesHeld}
 
 -- ---- the names that were opened, if memory that was lost in the load was lost in the run
 

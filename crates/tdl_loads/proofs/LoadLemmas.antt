@@ -23,13 +23,13 @@ use Rattle.gs_tables.specs.Shapes.{AreAlike, BuiltInAnswer, HasMemory, LoadAnswe
 use Rattle.gs_tables.specs.Tables.{TableRows}
 use Rattle.gs_tables.proofs.JudgedAnswers.{IsRuling, judged_alike, judged_some}
 use Rattle.gs_tables.proofs.OneAnswer.{RuledRows, ruling_of_builtin, ruling_of_bytes}
-use Rattle.gs_translate.specs.Steps.{Then, goes_on, rejects}
+use Rattle.gs_translate.specs.Steps.{Then, goes_on, rejects, reworded}
 use Rattle.gs_translate.specs.StepsSupport.{HasSome}
 use Rattle.gs_translate.proofs.StepLaws.{then_some}
 use Rattle.tdl_messages.specs.declared.file_kind.FileKind.{FileKind}
 use Rattle.tdl_messages.specs.declared.file_kind.FileKind.TheVariants as kind
 use Rattle.tdl_messages.specs.declared.rejection.FileFault.{FileFault}
-use Rattle.tdl_messages.specs.declared.rejection.FileFault.TheVariants.{LinkText, Over}
+use Rattle.tdl_messages.specs.declared.rejection.FileFault.TheVariants.{Classes, LinkText, Over, Prefixes}
 use Rattle.tdl_messages.specs.Rejections.{file_limit}
 use Rattle.gs_http.specs.declared.resolver.Settings.{Settings}
 use Rattle.tdl_arguments.specs.declared.command.Command.{Command}
@@ -37,7 +37,7 @@ use Rattle.tdl_arguments.specs.Requests.{Asked, FileNames, LinksName, Values, as
 use Rattle.tdl_loads.specs.declared.loads.Loaded.{Loaded}
 use Rattle.tdl_loads.specs.declared.loads.TablesWithSource.{TablesWithSource}
 use Rattle.tdl_loads.specs.declared.loads.Tabled.{Tabled}
-use Rattle.tdl_loads.specs.Loads.{ClassesGive, FileGives, FilesGive, Gives, JudgesLinks, JudgesClasses, JudgesTables, LinksGive, PrefixesGive, Stop, TablesGive, UnnamedClasses, classes_verdict, is_of_classes, links_verdict, prefixes_verdict, absent, judged, missing, of_verdict, tables_verdict, too_large, JudgesFile, JudgesText, OtherGives, merging, other_verdict, read_as, store_verdict, unread}
+use Rattle.tdl_loads.specs.Loads.{ClassesGive, FileGives, FilesGive, Gives, JudgesLinks, JudgesClasses, JudgesTables, LinksGive, PrefixesGive, Stop, TablesGive, UnnamedClasses, is_of_classes, links_verdict, absent, judged, missing, of_verdict, tables_verdict, too_large, JudgesFile, JudgesText, OtherGives, merging, other_verdict, read_as, store_verdict, unread}
 use Rattle.tdl_loads.specs.Loads.{Ambiguity, ambiguous, of_classes, of_tables}
 use Rattle.tdl_loads.specs.LoadsSupport.{AreBytes, AreLinked, AreNone, AreSettings, AreTabled, DescriptionGives, GivesClasses, GivesLinks, GivesOthers, GivesPrefixes, GivesSettings, GivesThird, IsLoadedOf, IsNoLink, IsNoOther, IsNoPrefix, JudgesOther, JudgesPrefixes, LinkedGive, PartsGive, SettingsGive, TabledGive, linked_with}
 use Rattle.tdl_loads.specs.declared.loads.Linked.{Linked}
@@ -195,7 +195,7 @@ settings_one files names values = then_alike (DescriptionGives (Some files) name
     (λ describe x y e f. one_stop (e ∙ sym f))
 
 abbrev classes_stop : Result ClassRows ClassLoadFault → Result ClassRows Stop
-classes_stop answer = of_verdict kind.Classes (classes_verdict answer)
+classes_stop answer = of_verdict kind.Classes (reworded Classes answer)
 
 alike_classes : (one other : Result ClassRows ClassLoadFault) → AlikeClasses one other → AlikeStops (classes_stop one) (classes_stop other)
 alike_classes one other (same_classes e) = one_stop (ap classes_stop e)
@@ -289,7 +289,7 @@ tables_some : (source : List ℕ) (Answer : Result TableRows LoadFault → Type 
 tables_some source Answer some = (tables_verdict source some.0, record { answer = some.0; enough = some.1; is_answer = some.2; is = refl })
 
 prefixes_some : (files : Option (List (List ℕ × List ℕ))) (name : Option (List ℕ)) → HasSome (PrefixesGive files name)
-prefixes_some files name = gives_some files kind.Prefixes JudgesPrefixes IsNoPrefix name (λ bytes. (prefixes_verdict (load_answer bytes), refl)) (Ok [], refl)
+prefixes_some files name = gives_some files kind.Prefixes JudgesPrefixes IsNoPrefix name (λ bytes. (reworded Prefixes (load_answer bytes), refl)) (Ok [], refl)
 
 text_some : (templates : Bool) (ais : List AiRow) (voc bytes : List ℕ) → HasReading bytes → HasSome (JudgesText templates ais voc bytes)
 text_some templates ais voc bytes (inl found) = (store_verdict templates ais (store_answer ais voc found.0), read_as found.0 found.1 refl)
@@ -338,14 +338,14 @@ settings_some files names values = then_some (DescriptionGives files names.descr
 
 classes_some_by : (ais : List AiRow) (works : Bool) → HasSome (UnnamedClasses ais works)
 classes_some_by ais true = let some = some_judged (ruled_rows ais built_in_rows)
-    (good_of_rows ais built_in_rows) in (classes_verdict some.0, record { answer = some.0; is_answer = some.1; is = refl })
+    (good_of_rows ais built_in_rows) in (reworded Classes some.0, record { answer = some.0; is_answer = some.1; is = refl })
 classes_some_by ais false = (Ok (set_of []), refl)
 
 classes_some : (files : Option (List (List ℕ × List ℕ))) (ais : List AiRow) (command : Command) (name : Option (List ℕ))
     → HasSome (ClassesGive files ais command name)
 classes_some files ais command name = gives_some files kind.Classes (λ bytes. JudgesClasses (ClassesAnswer ais bytes))
     (UnnamedClasses ais (is_of_classes command)) name
-    (λ bytes. let some = some_judged (ruled_bytes ais bytes) (good_of_bytes ais bytes) in (classes_verdict some.0, record { answer = some.0; is_answer = some.1; is = refl }))
+    (λ bytes. let some = some_judged (ruled_bytes ais bytes) (good_of_bytes ais bytes) in (reworded Classes some.0, record { answer = some.0; is_answer = some.1; is = refl }))
     (classes_some_by ais (is_of_classes command))
 
 with_classes_some : (files : Option (List (List ℕ × List ℕ))) (asked : Asked) (tabled : Tabled) (linked : Linked) (settings : Settings)

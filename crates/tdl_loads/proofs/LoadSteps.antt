@@ -4,7 +4,7 @@ use Rattle.std.proofs.lemmas.Grind.{common_steps}
 use Rattle.std.specs.Prelude.{Bool, true, false, Result, Ok, Err}
 use Rattle.gs_port.specs.Answers.{after_file}
 use Rattle.gs_port.specs.Counts.{count_if}
-use Rattle.gs_port.specs.Files.{AddsNames, BeginsFile, IsAbsent, IsFile, counted_if_found, counted_if_there, file_of, with_names}
+use Rattle.gs_port.specs.Files.{AddsNames, BeginsFile, IsAbsent, IsFile, counted_if_found, counted_if_there, file_of, with_names, FilesHeld}
 use Rattle.gs_port.specs.States.{FilesState}
 use Rattle.gs_port.specs.declared.files.FileFault.TheVariants as file
 use Rattle.gs_port.proofs.Names.{surely_added}
@@ -16,7 +16,7 @@ use Rattle.tdl_messages.specs.declared.rejection.Rejection.{Rejection}
 use Rattle.tdl_messages.specs.Rejections.{file_limit}
 use Rattle.tdl_loads.specs.declared.loads.Unloaded.{Unloaded}
 use Rattle.tdl_loads.specs.declared.loads.Unloaded.TheVariants as unloaded
-use Rattle.tdl_loads.specs.Loads.{BytesGive, FileGives, FilesInMemory, Gives, Opens, OpensFirst, StandsFor, Stop, absent, is_load_short, is_short, judged, kind_of, missing, of_verdict, rejected, too_large}
+use Rattle.tdl_loads.specs.Loads.{BytesGive, FileGives, Gives, Opens, OpensFirst, StandsFor, Stop, absent, is_load_short, is_short, judged, kind_of, missing, of_verdict, rejected, too_large}
 use Rattle.tdl_loads.specs.LoadsSupport.{AreBytes, LoadedBy, Loads, LoadsOne, after_load}
 use Rattle.tdl_loads.proofs.FileLoads.{loads_on, not_loaded}
 use Rattle.tdl_loads.proofs.LoadLemmas.{AreAlikeAll, not_alike, same_given}
@@ -25,13 +25,13 @@ use Rattle.tdl_loads.proofs.OpenedNames.{added_both, adds_given, adds_none, open
 -- ---- the bytes of a file that is named
 
 -- the bytes of a named file, which are few enough
-pub record NamedBytes (files : Option FilesInMemory) (kind : FileKind) (name : Option (List ℕ)) (bytes : List ℕ) : Type 0 where
+pub record NamedBytes (files : Option FilesHeld) (kind : FileKind) (name : Option (List ℕ)) (bytes : List ℕ) : Type 0 where
   pub file : List ℕ
   pub is_named : name ≡ Some file
   pub is_file : IsFile files file bytes
   pub few : length bytes ≤ file_limit kind
 
-file_bytes : (files : Option FilesInMemory) (kind : FileKind) (file bytes : List ℕ) → FileGives files kind AreBytes file (Ok (Some bytes))
+file_bytes : (files : Option FilesHeld) (kind : FileKind) (file bytes : List ℕ) → FileGives files kind AreBytes file (Ok (Some bytes))
     → NamedBytes files kind (Some file) bytes
 file_bytes files kind file bytes (absent none e) = absurd (let f : Ok (Some bytes) ≡ Err (missing kind) = e in cc)
 file_bytes files kind file bytes (too_large b is more e) = absurd (let f : Ok (Some bytes) ≡ Err (rejected (record { kind = kind; error = Over })) = e in cc)
@@ -40,22 +40,22 @@ file_bytes files kind file bytes (judged b verdict is few j e) =
     let same : b ≡ bytes = cc in
     record { file = file; is_named = refl; is_file = rw same at is; few = rw same at few }
 
-pub bytes_named : (files : Option FilesInMemory) (kind : FileKind) (name : Option (List ℕ)) (bytes : List ℕ)
+pub bytes_named : (files : Option FilesHeld) (kind : FileKind) (name : Option (List ℕ)) (bytes : List ℕ)
     → BytesGive files kind name (Ok (Some bytes)) → NamedBytes files kind name bytes
 bytes_named files kind None bytes gives = absurd (let f : Ok (Some bytes) ≡ Ok None = gives.is ∙ ap (of_verdict kind) gives.judged in cc)
 bytes_named files kind (Some file) bytes gives = file_bytes files kind file bytes gives
 
-file_some : (files : Option FilesInMemory) (kind : FileKind) (file : List ℕ) → FileGives files kind AreBytes file (Ok None) → ⊥
+file_some : (files : Option FilesHeld) (kind : FileKind) (file : List ℕ) → FileGives files kind AreBytes file (Ok None) → ⊥
 file_some files kind file (absent none e) = let none : Result (Option (List ℕ)) Stop = Ok None in let f : none ≡ Err (missing kind) = e in cc
 file_some files kind file (too_large b is more e) = let none : Result (Option (List ℕ)) Stop = Ok None in let f : none ≡ Err
     (rejected (record { kind = kind; error = Over })) = e in cc
 file_some files kind file (judged b verdict is few j e) = let f : Ok None ≡ Ok (Some b) = e ∙ ap (of_verdict kind) j in cc
 
-pub none_is_named : (files : Option FilesInMemory) (kind : FileKind) (name : Option (List ℕ)) → BytesGive files kind name (Ok None) → name ≡ None
+pub none_is_named : (files : Option FilesHeld) (kind : FileKind) (name : Option (List ℕ)) → BytesGive files kind name (Ok None) → name ≡ None
 none_is_named files kind None gives = refl
 none_is_named files kind (Some file) gives = absurd (file_some files kind file gives)
 
-module _ {A : Type 0} (files : Option FilesInMemory) (kind : FileKind) (Judges : List ℕ → Result A FileFault → Type 0)
+module _ {A : Type 0} (files : Option FilesHeld) (kind : FileKind) (Judges : List ℕ → Result A FileFault → Type 0)
     (Unnamed : Result A FileFault → Type 0) where
   file_stops : (file : List ℕ) (stop : Stop) → FileGives files kind AreBytes file (Err stop) → FileGives files kind Judges file (Err stop)
   file_stops file stop (absent none e) =
@@ -110,7 +110,7 @@ rejected_by : {A : Type 0} (names : List (List ℕ)) (before now : Option (List 
 rejected_by {A = A} names before now answer rejection adds is =
     surely_added before now names (subst (λ (answer : Result A Unloaded). AddsNames (is_load_short answer) before names now) is adds)
 
-module _ {A : Type 0} (Give : Option FilesInMemory → Result A Stop → Type 0) (names : List (List ℕ)) (As : Type 0) (before now : FilesState) where
+module _ {A : Type 0} (Give : Option FilesHeld → Result A Stop → Type 0) (names : List (List ℕ)) (As : Type 0) (before now : FilesState) where
   loads_by : (answer : Result A Unloaded) (errored : Bool) → now ≡ after_load errored now before
       → (errored ≡ true → answer ≡ Err unloaded.ReadFault) → LoadedBy (Give before.files) errored answer
       → AddsNames (is_load_short answer) before.opened names now.opened → (names ≡ [] → As) → LoadsOne Give names As before now answer
@@ -132,7 +132,7 @@ loads_none kind As files unchanged =
     loads_by (λ known. BytesGive known kind None) [] As files files (Ok None) false refl (λ e. absurd cc) (record { verdict = Ok None; judged = refl; is = refl }) (adds_none false files.opened) (λ none. unchanged)
 
 -- the count of errors after a file could not be read
-failed_by : (files : Option FilesInMemory) (name : List ℕ) (count : ℕ) → (errored : Bool) × (counted_if_there files name count ≡ count_if errored count) × ((errored ≡ true) ⊎ IsAbsent files name)
+failed_by : (files : Option FilesHeld) (name : List ℕ) (count : ℕ) → (errored : Bool) × (counted_if_there files name count ≡ count_if errored count) × ((errored ≡ true) ⊎ IsAbsent files name)
 failed_by None name count = (true, refl, inl refl)
 failed_by (Some files) name count = by (file_of files name) refl
   where
@@ -180,8 +180,8 @@ module _ (kind : FileKind) (name : List ℕ) (As : Type 0) (before now : FilesSt
 
 -- ---- a load of one file, and a last step that reads none
 
-module _ {A B : Type 0} {Give : Option FilesInMemory → Result A Stop → Type 0} {names : List (List ℕ)} {As : Type 0} {before now : FilesState}
-    (Made : Option FilesInMemory → Result B Stop → Type 0) where
+module _ {A B : Type 0} {Give : Option FilesHeld → Result A Stop → Type 0} {names : List (List ℕ)} {As : Type 0} {before now : FilesState}
+    (Made : Option FilesHeld → Result B Stop → Type 0) where
   pub loads_given : (a : A) (result : Result B Unloaded) → (l : LoadsOne Give names As before now (Ok a))
       → LoadedBy (Made before.files) l.errored result → LoadsOne Made names As before now result
   loads_given a result l g = record {
@@ -229,18 +229,18 @@ no_name [] other e = (refl, e)
 no_name (x ∷ one) other e = cc
 
 -- the results of a load with two steps
-abbrev pub Steps : {A B : Type 0} → (Option FilesInMemory → Result A Stop → Type 0) → (Option FilesInMemory → A → Result B Stop → Type 0)
-    → Option FilesInMemory → Result B Stop → Type 0
+abbrev pub Steps : {A B : Type 0} → (Option FilesHeld → Result A Stop → Type 0) → (Option FilesHeld → A → Result B Stop → Type 0)
+    → Option FilesHeld → Result B Stop → Type 0
 Steps First Next files answer = Then (First files) (Next files) answer
 
 -- Two loads, one after another. The names up to the file of a kind are those of the first, or all of its names and then those of
 -- the second, by which of them stops. The first has alike answers if the files are known.
-pub record Row {A B : Type 0} (First : Option FilesInMemory → Result A Stop → Type 0) (Next : Option FilesInMemory → A → Result B Stop → Type 0) (one : List (List ℕ)) (up_one up_next up : FileKind → List (List ℕ)) : Type 0 where
-  pub first : (files : Option FilesInMemory) (stop : Stop) → First files (Err stop) → up (kind_of stop) ≡ up_one (kind_of stop)
-  pub next : (files : Option FilesInMemory) (a : A) (stop : Stop) → Next files a (Err stop) → up (kind_of stop) ≡ one ++ up_next (kind_of stop)
-  pub alike : (known : FilesInMemory) → AreAlikeAll (First (Some known))
+pub record Row {A B : Type 0} (First : Option FilesHeld → Result A Stop → Type 0) (Next : Option FilesHeld → A → Result B Stop → Type 0) (one : List (List ℕ)) (up_one up_next up : FileKind → List (List ℕ)) : Type 0 where
+  pub first : (files : Option FilesHeld) (stop : Stop) → First files (Err stop) → up (kind_of stop) ≡ up_one (kind_of stop)
+  pub next : (files : Option FilesHeld) (a : A) (stop : Stop) → Next files a (Err stop) → up (kind_of stop) ≡ one ++ up_next (kind_of stop)
+  pub alike : (known : FilesHeld) → AreAlikeAll (First (Some known))
 
-module _ {A B : Type 0} {First : Option FilesInMemory → Result A Stop → Type 0} {Next : Option FilesInMemory → A → Result B Stop → Type 0}
+module _ {A B : Type 0} {First : Option FilesHeld → Result A Stop → Type 0} {Next : Option FilesHeld → A → Result B Stop → Type 0}
     {one : List (List ℕ)} {up_one up_next up : FileKind → List (List ℕ)} (row : Row First Next one up_one up_next up) where
   -- the first gives nothing
   pub first_stops : {As : Type 0} {before now : FilesState} (other : List (List ℕ)) (u : Unloaded)
@@ -263,7 +263,7 @@ module _ {A B : Type 0} {First : Option FilesInMemory → Result A Stop → Type
           let gives : First before.files (Err (rejected rejection)) = subst (λ (v : Unloaded). LoadedBy (First before.files) l.errored (Err v)) same l.loaded in
           l.to_rejected rejection (ap Err same) ∙ ap (with_names before.opened) (sym (row.first before.files (rejected rejection) gives))
 
-      decided : (known : FilesInMemory) (stop : Stop) → before.files ≡ Some known → Then (First before.files) (Next before.files) (Err stop)
+      decided : (known : FilesHeld) (stop : Stop) → before.files ≡ Some known → Then (First before.files) (Next before.files) (Err stop)
           → OpensFirst (is_short u) (up (kind_of stop)) before.opened now.opened
       decided known stop is (rejects stop' gives e) =
           let given : Result B Stop = Err stop in
@@ -302,10 +302,10 @@ module _ {A B : Type 0} {First : Option FilesInMemory → Result A Stop → Type
           added_both before.opened between.opened now.opened one (up_next rejection.kind) l.all_opened (m.to_rejected rejection is)
           ∙ ap (with_names before.opened) (sym (row.next before.files a (rejected rejection) gives))
 
-      moved : (known : FilesInMemory) (answer : Result A Stop) → before.files ≡ Some known → First before.files answer → First (Some known) answer
+      moved : (known : FilesHeld) (answer : Result A Stop) → before.files ≡ Some known → First before.files answer → First (Some known) answer
       moved known answer is gives = rw is at gives
 
-      decided : (known : FilesInMemory) (stop : Stop) → before.files ≡ Some known → Then (First before.files) (Next before.files) (Err stop)
+      decided : (known : FilesHeld) (stop : Stop) → before.files ≡ Some known → Then (First before.files) (Next before.files) (Err stop)
           → OpensFirst (is_load_short answer) (up (kind_of stop)) before.opened now.opened
       decided known stop is (rejects stop' gives e) =
           absurd (not_alike stop' a (row.alike known (Ok a) (Err stop') (moved known (Ok a) is l.loaded) (moved known (Err stop') is gives)))
@@ -317,7 +317,7 @@ module _ {A B : Type 0} {First : Option FilesInMemory → Result A Stop → Type
 
 -- ---- a load, and a last step that reads no file
 
-module _ {A B : Type 0} (First : Option FilesInMemory → Result A Stop → Type 0) (Last : Option FilesInMemory → A → Result B Stop → Type 0)
+module _ {A B : Type 0} (First : Option FilesHeld → Result A Stop → Type 0) (Last : Option FilesHeld → A → Result B Stop → Type 0)
     {names : List (List ℕ)} {As : Type 0} {before now : FilesState} where
   pub last_stops : (u : Unloaded) → LoadsOne First names As before now (Err u) → LoadsOne (Steps First Last) names As before now (Err u)
   last_stops u l = loads_not (Steps First Last) u l (not_loaded (First before.files) (Last before.files) l.errored u l.loaded)

@@ -21,15 +21,13 @@ use Rattle.gs_linktext.specs.ReadAnswers.{IsReadAs, IsReadError}
 use Rattle.gs_linktext_grammar.specs.declared.error.LinkTextFault.{LinkTextFault}
 use Rattle.gs_linktext_grammar.specs.declared.error.LinkTextFault.TheVariants as text
 use Rattle.gs_merge.specs.MergedDocuments.{merge_answer}
-use Rattle.gs_merge.specs.declared.error.MergeFault.{MergeFault}
-use Rattle.gs_port.specs.Files.{AddsNames, IsAbsent, IsFile, with_names}
+use Rattle.gs_port.specs.Files.{AddsNames, IsAbsent, IsFile, with_names, FilesHeld}
 use Rattle.gs_prefix.specs.Answers.{load_answer}
 use Rattle.gs_prefix.specs.declared.entry.PrefixEntry.{PrefixEntry}
-use Rattle.gs_prefix.specs.declared.error.PrefixFault.{PrefixFault}
 use Rattle.gs_tables.specs.Shapes.{BuiltInAnswer, HasMemory, LoadAnswer}
 use Rattle.gs_tables.specs.Tables.{TableRows}
 use Rattle.gs_template.specs.Errors.{place_errors}
-use Rattle.gs_translate.specs.Steps.{Then}
+use Rattle.gs_translate.specs.Steps.{Then, reworded}
 use Rattle.tdl_messages.specs.declared.file_kind.FileKind.{FileKind}
 use Rattle.tdl_messages.specs.declared.file_kind.FileKind.TheVariants as kind
 use Rattle.tdl_messages.specs.declared.rejection.FileFault.{FileFault}
@@ -43,10 +41,6 @@ use Rattle.tdl_loads.specs.declared.loads.Loaded.{Loaded}
 use Rattle.tdl_loads.specs.declared.loads.TablesWithSource.{TablesWithSource}
 use Rattle.tdl_loads.specs.declared.loads.Unloaded.{Unloaded}
 use Rattle.tdl_loads.specs.declared.loads.Unloaded.TheVariants.{Refused, ReadFault, Memory as OutOfMemory}
-
--- trusted, own: the type of known files, each a name and its bytes
-abbrev pub FilesInMemory : Type 0
-FilesInMemory = List (List ℕ × List ℕ)
 
 -- trusted, own: the reason why a run stops at its files: the file of a kind is missing, or one is rejected
 pub data Stop : Type 0 where
@@ -65,7 +59,7 @@ of_verdict kind (Err error) = Err (rejected (record { kind = kind; error = error
 
 -- trusted, own: Holds if `answer` is the result of the file `name` of a kind. It is missing, it has more bytes than its kind
 -- may have, or `Judges` gives the verdict on its bytes.
-pub data FileGives {A : Type 0} (files : Option FilesInMemory) (kind : FileKind) (Judges : List ℕ → Result A FileFault → Type 0) (name : List ℕ) (answer : Result A Stop) : Type 0 where
+pub data FileGives {A : Type 0} (files : Option FilesHeld) (kind : FileKind) (Judges : List ℕ → Result A FileFault → Type 0) (name : List ℕ) (answer : Result A Stop) : Type 0 where
   absent : IsAbsent files name → answer ≡ Err (missing kind) → FileGives files kind Judges name answer
   too_large : (bytes : List ℕ) → IsFile files name bytes → file_limit kind < length bytes → answer ≡ of_verdict kind (Err Over) → FileGives files kind Judges name answer
   judged : (bytes : List ℕ) (verdict : Result A FileFault) → IsFile files name bytes → length bytes ≤ file_limit kind → Judges bytes verdict → answer ≡ of_verdict kind verdict → FileGives files kind Judges name answer
@@ -77,13 +71,13 @@ pub record StandsFor {A : Type 0} (kind : FileKind) (Unnamed : Result A FileFaul
   pub is : answer ≡ of_verdict kind verdict
 
 -- trusted, own: holds if `answer` is the result of the named file of `kind`, or of its default if none is named
-abbrev pub Gives : {A : Type 0} → Option FilesInMemory → FileKind → (List ℕ → Result A FileFault → Type 0) → (Result A FileFault → Type 0) → Option (List ℕ) → Result A Stop → Type 0
+abbrev pub Gives : {A : Type 0} → Option FilesHeld → FileKind → (List ℕ → Result A FileFault → Type 0) → (Result A FileFault → Type 0) → Option (List ℕ) → Result A Stop → Type 0
 Gives files kind Judges Unnamed None answer = StandsFor kind Unnamed answer
 Gives files kind Judges Unnamed (Some name) answer = FileGives files kind Judges name answer
 
 -- trusted, own: Holds if `answer` is the result of a file of `kind`. The verdict on its bytes is `judge`, and `unnamed` if no
 -- file is named.
-abbrev pub GivesBy : {A : Type 0} → Option FilesInMemory → FileKind → (List ℕ → Result A FileFault) → Result A FileFault → Option (List ℕ) → Result A Stop → Type 0
+abbrev pub GivesBy : {A : Type 0} → Option FilesHeld → FileKind → (List ℕ → Result A FileFault) → Result A FileFault → Option (List ℕ) → Result A Stop → Type 0
 GivesBy files kind judge unnamed name answer = Gives files kind (λ bytes verdict. verdict ≡ judge bytes) (λ verdict. verdict ≡ unnamed) name answer
 
 -- trusted, own: the verdict on a document of tables, by the answer of its load
@@ -100,18 +94,13 @@ pub record JudgesTables (source : List ℕ) (Answer : Result TableRows LoadFault
 
 -- trusted, own: holds if `answer` is the tables of the named file, with its bytes, or the built-in ones, without a document, if
 -- none is named
-abbrev pub TablesGive : Option FilesInMemory → Option (List ℕ) → Result TablesWithSource Stop → Type 0
+abbrev pub TablesGive : Option FilesHeld → Option (List ℕ) → Result TablesWithSource Stop → Type 0
 TablesGive files name answer =
     Gives files kind.Tables (λ bytes. JudgesTables bytes (LoadAnswer bytes)) (JudgesTables [] BuiltInAnswer) name answer
 
--- trusted, own: the verdict on a list of company prefix lengths, by the answer of its load
-abbrev pub prefixes_verdict : Result (List PrefixEntry) PrefixFault → Result (List PrefixEntry) FileFault
-prefixes_verdict (Ok list) = Ok list
-prefixes_verdict (Err error) = Err (Prefixes error)
-
 -- trusted, own: holds if `answer` is the company prefix lengths of the named file, or none if none is named
-abbrev pub PrefixesGive : Option FilesInMemory → Option (List ℕ) → Result (List PrefixEntry) Stop → Type 0
-PrefixesGive files name answer = GivesBy files kind.Prefixes (λ bytes. prefixes_verdict (load_answer bytes)) (Ok []) name answer
+abbrev pub PrefixesGive : Option FilesHeld → Option (List ℕ) → Result (List PrefixEntry) Stop → Type 0
+PrefixesGive files name answer = GivesBy files kind.Prefixes (λ bytes. reworded Prefixes (load_answer bytes)) (Ok []) name answer
 
 -- trusted, own: the errors of a numbered link's reference as a template, next to the key of its anchor
 abbrev pub link_errors : List AiRow → ℕ × Link → List FileFault
@@ -151,7 +140,7 @@ JudgesFile templates ais voc (Some (in_json name)) bytes verdict = JudgesLinks t
 JudgesFile templates ais voc (Some (as_text name)) bytes verdict = JudgesText templates ais voc bytes verdict
 
 -- trusted, own: holds if `answer` is the links of the named file, or none if none is named
-abbrev pub LinksGive : Option FilesInMemory → Bool → List AiRow → List ℕ → Option LinksName → Result (List Link) Stop → Type 0
+abbrev pub LinksGive : Option FilesHeld → Bool → List AiRow → List ℕ → Option LinksName → Result (List Link) Stop → Type 0
 LinksGive files templates ais voc name answer =
     Gives files kind.Links (JudgesFile templates ais voc name) (λ verdict. verdict ≡ Ok []) (option_map name_of_links name) answer
 
@@ -161,17 +150,12 @@ other_verdict (Ok links) = Ok (Some links)
 other_verdict (Err error) = Err error
 
 -- trusted, own: holds if `answer` is the links of the named file, which are merged with others, or none if none is named
-abbrev pub OtherGives : Option FilesInMemory → FileKind → List AiRow → List ℕ → Option (List ℕ) → Result (Option (List Link)) Stop → Type 0
+abbrev pub OtherGives : Option FilesHeld → FileKind → List AiRow → List ℕ → Option (List ℕ) → Result (Option (List Link)) Stop → Type 0
 OtherGives files kind ais voc name answer = GivesBy files kind (λ bytes. other_verdict (links_verdict false ais voc (read_answer bytes))) (Ok None) name answer
-
--- trusted, own: the verdict on a merged document, by the answer of merging; too many targets are the fault of a store
-abbrev pub merge_verdict : Result (List Context) MergeFault → Result (List Context) FileFault
-merge_verdict (Ok contexts) = Ok contexts
-merge_verdict (Err error) = Err (Store TooMany)
 
 -- trusted, own: the document that a store and links are merged to
 abbrev pub merged_store : Result (List Link) FileFault → List Link → Result (List Context) FileFault
-merged_store (Ok store) links = merge_verdict (merge_answer store links)
+merged_store (Ok store) links = reworded (λ _. Store TooMany) (merge_answer store links)
 merged_store (Err error) links = Err error
 
 -- trusted, own: The document that a merged one, loaded again, and further links are merged to, if there are any. By the law
@@ -184,10 +168,10 @@ merged_with ais voc (Ok contexts) (Some links) = merged_store (store_verdict fal
 -- trusted, own: the document that links, second and third ones are merged to; without second ones it has no context
 abbrev pub merging : List AiRow → List ℕ → List Link → Option (List Link) → Option (List Link) → Result (List Context) FileFault
 merging ais voc links None third = Ok []
-merging ais voc links (Some second) third = merged_with ais voc (merge_verdict (merge_answer links second)) third
+merging ais voc links (Some second) third = merged_with ais voc (reworded (λ _. Store TooMany) (merge_answer links second)) third
 
 -- trusted, own: holds if `answer` is the bytes of the named file of `kind`, or none if none is named
-abbrev pub BytesGive : Option FilesInMemory → FileKind → Option (List ℕ) → Result (Option (List ℕ)) Stop → Type 0
+abbrev pub BytesGive : Option FilesHeld → FileKind → Option (List ℕ) → Result (Option (List ℕ)) Stop → Type 0
 BytesGive files kind name answer = GivesBy files kind (λ bytes. Ok (Some bytes)) (Ok None) name answer
 
 -- trusted, own: holds if the command works on class URIs
@@ -196,16 +180,11 @@ is_of_classes ClassCanon = true
 is_of_classes ClassUri = true
 is_of_classes command = false
 
--- trusted, own: the verdict on classes, by the answer of their load
-abbrev pub classes_verdict : Result ClassRows ClassLoadFault → Result ClassRows FileFault
-classes_verdict (Ok set) = Ok set
-classes_verdict (Err error) = Err (Classes error)
-
 -- trusted, own: holds if `verdict` is that on classes, by an answer of their load
 pub record JudgesClasses (Answer : Result ClassRows ClassLoadFault → Type 0) (verdict : Result ClassRows FileFault) : Type 0 where
   pub answer : Result ClassRows ClassLoadFault
   pub is_answer : Answer answer
-  pub is : verdict ≡ classes_verdict answer
+  pub is : verdict ≡ reworded Classes answer
 
 -- trusted, own: Holds if `verdict` is that on classes if no file of them is named. It is the built-in ones for a command on
 -- class URIs, otherwise none.
@@ -214,13 +193,13 @@ UnnamedClasses ais true verdict = JudgesClasses (BuiltInClasses ais) verdict
 UnnamedClasses ais false verdict = verdict ≡ Ok (set_of [])
 
 -- trusted, own: holds if `answer` is the classes of the named file, or the default ones, with the application identifiers `ais`
-abbrev pub ClassesGive : Option FilesInMemory → List AiRow → Command → Option (List ℕ) → Result ClassRows Stop → Type 0
+abbrev pub ClassesGive : Option FilesHeld → List AiRow → Command → Option (List ℕ) → Result ClassRows Stop → Type 0
 ClassesGive files ais command name answer =
     Gives files kind.Classes (λ bytes. JudgesClasses (ClassesAnswer ais bytes)) (UnnamedClasses ais (is_of_classes command)) name answer
 
 -- trusted, own: holds if `answer` is the result of the files, one at a time, or the reason of the first that is missing or
 -- rejected
-abbrev pub FilesGive : Option FilesInMemory → Asked → Result Loaded Stop → Type 0
+abbrev pub FilesGive : Option FilesHeld → Asked → Result Loaded Stop → Type 0
 FilesGive files asked answer =
     let names = asked.files in
     let values = asked.values in
@@ -243,11 +222,11 @@ FilesGive files asked answer =
     }))))))))) answer
 
 -- trusted, own: holds if the files give contents that load, and `Fact` holds of them
-abbrev pub Loading : Option FilesInMemory → Asked → (Loaded → Type 0) → Type 0
+abbrev pub Loading : Option FilesHeld → Asked → (Loaded → Type 0) → Type 0
 Loading files asked Fact = (loaded : Loaded) × FilesGive files asked (Ok loaded) × Fact loaded
 
 -- trusted, own: holds if the run stops at its files, and `Fact` holds of the reason
-abbrev pub Stopping : Option FilesInMemory → Asked → (Stop → Type 0) → Type 0
+abbrev pub Stopping : Option FilesHeld → Asked → (Stop → Type 0) → Type 0
 Stopping files asked Fact = (stop : Stop) × FilesGive files asked (Err stop) × Fact stop
 
 -- trusted, own: holds if files are not loaded because memory ran out
@@ -279,9 +258,9 @@ named_up_to other files = tables_named files ++ links_named files
 
 -- trusted, own: Holds if only the first of the named files were opened, in their order. If the files are known, none was opened
 -- after the one at which the run stops. The opened ones may be unknown instead only if `lost` is true.
-pub record OpensUpTo (lost : Bool) (files : Option FilesInMemory) (asked : Asked) (before now : Option (List (List ℕ))) : Type 0 where
+pub record OpensUpTo (lost : Bool) (files : Option FilesHeld) (asked : Asked) (before now : Option (List (List ℕ))) : Type 0 where
   pub first : OpensFirst lost (names_in_order asked.files) before now
-  pub decided : (known : FilesInMemory) (stop : Stop) → files ≡ Some known → FilesGive files asked (Err stop) → OpensFirst lost (named_up_to (kind_of stop) asked.files) before now
+  pub decided : (known : FilesHeld) (stop : Stop) → files ≡ Some known → FilesGive files asked (Err stop) → OpensFirst lost (named_up_to (kind_of stop) asked.files) before now
 
 -- trusted, own: holds if, once the load succeeded, all of `names` and no others were opened, in their order
 abbrev pub Opens : {A : Type 0} → List (List ℕ) → Option (List (List ℕ)) → Option (List (List ℕ)) → Result A Unloaded → Type 0

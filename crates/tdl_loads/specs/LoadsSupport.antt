@@ -7,12 +7,12 @@ use Rattle.gs_links.specs.declared.link.Link.{Link}
 use Rattle.gs_linkset.specs.declared.link_types.Context.{Context}
 use Rattle.gs_linkset.specs.Answers.{read_answer}
 use Rattle.gs_port.specs.Counts.{count_if}
-use Rattle.gs_port.specs.Files.{with_names}
+use Rattle.gs_port.specs.Files.{with_names, FilesHeld}
 use Rattle.gs_port.specs.States.{FilesState}
 use Rattle.gs_prefix.specs.Answers.{load_answer}
 use Rattle.gs_prefix.specs.declared.entry.PrefixEntry.{PrefixEntry}
 use Rattle.gs_tables.specs.MigratedSets.{Loads as LoadsTables}
-use Rattle.gs_translate.specs.Steps.{Then}
+use Rattle.gs_translate.specs.Steps.{Then, reworded}
 use Rattle.tdl_arguments.specs.declared.command.Command.{Command}
 use Rattle.tdl_arguments.specs.declared.command.Command.TheVariants.{Migrate}
 use Rattle.tdl_arguments.specs.Requests.{Asked, FileNames, Values, classes_named, description_named, first_named, links_named, others_named}
@@ -26,13 +26,14 @@ use Rattle.tdl_loads.specs.declared.loads.Tabled.{Tabled}
 use Rattle.tdl_loads.specs.declared.loads.TablesWithSource.{TablesWithSource}
 use Rattle.tdl_loads.specs.declared.loads.Unloaded.{Unloaded}
 use Rattle.tdl_loads.specs.declared.loads.Unloaded.TheVariants.{Refused, ReadFault, Memory}
-use Rattle.tdl_loads.specs.Loads.{BytesGive, ClassesGive, FilesInMemory, LinksGive, Opens, OpensFirst, OtherGives, PrefixesGive, StandsFor, Stop, TablesGive, UnnamedClasses, is_load_short, is_of_classes, kind_of, links_verdict, merging, missing, of_verdict, other_verdict, prefixes_verdict, rejected}
+use Rattle.tdl_loads.specs.Loads.{BytesGive, ClassesGive, LinksGive, Opens, OpensFirst, OtherGives, PrefixesGive, StandsFor, Stop, TablesGive, UnnamedClasses, is_load_short, is_of_classes, kind_of, links_verdict, merging, missing, of_verdict, other_verdict, rejected}
+use Rattle.tdl_messages.specs.declared.rejection.FileFault.TheVariants.{Prefixes}
 
 -- ---- the results of the files, part by part: tables and prefixes, links, settings, classes
 
 -- holds if the verdict is that on a list of company prefix lengths
 abbrev pub JudgesPrefixes : List ℕ → Result (List PrefixEntry) FileFault → Type 0
-JudgesPrefixes bytes verdict = verdict ≡ prefixes_verdict (load_answer bytes)
+JudgesPrefixes bytes verdict = verdict ≡ reworded Prefixes (load_answer bytes)
 
 -- holds if the list has no entry
 abbrev pub IsNoPrefix : Result (List PrefixEntry) FileFault → Type 0
@@ -63,11 +64,11 @@ abbrev pub AreTabled : TablesWithSource → List PrefixEntry → Result Tabled S
 AreTabled given list answer = answer ≡ Ok (record { tables = given.tables; source = given.source; prefixes = list })
 
 -- holds if this is the result of the file of company prefix lengths after these tables
-abbrev pub GivesPrefixes : Option FilesInMemory → FileNames → TablesWithSource → Result Tabled Stop → Type 0
+abbrev pub GivesPrefixes : Option FilesHeld → FileNames → TablesWithSource → Result Tabled Stop → Type 0
 GivesPrefixes files names given answer = Then (PrefixesGive files names.prefixes) (AreTabled given) answer
 
 -- holds if this is the result of the files of tables and of company prefix lengths
-abbrev pub TabledGive : Option FilesInMemory → FileNames → Result Tabled Stop → Type 0
+abbrev pub TabledGive : Option FilesHeld → FileNames → Result Tabled Stop → Type 0
 TabledGive files names answer = Then (TablesGive files names.tables) (GivesPrefixes files names) answer
 
 -- links, with the document that they were merged to
@@ -80,20 +81,20 @@ abbrev pub AreLinked : List AiRow → List ℕ → List Link → Option (List Li
 AreLinked ais voc links second third answer = answer ≡ linked_with links (of_verdict kind.Merge (merging ais voc links second third))
 
 -- holds if this is the result of the file of third links after these links and second ones
-abbrev pub GivesThird : Option FilesInMemory → FileNames → List AiRow → List ℕ → List Link → Option (List Link) → Result Linked Stop → Type 0
+abbrev pub GivesThird : Option FilesHeld → FileNames → List AiRow → List ℕ → List Link → Option (List Link) → Result Linked Stop → Type 0
 GivesThird files names ais voc links second answer = Then (OtherGives files kind.Third ais voc names.third) (AreLinked ais voc links second) answer
 
 -- holds if this is the result of the files of second and of third links after these links
-abbrev pub GivesOthers : Option FilesInMemory → FileNames → List AiRow → List ℕ → List Link → Result Linked Stop → Type 0
+abbrev pub GivesOthers : Option FilesHeld → FileNames → List AiRow → List ℕ → List Link → Result Linked Stop → Type 0
 GivesOthers files names ais voc links answer = Then (OtherGives files kind.Second ais voc names.second) (GivesThird files names ais voc links) answer
 
 -- holds if this is the result of the files of links, by the application identifiers and the values of a request
-abbrev pub LinkedGive : Option FilesInMemory → FileNames → Values → List AiRow → Result Linked Stop → Type 0
+abbrev pub LinkedGive : Option FilesHeld → FileNames → Values → List AiRow → Result Linked Stop → Type 0
 LinkedGive files names values ais answer =
     Then (LinksGive files values.templates ais values.voc names.links) (GivesOthers files names ais values.voc) answer
 
 -- holds if this is the description in the named file, or none if none is named
-abbrev pub DescriptionGives : Option FilesInMemory → Option (List ℕ) → Result (Option (List ℕ)) Stop → Type 0
+abbrev pub DescriptionGives : Option FilesHeld → Option (List ℕ) → Result (Option (List ℕ)) Stop → Type 0
 DescriptionGives files name answer = BytesGive files kind.Describe name answer
 
 -- holds if this is how requests are answered, by the values of a request and with a description
@@ -101,7 +102,7 @@ abbrev pub AreSettings : Values → Option (List ℕ) → Result Settings Stop �
 AreSettings values describe answer = answer ≡ Ok (record { voc = values.voc; describe = describe; templates = values.templates })
 
 -- holds if these are the settings of replies, by the values of a request and by the result of the file of the description
-abbrev pub SettingsGive : Option FilesInMemory → FileNames → Values → Result Settings Stop → Type 0
+abbrev pub SettingsGive : Option FilesHeld → FileNames → Values → Result Settings Stop → Type 0
 SettingsGive files names values answer = Then (DescriptionGives files names.describe) (AreSettings values) answer
 
 -- holds if this is the load of these tables and prefixes, these links, these settings and these classes
@@ -110,21 +111,21 @@ IsLoadedOf tabled linked settings classes answer =
     answer ≡ Ok (record { tables = tabled.tables; source = tabled.source; prefixes = tabled.prefixes; links = linked.links; merged = linked.merged; settings = settings; classes = classes })
 
 -- holds if this is the result of the file of classes after these tables and prefixes, these links and these settings
-abbrev pub GivesClasses : Option FilesInMemory → Asked → Tabled → Linked → Settings → Result Loaded Stop → Type 0
+abbrev pub GivesClasses : Option FilesHeld → Asked → Tabled → Linked → Settings → Result Loaded Stop → Type 0
 GivesClasses files asked tabled linked settings answer =
     Then (ClassesGive files tabled.tables.ais asked.command asked.files.classes) (IsLoadedOf tabled linked settings) answer
 
 -- holds if this is the result of the files of the description and of classes after these tables and prefixes, and these links
-abbrev pub GivesSettings : Option FilesInMemory → Asked → Tabled → Linked → Result Loaded Stop → Type 0
+abbrev pub GivesSettings : Option FilesHeld → Asked → Tabled → Linked → Result Loaded Stop → Type 0
 GivesSettings files asked tabled linked answer = Then (SettingsGive files asked.files asked.values) (GivesClasses files asked tabled linked) answer
 
 -- holds if this is the result of the files of links, of the description and of classes after these tables and prefixes
-abbrev pub GivesLinks : Option FilesInMemory → Asked → Tabled → Result Loaded Stop → Type 0
+abbrev pub GivesLinks : Option FilesHeld → Asked → Tabled → Result Loaded Stop → Type 0
 GivesLinks files asked tabled answer =
     Then (LinkedGive files asked.files asked.values tabled.tables.ais) (GivesSettings files asked tabled) answer
 
 -- holds if this is the result of the files, part by part
-abbrev pub PartsGive : Option FilesInMemory → Asked → Result Loaded Stop → Type 0
+abbrev pub PartsGive : Option FilesHeld → Asked → Result Loaded Stop → Type 0
 PartsGive files asked answer = Then (TabledGive files asked.files) (GivesLinks files asked) answer
 
 -- ---- loads
@@ -139,7 +140,7 @@ LoadedBy Give errored (Err Memory) = Unit {0}
 
 -- holds if the answer of a load of tables is that of the built-in ones, whatever the files are
 abbrev pub IsOfBuiltIn : Result TablesWithSource Unloaded → Type 0
-IsOfBuiltIn answer = (files : Option FilesInMemory) (errored : Bool) → LoadedBy (TablesGive files None) errored answer
+IsOfBuiltIn answer = (files : Option FilesHeld) (errored : Bool) → LoadedBy (TablesGive files None) errored answer
 
 -- trusted, own: the files after a load, which counted an error or none: the opened names, whether a file is current, and what is
 -- left of it are those now
@@ -152,7 +153,7 @@ after_load errored now files =
 -- to the rejected file if one is rejected. The function `up_to` gives the names up to the file of a kind. No file was opened after
 -- the one at which the load stops, if the files are known. The opened names may be unknown only if memory ran out. If there are
 -- no names, the files are unchanged.
-pub record Loads {A : Type 0} (Give : Option FilesInMemory → Result A Stop → Type 0) (up_to : FileKind → List (List ℕ)) (names : List (List ℕ)) (AsTheyWere : Type 0) (before now : FilesState) (answer : Result A Unloaded) : Type 0 where
+pub record Loads {A : Type 0} (Give : Option FilesHeld → Result A Stop → Type 0) (up_to : FileKind → List (List ℕ)) (names : List (List ℕ)) (AsTheyWere : Type 0) (before now : FilesState) (answer : Result A Unloaded) : Type 0 where
   pub errored : Bool
   pub rest : now ≡ after_load errored now before
   pub faulted : errored ≡ true → answer ≡ Err ReadFault
@@ -160,11 +161,11 @@ pub record Loads {A : Type 0} (Give : Option FilesInMemory → Result A Stop →
   pub opened : OpensFirst (is_load_short answer) names before.opened now.opened
   pub all_opened : Opens names before.opened now.opened answer
   pub to_rejected : (rejection : Rejection) → answer ≡ Err (Refused rejection) → now.opened ≡ with_names before.opened (up_to rejection.kind)
-  pub decided : (known : FilesInMemory) (stop : Stop) → before.files ≡ Some known → Give before.files (Err stop) → OpensFirst (is_load_short answer) (up_to (kind_of stop)) before.opened now.opened
+  pub decided : (known : FilesHeld) (stop : Stop) → before.files ≡ Some known → Give before.files (Err stop) → OpensFirst (is_load_short answer) (up_to (kind_of stop)) before.opened now.opened
   pub unopened : names ≡ [] → AsTheyWere
 
 -- holds if `answer` is that of a load of one file, or of none
-abbrev pub LoadsOne : {A : Type 0} → (Option FilesInMemory → Result A Stop → Type 0) → List (List ℕ) → Type 0 → FilesState → FilesState → Result A Unloaded → Type 0
+abbrev pub LoadsOne : {A : Type 0} → (Option FilesHeld → Result A Stop → Type 0) → List (List ℕ) → Type 0 → FilesState → FilesState → Result A Unloaded → Type 0
 LoadsOne Give names AsTheyWere before now answer = Loads Give (λ kind. names) names AsTheyWere before now answer
 
 -- the names of the files of links after the first, up to the one of a kind

@@ -1,11 +1,9 @@
 -- How the reading of a file and the load of tables end, for a run.
-use Rattle.std.specs.Prelude.{◌≡◌, ◌≢◌, ◌⊎◌, ℕ, ◌<◌, ◌≤◌, List, length, Option, Result, Ok, Err}
+use Rattle.std.specs.Prelude.{◌≡◌, ◌≢◌, ℕ, List, Result, Ok, Err}
 use Rattle.gs_class.specs.declared.error.ClassLoadFault.{ClassLoadFault}
 use Rattle.gs_class.specs.declared.error.ClassLoadFault.TheVariants as class
 use Rattle.gs_class.specs.Sets.{ClassRows}
 use Rattle.gs_tables_document.specs.declared.error.LoadFault.{LoadFault}
-use Rattle.gs_port.specs.Counts.{Rises}
-use Rattle.gs_port.specs.Files.{IsAbsent, IsFile}
 use Rattle.gs_prefix.specs.declared.entry.PrefixEntry.{PrefixEntry}
 use Rattle.gs_prefix.specs.declared.error.PrefixFault.{PrefixFault}
 use Rattle.gs_prefix.specs.declared.error.PrefixFault.TheVariants as prefix
@@ -16,12 +14,12 @@ use Rattle.gs_tables.specs.Tables.{TableRows}
 use Rattle.tdl_messages.specs.declared.file_kind.FileKind.{FileKind}
 use Rattle.tdl_messages.specs.declared.file_kind.FileKind.TheVariants as kind
 use Rattle.tdl_messages.specs.declared.rejection.FileFault.{FileFault}
-use Rattle.tdl_messages.specs.declared.rejection.FileFault.TheVariants.{LinkText, Over}
-use Rattle.tdl_messages.specs.Rejections.{file_limit}
+use Rattle.tdl_messages.specs.declared.rejection.FileFault.TheVariants.{Classes, LinkText, Prefixes}
 use Rattle.tdl_loads.specs.declared.loads.TablesWithSource.{TablesWithSource}
 use Rattle.tdl_loads.specs.declared.loads.Unloaded.{Unloaded}
 use Rattle.tdl_loads.specs.declared.loads.Unloaded.TheVariants.{Refused, ReadFault, Memory}
-use Rattle.tdl_loads.specs.Loads.{FilesInMemory, classes_verdict, of_verdict, prefixes_verdict, rejected, tables_verdict}
+use Rattle.tdl_loads.specs.Loads.{of_verdict, rejected, tables_verdict}
+use Rattle.gs_translate.specs.Steps.{reworded}
 
 -- holds if this is the answer of a load of tables of a document, with out of memory as no rejection
 abbrev pub UnloadedAs : List ℕ → Result TableRows LoadFault → Result TablesWithSource Unloaded → Type 0
@@ -56,7 +54,7 @@ PrefixesUnloadedAs answer (Ok list) = answer ≡ Ok list
 PrefixesUnloadedAs answer (Err Memory) = Unit {0}
 PrefixesUnloadedAs answer (Err ReadFault) = ⊥
 PrefixesUnloadedAs answer (Err (Refused rejection)) =
-    (answer ≢ Err prefix.Memory) × (of_verdict kind.Prefixes (prefixes_verdict answer) ≡ Err (rejected rejection))
+    (answer ≢ Err prefix.Memory) × (of_verdict kind.Prefixes (reworded Prefixes answer) ≡ Err (rejected rejection))
 
 -- holds if this is the answer of a load of classes, with out of memory as no rejection
 abbrev pub ClassesUnloadedAs : Result ClassRows ClassLoadFault → Result ClassRows Unloaded → Type 0
@@ -64,4 +62,4 @@ ClassesUnloadedAs answer (Ok set) = answer ≡ Ok set
 ClassesUnloadedAs answer (Err Memory) = Unit {0}
 ClassesUnloadedAs answer (Err ReadFault) = ⊥
 ClassesUnloadedAs answer (Err (Refused rejection)) =
-    (answer ≢ Err class.Memory) × (of_verdict kind.Classes (classes_verdict answer) ≡ Err (rejected rejection))
+    (answer ≢ Err class.Memory) × (of_verdict kind.Classes (reworded Classes answer) ≡ Err (rejected rejection))

@@ -3,10 +3,11 @@ ghost use Rattle.gs_merge.specs.MergedDocuments.{merge_answer};
 ghost use Rattle.tdl_messages.specs.declared.file_kind.FileKind.TheVariants.{Merge as OfMerge};
 ghost use Rattle.tdl_arguments.specs.Ranges.{is_vocabulary};
 ghost use Rattle.tdl_arguments.specs.Requests.{known_files, known_values, links_named};
-ghost use Rattle.tdl_loads.specs.Loads.{merge_verdict, merged_with, merging, link_errors, places_errors};
+ghost use Rattle.tdl_loads.specs.Loads.{merged_with, merging, link_errors, places_errors};
 ghost use Rattle.tdl_loads.specs.LoadsSupport.{LinkedGive, Loads, links_up_to};
 ghost use Rattle.tdl_loads.specs.Reads.{JudgedAs};
 ghost use Rattle.gs_chars.specs.Answers.{first_or};
+ghost use Rattle.gs_translate.specs.Steps.{reworded};
 
 use crate::links::{Judging, load_links, load_other, load_store, no_context};
 use crate::loads::{Linked, Unloaded};
@@ -22,7 +23,8 @@ use tdl_messages::{FileFault, FileKind, Rejection};
 
 /// Merges two stores to one document.
 fn merge_two(alloc: Global, first: &Store, second: &Store) -> Result<LinkDoc, Unloaded>
-    ensures { JudgedAs OfMerge (merge_verdict (merge_answer first.now second.now)) result }
+    ensures { JudgedAs OfMerge (reworded
+        (λ _. FileFault.Store StoreFault.TooMany) (merge_answer first.now second.now)) result }
 {
     match merge(alloc, first, second) {
         Ok(doc) => Ok(doc),

@@ -1,6 +1,5 @@
 ghost use Rattle.std.specs.Prelude.{◌≡◌, [], IfErr, IfOk, Ok, Some, false, option_map, option_to_list, true};
 ghost use Rattle.gs_links.specs.Loads.{load_answer};
-ghost use Rattle.gs_json.specs.Answers.{OrMemory};
 ghost use Rattle.gs_linkset.specs.Answers.{read_answer};
 ghost use Rattle.gs_linktext.specs.ReadAnswers.{IsReadAs, IsReadError};
 ghost use Rattle.tdl_messages.specs.declared.file_kind.FileKind.TheVariants.{Links as OfLinks};
@@ -9,6 +8,7 @@ ghost use Rattle.tdl_arguments.specs.Requests.{known_links, known_name, name_of_
 ghost use Rattle.tdl_loads.specs.Loads.{JudgesFile, JudgesText, LinksGive, OtherGives, links_verdict, other_verdict, placed, store_verdict};
 ghost use Rattle.tdl_loads.specs.LoadsSupport.{LoadsOne};
 ghost use Rattle.tdl_loads.specs.Reads.{JudgedAs, JudgedBy, unread_text};
+ghost use Rattle.gs_chars.specs.Answers.{OrError};
 
 use crate::linked::judge_places;
 use crate::loads::Unloaded;
@@ -72,7 +72,7 @@ pub fn load_store(alloc: Global, judging: Judging<'_>, doc: LinkDoc) -> Result<S
 
 /// Reads a linkset in JSON and gives its bytes up.
 fn read_json(alloc: Global, bytes: Text) -> Result<LinkDoc, JsonFault>
-    ensures { OrMemory result (read_answer bytes) }
+    ensures { OrError JsonFault.Memory result (read_answer bytes) }
 {
     read(alloc, bytes.as_bytes())
 }

@@ -54,13 +54,9 @@ file_limit kind.Merge = 16777216
 file_limit kind.Describe = 1048576
 file_limit kind.Classes = 1048576
 
--- trusted, own: the printed byte: a question mark if the byte is not a visible character
-abbrev pub shown_byte : ℕ → ℕ
-shown_byte c = if is_visible c then c else 63
-
 -- trusted, own: the printed place
 abbrev pub shown : List ℕ → List ℕ
-shown place = map shown_byte place
+shown place = map (λ c. if is_visible c then c else 63) place
 
 -- trusted, own: the text of why a document does not have its form
 abbrev pub json_text : JsonFault → List ℕ
@@ -96,10 +92,6 @@ of_level word level = word ++ 32 ∷ level_text level
 abbrev pub of_level_twice : List ℕ → LevelName → ℕ → ℕ → List ℕ
 of_level_twice word level i j = numbered_twice (of_level word level) i j
 
--- trusted, own: the text of an option that does not fit its kind, by its level and its number
-abbrev pub mismatch_text : LevelName → ℕ → List ℕ
-mismatch_text level i = numbered (of_level (codes "mismatch") level) i
-
 -- trusted, own: the text of why an application identifier breaks a rule
 abbrev pub ai_text : AiFault → List ℕ
 ai_text (ai.BadAi i) = numbered (codes "ai") i
@@ -107,11 +99,6 @@ ai_text (ai.CodePrefix j i) = numbered_twice (codes "code-prefix") j i
 ai_text (ai.KeyIsQualifier i) = numbered (codes "key-is-qualifier") i
 ai_text (ai.PredefinedLength i) = numbered (codes "predefined") i
 ai_text ai.Memory = codes "memory"
-
--- trusted, own: the first ambiguous level, the first pair of its options that shares a list, and a text that shows such a
--- list
-abbrev pub ambiguous_text : LevelName → ℕ → ℕ → List ℕ → List ℕ
-ambiguous_text level i j text = of_level_twice (codes "ambiguous") level i j ++ 32 ∷ text
 
 -- trusted, own: the text of an error of tables
 abbrev pub tables_text : LoadFault → List ℕ
@@ -121,9 +108,9 @@ tables_text (Limit name) = codes "limit " ++ limit_text name
 tables_text (Ai error) = ai_text error
 tables_text (BadKind i) = numbered (codes "bad-kind") i
 tables_text (BadItem level i k) = of_level_twice (codes "bad-item") level i k
-tables_text (Mismatch level i) = mismatch_text level i
+tables_text (Mismatch level i) = numbered (of_level (codes "mismatch") level) i
 tables_text (Duplicate level j i) = of_level_twice (codes "duplicate") level j i
-tables_text (Ambiguous level i j text) = ambiguous_text level i j text
+tables_text (Ambiguous level i j text) = of_level_twice (codes "ambiguous") level i j ++ 32 ∷ text
 tables_text Memory = codes "memory"
 
 -- trusted, own: the text of an error of a list of company prefix lengths
@@ -142,19 +129,11 @@ anchor_text (anchor.Link error) = reason_text (link_reason error)
 anchor_text (anchor.Ident error) = reason_text (Ident error)
 anchor_text anchor.Attributes = codes "attributes"
 
--- trusted, own: the context of an invalid anchor, and why it is invalid
-abbrev pub bad_anchor_text : ℕ → AnchorWhy → List ℕ
-bad_anchor_text i why = numbered (codes "bad-anchor") i ++ 32 ∷ anchor_text why
-
--- trusted, own: the context, the relation and the target of an invalid `href`
-abbrev pub bad_href_text : ℕ → ℕ → ℕ → List ℕ
-bad_href_text i r t = numbered (numbered_twice (codes "bad-href") i r) t
-
 -- trusted, own: the text of an error of a linkset as a store of links
 abbrev pub store_text : StoreFault → List ℕ
 store_text store.TooMany = codes "too-many"
-store_text (store.BadAnchor i why) = bad_anchor_text i why
-store_text (store.BadHref i r t) = bad_href_text i r t
+store_text (store.BadAnchor i why) = numbered (codes "bad-anchor") i ++ 32 ∷ anchor_text why
+store_text (store.BadHref i r t) = numbered (numbered_twice (codes "bad-href") i r) t
 store_text store.Memory = codes "memory"
 
 -- trusted, own: the text of an error of a linkset as text, by the number of its link
@@ -170,10 +149,6 @@ abbrev pub place_text : ℕ → PlaceFault → List ℕ
 place_text i (Brace at) = numbered_twice (codes "brace") i at
 place_text i (Code at) = numbered_twice (codes "place") i at
 
--- trusted, own: the first pair of classes that shares a text, and a text that shows it
-abbrev pub ambiguous_classes_text : ℕ → ℕ → List ℕ → List ℕ
-ambiguous_classes_text i j text = numbered_twice (codes "ambiguous") i j ++ 32 ∷ text
-
 -- trusted, own: the text of an error of classes
 abbrev pub classes_text : ClassLoadFault → List ℕ
 classes_text (class.Json error) = codes "json " ++ json_text error
@@ -183,7 +158,7 @@ classes_text (class.BadItem i k) = numbered_twice (codes "bad-item") i k
 classes_text (class.Size i) = numbered (codes "size") i
 classes_text (class.Mismatch i) = numbered (codes "mismatch") i
 classes_text (class.Duplicate j i) = numbered_twice (codes "duplicate") j i
-classes_text (class.Ambiguous i j text) = ambiguous_classes_text i j text
+classes_text (class.Ambiguous i j text) = numbered_twice (codes "ambiguous") i j ++ 32 ∷ text
 classes_text class.Memory = codes "memory"
 
 -- trusted, own: the text of why a file is rejected

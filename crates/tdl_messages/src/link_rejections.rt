@@ -1,6 +1,7 @@
-ghost use Rattle.std.specs.Prelude.{◌≡◌, ◌++◌, OnOk};
-ghost use Rattle.tdl_messages.specs.Rejections.{anchor_text, bad_anchor_text, bad_href_text, link_text_text};
-ghost use Rattle.tdl_messages.specs.Rejections.{place_text, store_text, ambiguous_classes_text, classes_text};
+ghost use Rattle.std.specs.Prelude.{◌≡◌, ◌++◌, OnOk, codes, ◌∷◌};
+ghost use Rattle.tdl_messages.specs.Rejections.{anchor_text, link_text_text, numbered_twice};
+ghost use Rattle.tdl_messages.specs.Rejections.{place_text, store_text, classes_text};
+ghost use Rattle.gs_translate.specs.Reasons.{numbered};
 
 use crate::answer_lines::{append_numbered_twice, append_words};
 use crate::rejections::append_form;
@@ -32,7 +33,8 @@ fn append_bad_anchor(
     i: usize,
     why: &AnchorWhy,
 ) -> Result<(), Memory>
-    ensures { OnOk result (out.new.items ≡ out.old.items ++ bad_anchor_text i why.now) }
+    ensures { OnOk result (out.new.items
+        ≡ out.old.items ++ (numbered (codes "bad-anchor") i ++ 32 ∷ anchor_text why.now)) }
 {
     append_numbered(alloc, out, b"bad-anchor", i)?;
     append_word(out, b" ")?;
@@ -47,7 +49,8 @@ fn append_bad_href(
     r: usize,
     t: usize,
 ) -> Result<(), Memory>
-    ensures { OnOk result (out.new.items ≡ out.old.items ++ bad_href_text i r t) }
+    ensures { OnOk result (out.new.items
+        ≡ out.old.items ++ numbered (numbered_twice (codes "bad-href") i r) t) }
 {
     append_numbered_twice(alloc, out, b"bad-href", i, r)?;
     append_number(alloc, out, t)
@@ -104,7 +107,8 @@ fn append_ambiguous(
     second: usize,
     text: &[u8],
 ) -> Result<(), Memory>
-    ensures { OnOk result (out.new.items ≡ out.old.items ++ ambiguous_classes_text first second text.now) }
+    ensures { OnOk result (out.new.items
+        ≡ out.old.items ++ (numbered_twice (codes "ambiguous") first second ++ 32 ∷ text.now)) }
 {
     append_numbered_twice(alloc, out, b"ambiguous", first, second)?;
     append_words(out, b" ", text)

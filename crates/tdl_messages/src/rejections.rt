@@ -1,5 +1,7 @@
-ghost use Rattle.std.specs.Prelude.{◌≡◌, ◌++◌, IfOk, OnOk, codes};
-ghost use Rattle.tdl_messages.specs.Rejections.{ai_text, ambiguous_text, error_text, json_text, level_text, limit_text, mismatch_text, of_level, of_level_twice, prefixes_text, rejected_line, shown, shown_byte, tables_text};
+ghost use Rattle.std.specs.Prelude.{◌≡◌, ◌++◌, IfOk, OnOk, codes, ◌∷◌, if◌then◌else◌};
+ghost use Rattle.tdl_messages.specs.Rejections.{ai_text, error_text, json_text, level_text, limit_text, of_level, of_level_twice, prefixes_text, rejected_line, shown, tables_text};
+ghost use Rattle.gs_translate.specs.Reasons.{numbered};
+ghost use Rattle.gs_chars.specs.Characters.{is_visible};
 
 use crate::answer_lines::{append_numbered_twice, append_words};
 use crate::link_rejections::{append_classes, append_link_text, append_place_of, append_store};
@@ -14,7 +16,7 @@ use std::alloc::Global;
 
 /// Returns the printed byte of a place: a question mark if the byte is not a visible character.
 fn shown_byte(c: u8) -> u8
-    ensures { result ≡ shown_byte c }
+    ensures { result ≡ (if is_visible c then c else 63) }
 {
     if CharSet::Visible.holds(c) { c } else { b'?' }
 }
@@ -118,7 +120,7 @@ fn append_mismatch(
     level: LevelName,
     i: usize,
 ) -> Result<(), Memory>
-    ensures { OnOk result (out.new.items ≡ out.old.items ++ mismatch_text level i) }
+    ensures { OnOk result (out.new.items ≡ out.old.items ++ numbered (of_level (codes "mismatch") level) i) }
 {
     append_of_level(out, b"mismatch", level)?;
     append_number(alloc, out, i)
@@ -133,7 +135,8 @@ fn append_ambiguous(
     second: usize,
     text: &[u8],
 ) -> Result<(), Memory>
-    ensures { OnOk result (out.new.items ≡ out.old.items ++ ambiguous_text level first second text.now) }
+    ensures { OnOk result (out.new.items
+        ≡ out.old.items ++ (of_level_twice (codes "ambiguous") level first second ++ 32 ∷ text.now)) }
 {
     append_option(alloc, out, b"ambiguous", level, first, second)?;
     append_words(out, b" ", text)

@@ -19,7 +19,7 @@ use Rattle.tdl_arguments.specs.Requests.{Asked, names_in_order}
 use Rattle.tdl_loads.specs.declared.loads.Loaded.{Loaded}
 use Rattle.tdl_loads.specs.declared.loads.Unloaded.{Unloaded}
 use Rattle.tdl_loads.specs.declared.loads.Unloaded.TheVariants as unloaded
-use Rattle.tdl_loads.specs.Loads.{FilesGive, FilesInMemory, Stop, is_short, missing, named_up_to, rejected}
+use Rattle.tdl_loads.specs.Loads.{FilesGive, Stop, is_short, missing, named_up_to, rejected}
 use Rattle.tdl_loads.specs.LoadsSupport.{LoadedBy, Loads, after_load}
 use Rattle.tdl_loads.proofs.ClassLoads.{classes_kept}
 use Rattle.tdl_loads.proofs.LoadFacts.{fault_cause, no_fewer, opens_up_to}
@@ -33,6 +33,7 @@ use Rattle.tdl_run.specs.Works.{Appends, Outcome, doing_of, input_limit, outcome
 use Rattle.tdl_run.proofs.DoingLemmas.{command_defined, doing_some, either_cause, ended_by}
 use Rattle.tdl_run.proofs.RanLemmas.{PrintedCase, error, leaves_door, no_memory, printed_case, takes_nothing, whole}
 use Rattle.tdl_run.proofs.ServeLemmas.{door_left, none_finish}
+use Rattle.gs_port.specs.Files.{FilesHeld}
 
 -- ---- a request has an outcome
 
@@ -98,7 +99,7 @@ ended_asked Same A asked files before now held holds loaded output gives wrote (
 ended_asked Same A asked files before now held holds loaded output gives wrote (inr both) = inr (both.0, (output, wrote, (loaded, gives, both.1)))
 
 -- after a read error nothing was written and the input is unchanged, or the input counted an error
-ended_of_command : (Same : Type 0) (asked : Asked) (files : Option FilesInMemory) (before now : Ends) (loaded : Loaded) (s : Status)
+ended_of_command : (Same : Type 0) (asked : Asked) (files : Option FilesHeld) (before now : Ends) (loaded : Loaded) (s : Status)
     → FilesGive files asked (Ok loaded) → (reads_input asked.command ≡ false → Same)
     → LeavesOutcome before.output now.output before.door now.door s (CommandLeft asked.command asked.values loaded before now)
     → OnTrue (is_status s status.ReadFault) (WritesAfterError Same (Rises before.input.errors now.input.errors) before.output.held now.output.held (AskedEnded asked files before.input.left now.input.left))

@@ -22,11 +22,12 @@ use Rattle.gs_translate.proofs.ReadAgain.{kept_made}
 use Rattle.gs_translate.proofs.SameLinks.{canonical_translation, equal_links, same_meaning}
 use Rattle.tdl_arguments.specs.Requests.{Asked, Values, no_options, options_of}
 use Rattle.tdl_loads.specs.declared.loads.Loaded.{Loaded}
-use Rattle.tdl_loads.specs.Loads.{FilesGive, FilesInMemory}
+use Rattle.tdl_loads.specs.Loads.{FilesGive}
 use Rattle.tdl_loads.proofs.ReadLemmas.{loaded_of}
 use Rattle.tdl_answers.specs.TranslatedAnswers.{IsCanonLine, IsTranslatedLine}
 use Rattle.tdl_messages.specs.AnswerLines.{line_of}
 use Rattle.tdl_run.specs.Works.{KeepOne, canonizing, translating}
+use Rattle.gs_port.specs.Files.{FilesHeld}
 
 pub canon_lines : (loaded : Loaded) (form : Form) (text : List ℕ) (line : LineAnswer)
     → IsTranslatedLine (canonizing loaded form) text line ↔ IsCanonLine loaded.tables form text line
@@ -96,13 +97,13 @@ kept_same loaded values form other text given link wanted keeps a b =
 
 -- ---- by tables that files give
 
-pub canon_given : (files : Option FilesInMemory) (asked : Asked) (loaded : Loaded) (form other : Form) (text given link wanted : List ℕ)
+pub canon_given : (files : Option FilesHeld) (asked : Asked) (loaded : Loaded) (form other : Form) (text given link wanted : List ℕ)
     → FilesGive files asked (Ok loaded) → IsTranslatedLine (canonizing loaded form) text (accepted link)
     → IsTranslatedLine (canonizing loaded other) given (accepted wanted) → (link ≡ wanted) ↔ NameOne loaded.tables form text other given
 canon_given files asked loaded form other text given link wanted gives a b = canon_same loaded form other text given link wanted
     (loaded_of files asked loaded gives) a b
 
-pub kept_given : (files : Option FilesInMemory) (asked : Asked) (loaded : Loaded) (values : Values) (form other : Form) (text given link wanted : List ℕ)
+pub kept_given : (files : Option FilesHeld) (asked : Asked) (loaded : Loaded) (values : Values) (form other : Form) (text given link wanted : List ℕ)
     → FilesGive files asked (Ok loaded) → IsTranslatedLine (translating loaded values form Canon) text (accepted link)
     → IsTranslatedLine (translating loaded values other Canon) given (accepted wanted)
     → (link ≡ wanted) ↔ KeepOne loaded.tables values.keys_only form text other given

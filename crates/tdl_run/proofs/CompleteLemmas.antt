@@ -16,7 +16,7 @@ use Rattle.tdl_arguments.proofs.RequestLemmas.{one_request}
 use Rattle.tdl_run.specs.Requests.{RequestRan, world_at}
 use Rattle.tdl_loads.specs.Loads.{FilesGive, Stop, missing}
 use Rattle.tdl_run.specs.RanSupport.{AskedRun}
-use Rattle.tdl_run.specs.Runs.{DefinedRun, InputFits, IsDoneOrMemory, IsWithin, LoadsAll, Moment, NoneRises, RunCause, World}
+use Rattle.tdl_run.specs.Runs.{DefinedRun, InputFits, IsWithin, LoadsAll, Moment, NoneRises, RunCause, World}
 use Rattle.tdl_run.specs.Works.{Doing, DoingRun, Doorway, Leaves, Outcome, answers, doing_of, input_limit, prints, resolves, serves, site_of}
 use Rattle.tdl_run.proofs.RunLemmas.{defined_of, read_error_of, write_error_of}
 
@@ -83,14 +83,14 @@ module _ (words : List (List ℕ)) (before now : Moment) (loads : LoadsAll words
   LeavesDefined s = Leaves before.output.held now.output.held before.door.aside.finished now.door.aside.finished s (DefinedRun words (world_at before))
 
   -- all that is defined was written
-  done_by : (s : Status) → LeavesDefined s → IsDoneOrMemory s
+  done_by : (s : Status) → LeavesDefined s → (is_answered s ≡ true) ⊎ (s ≡ status.Memory)
   done_by s a =
       let w = a.2 in
       inl (answered_run words (world_at before) (record { output = w.0; finished = a.0; status = s }) loads fits w.2)
 
   complete_by : (s : Status) → OnTrue (is_written s) (LeavesDefined s)
       → OnTrue (is_status s status.ReadFault) (RunCause words before.files.files before now)
-      → OnTrue (is_status s status.WriteFault) (Rises before.output.errors now.output.errors) → IsDoneOrMemory s
+      → OnTrue (is_status s status.WriteFault) (Rises before.output.errors now.output.errors) → (is_answered s ≡ true) ⊎ (s ≡ status.Memory)
   complete_by status.Done defined read write = done_by status.Done defined
   complete_by status.SomeRefused defined read write = done_by status.SomeRefused defined
   complete_by status.Usage defined read write = done_by status.Usage defined
@@ -103,6 +103,6 @@ module _ (words : List (List ℕ)) (before now : Moment) (loads : LoadsAll words
 -- the outcome of the request of the arguments
 pub complete_of : {words : List (List ℕ)} {asked : Asked} {SameFiles SameInput SameDoor : Type 0} {before now : Moment} {s : Status}
     → WordsInOrder words asked → RequestRan asked SameFiles SameInput SameDoor before now s → LoadsAll words before.files.files
-    → InputFits words before.input.left → NoneRises before now → IsDoneOrMemory s
+    → InputFits words before.input.left → NoneRises before now → (is_answered s ≡ true) ⊎ (s ≡ status.Memory)
 complete_of {words = words} {before = before} {now = now} {s = s} order r loads fits none =
     complete_by words before now loads fits none s (defined_of order r) (read_error_of order r) (write_error_of order r)

@@ -19,7 +19,7 @@ use Rattle.tdl_arguments.proofs.RequestLemmas.{one_request}
 use Rattle.tdl_run.specs.CommandRuns.{BeginsOne, CutShort}
 use Rattle.tdl_run.specs.RanSupport.{AskedEnded, AskedRun}
 use Rattle.tdl_run.specs.Requests.{ReadCause, RequestRan, world_at}
-use Rattle.tdl_run.specs.Runs.{BeginsRun, CutRun, DefinedRun, EndedRun, FinishedRun, IsRejected, ListensAt, LoadsSome, Moment, OpensAll, RunCause, ServesInput, World, WritesAfterError}
+use Rattle.tdl_run.specs.Runs.{DefinedRun, EndedRun, FinishedRun, IsRejected, ListensAt, LoadsSome, Moment, OpensAll, RunCause, ServesInput, World, WritesAfterError}
 use Rattle.tdl_run.specs.Works.{Appends, Leaves, Outcome, input_limit, outcome_of}
 use Rattle.tdl_run.proofs.RanLemmas.{PrintedCase, error, never_falls, no_memory, none_more, printed_case, rises_if, whole}
 
@@ -62,7 +62,7 @@ module _ {words : List (List ℕ)} {asked : Asked} (order : WordsInOrder words a
   defined_of = let a = r.ran in let w = a.2 in when_map (is_written s)
       (λ run. (a.0, a.1, (w.0, ap (λ (sink : SinkState). sink.held) w.1, inl (record { asked = asked; order = order; fact = run })))) w.2.written
 
-  pub begun_of : OnTrue (is_cut_short s) (Appends before.output.held now.output.held (BeginsRun words (world_at before)))
+  pub begun_of : OnTrue (is_cut_short s) (Appends before.output.held now.output.held (BeginsOne (DefinedRun words (world_at before))))
   begun_of = let a = r.ran in let w = a.2 in when_map (is_cut_short s)
       (λ (b : BeginsOne (AskedRun asked (world_at before)) w.0). (w.0, ap (λ (sink : SinkState). sink.held) w.1, record { outcome = b.outcome; is = inl (record { asked = asked; order = order; fact = b.is }); begins = b.begins })) w.2.begun
 
@@ -70,7 +70,7 @@ module _ {words : List (List ℕ)} {asked : Asked} (order : WordsInOrder words a
   finished_of = let a = r.ran in let w = a.2 in when_map (is_cut_short s)
       (λ f. (a.0, a.1, (w.0, ap (λ (sink : SinkState). sink.held) w.1, inl (record { asked = asked; order = order; fact = f })))) w.2.finished
 
-  pub cut_of : OnTrue (is_status s status.WriteFault) (Leaves before.output.held now.output.held before.door.aside.finished now.door.aside.finished s (CutRun words (world_at before)))
+  pub cut_of : OnTrue (is_status s status.WriteFault) (Leaves before.output.held now.output.held before.door.aside.finished now.door.aside.finished s (CutShort (DefinedRun words (world_at before))))
   cut_of = let a = r.ran in let w = a.2 in when_map (is_status s status.WriteFault)
       (λ (c : CutShort (AskedRun asked (world_at before)) (record { output = w.0; finished = a.0; status = s })).
       (a.0, a.1, (w.0, ap (λ (sink : SinkState). sink.held) w.1, record { outcome = c.outcome; is = inl (record { asked = asked; order = order; fact = c.is }); begins = c.begins; same_finished = c.same_finished }))) w.2.cut
@@ -139,10 +139,10 @@ module _ {words : List (List ℕ)} (not : NotInOrder words) (world : World) (bef
   leaves_usage : (fact : Outcome → Type 0) → fact (outcome_of w.0 s) → Leaves before.held now.held door.aside.finished door.aside.finished s fact
   leaves_usage fact is = ([], none_more door.aside.finished, (w.0, ap (λ (sink : SinkState). sink.held) w.1, is))
 
-  usage_begins : IsInitialPart w.0 usage_line → BeginsRun words world w.0
+  usage_begins : IsInitialPart w.0 usage_line → BeginsOne (DefinedRun words world) w.0
   usage_begins part = record { outcome = outcome_of usage_line status.Usage; is = inr (not, refl); begins = part }
 
-  usage_cuts : IsInitialPart w.0 usage_line → CutRun words world (outcome_of w.0 s)
+  usage_cuts : IsInitialPart w.0 usage_line → CutShort (DefinedRun words world) (outcome_of w.0 s)
   usage_cuts part = record { outcome = outcome_of usage_line status.Usage; is = inr (not, refl); begins = part; same_finished = refl }
 
   -- the line, or a prefix of it
@@ -160,20 +160,20 @@ module _ {words : List (List ℕ)} (not : NotInOrder words) (world : World) (bef
       by (error e p) = rw e tt
       by (no_memory e p) = rw e tt
 
-  pub usage_begun : OnTrue (is_cut_short s) (Appends before.held now.held (BeginsRun words world))
+  pub usage_begun : OnTrue (is_cut_short s) (Appends before.held now.held (BeginsOne (DefinedRun words world)))
   usage_begun = by printed
     where
-      by : Case → OnTrue (is_cut_short s) (Appends before.held now.held (BeginsRun words world))
+      by : Case → OnTrue (is_cut_short s) (Appends before.held now.held (BeginsOne (DefinedRun words world)))
       by (whole e f) = rw e tt
       by (error e p) = when_always (is_cut_short s) (w.0, ap (λ (sink : SinkState). sink.held) w.1, usage_begins p)
       by (no_memory e p) = when_always (is_cut_short s) (w.0, ap (λ (sink : SinkState). sink.held) w.1, usage_begins p)
 
-  pub usage_cut : OnTrue (is_status s status.WriteFault) (Leaves before.held now.held door.aside.finished door.aside.finished s (CutRun words world))
+  pub usage_cut : OnTrue (is_status s status.WriteFault) (Leaves before.held now.held door.aside.finished door.aside.finished s (CutShort (DefinedRun words world)))
   usage_cut = by printed
     where
-      by : Case → OnTrue (is_status s status.WriteFault) (Leaves before.held now.held door.aside.finished door.aside.finished s (CutRun words world))
+      by : Case → OnTrue (is_status s status.WriteFault) (Leaves before.held now.held door.aside.finished door.aside.finished s (CutShort (DefinedRun words world)))
       by (whole e f) = rw e tt
-      by (error e p) = when_always (is_status s status.WriteFault) (leaves_usage (CutRun words world) (usage_cuts p))
+      by (error e p) = when_always (is_status s status.WriteFault) (leaves_usage (CutShort (DefinedRun words world)) (usage_cuts p))
       by (no_memory e p) = rw e tt
 
   pub usage_finished : OnTrue (is_cut_short s) (Leaves before.held now.held door.aside.finished door.aside.finished s (FinishedRun words world))

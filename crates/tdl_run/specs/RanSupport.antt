@@ -6,7 +6,7 @@ use Rattle.tdl_lines.specs.declared.status.Status.TheVariants.{Memory, WriteFaul
 use Rattle.tdl_lines.specs.Statuses.{is_answered, is_status}
 use Rattle.gs_port.specs.Asides.{Aside, Finished}
 use Rattle.gs_port.specs.Counts.{Rises}
-use Rattle.gs_port.specs.Files.{AddsNames, with_names}
+use Rattle.gs_port.specs.Files.{AddsNames, with_names, FilesHeld}
 use Rattle.gs_port.specs.Outputs.{Writes}
 use Rattle.gs_port.specs.States.{ConnState, SinkState, SourceState}
 use Rattle.tdl_serve.specs.Doors.{OpensAt}
@@ -15,7 +15,7 @@ use Rattle.tdl_arguments.specs.declared.command.Command.{Command}
 use Rattle.tdl_arguments.specs.Commands.{Work, answers_heads, answers_lines, on_door, reads_input, uses_door, work_of}
 use Rattle.tdl_arguments.specs.Requests.{Asked, Values, names_in_order}
 use Rattle.tdl_loads.specs.declared.loads.Loaded.{Loaded}
-use Rattle.tdl_loads.specs.Loads.{FilesGive, FilesInMemory, Loading, Stopping}
+use Rattle.tdl_loads.specs.Loads.{FilesGive, Loading, Stopping}
 use Rattle.tdl_run.specs.Works.{DoingEnded, DoingFinished, DoingRun, Doorway, FinishesFirst, Outcome, doing_of, doorway_of, site_of}
 use Rattle.tdl_run.specs.CommandRuns.{Ran}
 use Rattle.tdl_run.specs.Runs.{World, stopped}
@@ -39,7 +39,7 @@ AskedRun asked world outcome =
     ⊎ Stopping world.files asked (λ stop. outcome ≡ stopped stop)
 
 -- holds if the fact of EndedRun holds, by the request
-abbrev pub AskedEnded : Asked → Option FilesInMemory → Option (List ℕ) → Option (List ℕ) → List ℕ → Type 0
+abbrev pub AskedEnded : Asked → Option FilesHeld → Option (List ℕ) → Option (List ℕ) → List ℕ → Type 0
 AskedEnded asked files before now output = Loading files asked (λ loaded. CommandEnded asked.command asked.values loaded before now output)
 
 -- holds if the fact of FinishedRun holds, by the request
@@ -49,7 +49,7 @@ AskedFinished asked world outcome =
     ⊎ Loading world.files asked (λ loaded. CommandFinished asked.command asked.values loaded world.door outcome.status outcome.finished)
 
 -- holds if the fact of LoadsSome holds, by the request
-abbrev pub AskedLoads : Asked → Option FilesInMemory → Type 0
+abbrev pub AskedLoads : Asked → Option FilesHeld → Type 0
 AskedLoads asked files = (loaded : Loaded) × FilesGive files asked (Ok loaded)
 
 -- holds if the fact of ListensAt holds, by the request
@@ -57,7 +57,7 @@ abbrev pub AskedListens : Asked → Status → Option (List (List ℕ)) → Opti
 AskedListens asked ending before now = AddsNames (is_status ending Memory) before (asked.values.listen ∷ []) now ⊎ ((now ≡ before) × (is_answered ending ≡ false))
 
 -- holds if the fact of ServesInput holds, by the request
-abbrev pub AskedServes : Type 0 → Asked → Option FilesInMemory → Status → Option (List ℕ) → Option (List ℕ) → Option (List ℕ) → Option (List ℕ) → Type 0
+abbrev pub AskedServes : Type 0 → Asked → Option FilesHeld → Status → Option (List ℕ) → Option (List ℕ) → Option (List ℕ) → Option (List ℕ) → Type 0
 AskedServes AsItWas asked files ending left left' held held' =
     Loading files asked (λ loaded. StreamServed (site_of loaded) ending (stream_of left held) (stream_of left' held'))
     ⊎ (AsItWas × (is_answered ending ≡ false))

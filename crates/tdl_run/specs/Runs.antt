@@ -1,13 +1,12 @@
 -- The outcomes of whole runs.
-use Rattle.std.specs.Prelude.{◌≡◌, ◌⊎◌, ℕ, ◌+◌, ◌≤◌, true, false, List, [], ◌∷◌, length, Option, Some, None, Ok, Err}
+use Rattle.std.specs.Prelude.{◌≡◌, ◌⊎◌, ℕ, ◌≤◌, true, false, List, [], ◌∷◌, length, Option, Some, Ok, Err}
 use Rattle.std.specs.Bool.{OnTrue}
 use Rattle.tdl_lines.specs.declared.status.Status.{Status}
 use Rattle.tdl_lines.specs.declared.status.Status.TheVariants as status
-use Rattle.tdl_lines.specs.Inputs.{IsAtEnd, TakesAtMost}
 use Rattle.tdl_lines.specs.Statuses.{is_answered, is_status}
 use Rattle.gs_http.specs.Sites.{SiteData}
 use Rattle.gs_port.specs.Counts.{Rises}
-use Rattle.gs_port.specs.Files.{AddsNames, with_names}
+use Rattle.gs_port.specs.Files.{AddsNames, with_names, FilesHeld}
 use Rattle.gs_port.specs.States.{ConnState, FilesState, SinkState, SourceState}
 use Rattle.tdl_serve.specs.Resolutions.{StreamServed, stream_of}
 use Rattle.tdl_serve.specs.Visits.{Visit, is_done}
@@ -17,22 +16,21 @@ use Rattle.tdl_messages.specs.Rejections.{rejected_line}
 use Rattle.tdl_arguments.specs.Commands.{answers_lines}
 use Rattle.tdl_arguments.specs.Requests.{Asking, AskingOr, AsksFor, names_in_order, usage_line}
 use Rattle.tdl_loads.specs.declared.loads.Loaded.{Loaded}
-use Rattle.tdl_loads.specs.Loads.{Ambiguity, FilesGive, FilesInMemory, Loading, OpensUpTo, Stop, Stopping, ambiguous, missing, rejected}
-use Rattle.tdl_run.specs.CommandRuns.{BeginsOne, CutShort}
+use Rattle.tdl_loads.specs.Loads.{Ambiguity, FilesGive, Loading, OpensUpTo, Stop, Stopping, ambiguous, missing, rejected}
 use Rattle.tdl_run.specs.Works.{Appends, DoingEnded, DoingFinished, DoingRun, Doorway, Outcome, Serves, doing_of, doorway_of, input_limit, outcome_of, site_of}
 
 -- trusted, own: the known world of a run: its files, its input and its listener, each if it is known
 pub record World : Type 0 where
-  pub files : Option FilesInMemory
+  pub files : Option FilesHeld
   pub input : Option (List ℕ)
   pub door : Doorway
 
 -- trusted, own: the world with these files, this input and this listener
-abbrev pub world_of : Option FilesInMemory → Option (List ℕ) → ConnState → World
+abbrev pub world_of : Option FilesHeld → Option (List ℕ) → ConnState → World
 world_of files input door = record { files = files; input = input; door = doorway_of door }
 
 -- trusted, own: the world whose files, input and waiting connections are known to be these
-abbrev pub known_world : FilesInMemory → List ℕ → List (List ℕ) → ℕ → ℕ → World
+abbrev pub known_world : FilesHeld → List ℕ → List (List ℕ) → ℕ → ℕ → World
 known_world files input waiting reads writes =
     record { files = Some files; input = Some input; door = record { waiting = Some waiting; reads = reads; writes = writes } }
 
@@ -82,7 +80,7 @@ pub data AreAlike (words : List (List ℕ)) (world : World) (one other : Outcome
 -- trusted, own: holds if all outcomes of `words` are alike, in each world whose files, input and waiting connections are known
 abbrev pub HasOneOutcome : List (List ℕ) → Type 0
 HasOneOutcome words =
-    (files : FilesInMemory) (input : List ℕ) (waiting : List (List ℕ)) (reads writes : ℕ) (one other : Outcome)
+    (files : FilesHeld) (input : List ℕ) (waiting : List (List ℕ)) (reads writes : ℕ) (one other : Outcome)
     → DefinedRun words (known_world files input waiting reads writes) one → DefinedRun words (known_world files input waiting reads writes) other
     → AreAlike words (known_world files input waiting reads writes) one other
 
@@ -94,41 +92,21 @@ FinishedRun words world outcome = AskingOr words (λ asked.
     ⊎ Loading world.files asked (λ loaded. DoingFinished (doing_of asked.command asked.values loaded) (site_of loaded) world.door outcome.status outcome.finished))
     (outcome.finished ≡ [])
 
--- trusted, own: holds if `output` is a prefix of the output of some defined outcome
-abbrev pub BeginsRun : List (List ℕ) → World → List ℕ → Type 0
-BeginsRun words world output = BeginsOne (DefinedRun words world) output
-
--- trusted, own: holds if `outcome` is some defined outcome, but with a prefix of its output
-abbrev pub CutRun : List (List ℕ) → World → Outcome → Type 0
-CutRun words world outcome = CutShort (DefinedRun words world) outcome
-
 -- trusted, own: holds if the command has written `output` after an error of the input, by the bytes that were taken from it
-abbrev pub EndedRun : List (List ℕ) → Option FilesInMemory → Option (List ℕ) → Option (List ℕ) → List ℕ → Type 0
+abbrev pub EndedRun : List (List ℕ) → Option FilesHeld → Option (List ℕ) → Option (List ℕ) → List ℕ → Type 0
 EndedRun words files before now output = Asking words (λ asked. Loading files asked (λ loaded. DoingEnded (doing_of asked.command asked.values loaded) (site_of loaded) before now output))
 
--- trusted, own: holds if a file that `words` name is missing, and no earlier file stops the run
-abbrev pub IsMissing : List (List ℕ) → Option FilesInMemory → Type 0
-IsMissing words files = Asking words (λ asked. (kind : FileKind) × FilesGive files asked (Err (missing kind)))
-
 -- trusted, own: holds if a file that `words` name, or its default row, is rejected, and no earlier file stops the run
-abbrev pub IsRejected : List (List ℕ) → Option FilesInMemory → Type 0
+abbrev pub IsRejected : List (List ℕ) → Option FilesHeld → Type 0
 IsRejected words files = Asking words (λ asked. (rejection : Rejection) × FilesGive files asked (Err (rejected rejection)))
 
 -- trusted, own: Holds if a read error has a cause between two moments. The input, the listener itself or the files counted an
 -- error, or a file is missing.
-abbrev pub RunCause : List (List ℕ) → Option FilesInMemory → Moment → Moment → Type 0
+abbrev pub RunCause : List (List ℕ) → Option FilesHeld → Moment → Moment → Type 0
 RunCause words files before now =
     (Rises before.input.errors now.input.errors ⊎ Rises before.door.aside.errors now.door.aside.errors)
-    ⊎ (Rises before.files.errors now.files.errors ⊎ IsMissing words files)
-
--- trusted, own: holds if, once the whole input was answered, nothing is left of it, or `words` do not ask for answers to its
--- lines
-abbrev pub ReadsToEnd : List (List ℕ) → Status → Option (List ℕ) → Type 0
-ReadsToEnd words ending left = AsksFor answers_lines words → OnTrue (is_answered ending) (IsAtEnd left)
-
--- trusted, own: holds if at most 4,294,967,297 bytes were taken from the input, or `words` do not ask for answers to its lines
-abbrev pub TakesFew : List (List ℕ) → Option (List ℕ) → Option (List ℕ) → Type 0
-TakesFew words before now = AsksFor answers_lines words → TakesAtMost (input_limit + 1) before now
+    ⊎ (Rises before.files.errors now.files.errors
+    ⊎ Asking words (λ asked. (kind : FileKind) × FilesGive files asked (Err (missing kind))))
 
 -- trusted, own: Holds if nothing was written after a read error and the input is unchanged. It also holds if the input counted
 -- an error, and the sink gained an output of which `Ended` holds.
@@ -143,7 +121,7 @@ OpensAll ending words before now = OnTrue (is_answered ending) (Asking words (λ
 
 -- trusted, own: Holds if only the first of the files that `words` name were opened, and none after the one at which the run
 -- stops. If they are invalid, no file was opened. Only if memory ran out the opened names may be unknown instead.
-abbrev pub OpensNamed : List (List ℕ) → Status → Option FilesInMemory → Option (List (List ℕ)) → Option (List (List ℕ)) → Type 0
+abbrev pub OpensNamed : List (List ℕ) → Status → Option FilesHeld → Option (List (List ℕ)) → Option (List (List ℕ)) → Type 0
 OpensNamed words ending files before now = AskingOr words (λ asked. OpensUpTo (is_status ending status.Memory) files asked before now) (now ≡ before)
 
 -- trusted, own: Holds if `words` are valid, and the listener was to be opened once, at the address that they ask for. Or it was
@@ -152,19 +130,19 @@ abbrev pub ListensAt : List (List ℕ) → Status → Option (List (List ℕ)) �
 ListensAt words ending before now = Asking words (λ asked. AddsNames (is_status ending status.Memory) before (asked.values.listen ∷ []) now ⊎ ((now ≡ before) × (is_answered ending ≡ false)))
 
 -- trusted, own: holds if `words` are valid, and all files that they ask for load
-abbrev pub LoadsSome : List (List ℕ) → Option FilesInMemory → Type 0
+abbrev pub LoadsSome : List (List ℕ) → Option FilesHeld → Type 0
 LoadsSome words files = Asking words (λ asked. (loaded : Loaded) × FilesGive files asked (Ok loaded))
 
 -- trusted, own: Holds if the input was served as one connection, over the loaded files. At most 1,000 replies were written, and
 -- at most 12,288 bytes were taken beyond the answered heads. With `Done` nothing is left except after a reply that ends the
 -- connection. Or the run stops at its files, and the input is unchanged.
-abbrev pub ServesInput : Type 0 → List (List ℕ) → Option FilesInMemory → Status → Option (List ℕ) → Option (List ℕ) → Option (List ℕ) → Option (List ℕ) → Type 0
+abbrev pub ServesInput : Type 0 → List (List ℕ) → Option FilesHeld → Status → Option (List ℕ) → Option (List ℕ) → Option (List ℕ) → Option (List ℕ) → Type 0
 ServesInput AsItWas words files ending left left' held held' = Asking words (λ asked.
     Loading files asked (λ loaded. StreamServed (site_of loaded) ending (stream_of left held) (stream_of left' held'))
     ⊎ (AsItWas × (is_answered ending ≡ false)))
 
 -- trusted, own: holds if `words` are valid, and the run does not stop at a file or at a default row
-abbrev pub LoadsAll : List (List ℕ) → Option FilesInMemory → Type 0
+abbrev pub LoadsAll : List (List ℕ) → Option FilesHeld → Type 0
 LoadsAll words files = Asking words (λ asked. (stop : Stop) → FilesGive files asked (Err stop) → ⊥)
 
 -- trusted, own: holds if the input is known, and has at most `limit` bytes
@@ -183,7 +161,3 @@ pub record NoneRises (before now : Moment) : Type 0 where
   pub input : Rises before.input.errors now.input.errors → ⊥
   pub output : Rises before.output.errors now.output.errors → ⊥
   pub door : Rises before.door.aside.errors now.door.aside.errors → ⊥
-
--- trusted, own: holds if the whole input was answered, or memory ran out
-abbrev pub IsDoneOrMemory : Status → Type 0
-IsDoneOrMemory ending = (is_answered ending ≡ true) ⊎ (ending ≡ status.Memory)

@@ -3,7 +3,6 @@ use Rattle.std.specs.Prelude.{◌≡◌, ◌≢◌, ℕ, ◌≤◌, ◌-◌, Boo
 use Rattle.tdl_lines.specs.declared.status.Status.{Status}
 use Rattle.tdl_gen.specs.Counts.{Generated}
 use Rattle.tdl_lines.specs.declared.status.Status.TheVariants.{Done, Memory, ReadFault}
-use Rattle.tdl_lines.specs.Inputs.{TakesMoreThan}
 use Rattle.tdl_lines.specs.Outputs.{AnswersEnded, AnswersInput, LineAnswer}
 use Rattle.tdl_lines.specs.Printers.{WritesLine}
 use Rattle.gs_port.specs.Asides.{Aside, Finished}
@@ -85,10 +84,6 @@ migrated_line loaded = migrated loaded.source ++ 10 ∷ []
 -- holds if the sink gained the line that was made, or a prefix of it after an error; and nothing if none was made
 abbrev pub PrintsMade : {E : Type 0} → Result (List ℕ) E → Status → SinkState → SinkState → Type 0
 PrintsMade made ending before now = (line : List ℕ) → IfOk made (λ text. text ≡ line) → WritesLine Done line ending before now
-
--- trusted, own: holds if more than 4,294,967,296 bytes were taken from the input between `before` and `now`
-abbrev pub PassesLimit : Option (List ℕ) → Option (List ℕ) → Type 0
-PassesLimit before now = TakesMoreThan input_limit before now
 
 -- trusted, own: holds if `outcome` has the answers to the lines of the input, with their status, and no finished connection
 abbrev pub LinesAnswered : (List ℕ → LineAnswer → Type 0) → Option (List ℕ) → Outcome → Type 0

@@ -7,10 +7,11 @@ ghost use Rattle.gs_translate.specs.Translations.{NameOne};
 ghost use Rattle.gs_translate.specs.declared.form.Target.{Target};
 ghost use Rattle.tdl_arguments.specs.Requests.{Asked, Values, WordsInOrder};
 ghost use Rattle.tdl_loads.specs.declared.loads.Loaded.{Loaded};
-ghost use Rattle.tdl_loads.specs.Loads.{FilesGive, FilesInMemory};
+ghost use Rattle.tdl_loads.specs.Loads.{FilesGive};
 ghost use Rattle.tdl_answers.specs.TranslatedAnswers.{IsCanonLine, IsTranslatedLine};
 ghost use Rattle.tdl_run.specs.Runs.{DefinedRun, HasOneOutcome, InputFits, LoadsAll, World};
 ghost use Rattle.tdl_run.specs.Works.{KeepOne, Outcome, canonizing, translating};
+ghost use Rattle.gs_port.specs.Files.{FilesHeld};
 
 /// States that arguments ask for at most one thing.
 pub fn words_ask_for_one_thing()
@@ -39,7 +40,7 @@ pub fn words_in_order_are_answered()
 pub fn canon_answers_by_canonical_links()
     ensures canonical { (loaded : Loaded) (form : Form) (text : List ℕ) (line : LineAnswer)
         → IsTranslatedLine (canonizing loaded form) text line ↔ IsCanonLine loaded.tables form text line }
-    ensures headline { (files : Option FilesInMemory) (asked : Asked) (loaded : Loaded)
+    ensures headline { (files : Option FilesHeld) (asked : Asked) (loaded : Loaded)
         (form other : Form) (text given link wanted : List ℕ)
         → FilesGive files asked (Ok loaded)
         → IsTranslatedLine (canonizing loaded form) text (accepted link)
@@ -51,7 +52,7 @@ pub fn canon_answers_by_canonical_links()
 /// give. They do if and only if the elements that it keeps of them are equal. With `--keys-only yes` these are the key, and its
 /// serial if that is a separate element; otherwise all.
 pub fn canonical_answers_by_kept_elements()
-    ensures { (files : Option FilesInMemory) (asked : Asked) (loaded : Loaded) (values : Values)
+    ensures { (files : Option FilesHeld) (asked : Asked) (loaded : Loaded) (values : Values)
         (form other : Form) (text given link wanted : List ℕ)
         → FilesGive files asked (Ok loaded)
         → IsTranslatedLine (translating loaded values form Target.Canon) text (accepted link)

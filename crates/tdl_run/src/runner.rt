@@ -1,11 +1,13 @@
-ghost use Rattle.std.specs.Prelude.{◌≡◌, ◌≤◌, ◌⊎◌, false};
+ghost use Rattle.std.specs.Prelude.{◌≡◌, ◌≤◌, ◌⊎◌, false, ◌+◌, true};
 ghost use Rattle.std.specs.Bool.{OnTrue};
-ghost use Rattle.tdl_lines.specs.Statuses.{is_cut_short, is_status, is_written};
+ghost use Rattle.tdl_lines.specs.Statuses.{is_answered, is_cut_short, is_status, is_written};
 ghost use Rattle.gs_port.specs.Counts.{Rises};
-ghost use Rattle.tdl_arguments.specs.Commands.{answers_heads, reads_input, uses_door};
+ghost use Rattle.tdl_arguments.specs.Commands.{answers_heads, answers_lines, reads_input, uses_door};
 ghost use Rattle.tdl_arguments.specs.Requests.{AsksFor, NamesNoFile, NotInOrder, known_words};
-ghost use Rattle.tdl_run.specs.Runs.{BeginsRun, CutRun, DefinedRun, EndedRun, FinishedRun, InputFits, IsDoneOrMemory, IsRejected, ListensAt, LoadsAll, LoadsSome, NoneRises, OpensAll, OpensNamed, ReadsToEnd, RunCause, ServesInput, TakesFew, WritesAfterError, moment_of, world_of};
-ghost use Rattle.tdl_run.specs.Works.{Appends, FinishesFirst, Leaves, PassesLimit};
+ghost use Rattle.tdl_run.specs.Runs.{DefinedRun, EndedRun, FinishedRun, InputFits, IsRejected, ListensAt, LoadsAll, LoadsSome, NoneRises, OpensAll, OpensNamed, RunCause, ServesInput, WritesAfterError, moment_of, world_of};
+ghost use Rattle.tdl_run.specs.Works.{Appends, FinishesFirst, Leaves, input_limit};
+ghost use Rattle.tdl_run.specs.CommandRuns.{BeginsOne, CutShort};
+ghost use Rattle.tdl_lines.specs.Inputs.{IsAtEnd, TakesAtMost, TakesMoreThan};
 
 use crate::requests::run_request;
 use gs_port::{Door, Files, Sink, Source};
@@ -53,7 +55,8 @@ pub fn run<F: Files, S: Source, K: Sink, D: Door>(
         (D.state door.old).aside.finished (D.state door.new).aside.finished result
         (DefinedRun (known_words words.now)
         (world_of (F.state files.old).files (S.state input.old).left (D.state door.old)))) }
-    ensures read_to_end { ReadsToEnd (known_words words.now) result (S.state input.new).left }
+    ensures read_to_end { AsksFor answers_lines (known_words words.now)
+        → OnTrue (is_answered result) (IsAtEnd (S.state input.new).left) }
 
     // The arguments decide whether the usage line comes, and the files whether one is rejected.
     ensures usage { OnTrue (is_status result Status.Usage) (NotInOrder (known_words words.now)) }
@@ -71,7 +74,8 @@ pub fn run<F: Files, S: Source, K: Sink, D: Door>(
     // A command leaves an input or a listener that it does not use unchanged, and both are unchanged if a file does not load.
     ensures unread { (AsksFor reads_input (known_words words.now) → ⊥) → input.new ≡ input.old }
     ensures unread_rejected { OnTrue (is_status result Status.Refused) (input.new ≡ input.old) }
-    ensures few { TakesFew (known_words words.now) (S.state input.old).left (S.state input.new).left }
+    ensures few { AsksFor answers_lines (known_words words.now)
+        → TakesAtMost (input_limit + 1) (S.state input.old).left (S.state input.new).left }
     ensures unserved { (AsksFor uses_door (known_words words.now) → ⊥) → door.new ≡ door.old }
     ensures unserved_rejected { OnTrue (is_status result Status.Refused) (door.new ≡ door.old) }
     ensures untouched { ((input.new ≡ input.old) × (door.new ≡ door.old))
@@ -97,7 +101,7 @@ pub fn run<F: Files, S: Source, K: Sink, D: Door>(
     ensures write_error { OnTrue (is_status result Status.WriteFault)
         (Rises (K.state output.old).errors (K.state output.new).errors) }
     ensures input_long { OnTrue (is_status result Status.InputLong)
-        (PassesLimit (S.state input.old).left (S.state input.new).left) }
+        (TakesMoreThan input_limit (S.state input.old).left (S.state input.new).left) }
 
     // Completeness: with valid arguments, files that load, an input that fits and no new error, all was written, or memory ran out.
     ensures complete { LoadsAll (known_words words.now) (F.state files.old).files
@@ -105,7 +109,7 @@ pub fn run<F: Files, S: Source, K: Sink, D: Door>(
         → NoneRises
         (moment_of (F.state files.old) (S.state input.old) (K.state output.old) (D.state door.old))
         (moment_of (F.state files.new) (S.state input.new) (K.state output.new) (D.state door.new))
-        → IsDoneOrMemory result }
+        → (is_answered result ≡ true) ⊎ (result ≡ Status.Memory) }
 
     // The output then.
     ensures ended { OnTrue (is_status result Status.ReadFault) (WritesAfterError (input.new ≡ input.old)
@@ -114,8 +118,8 @@ pub fn run<F: Files, S: Source, K: Sink, D: Door>(
         (EndedRun (known_words words.now) (F.state files.old).files
         (S.state input.old).left (S.state input.new).left)) }
     ensures begun { OnTrue (is_cut_short result) (Appends (K.state output.old).held (K.state output.new).held
-        (BeginsRun (known_words words.now)
-        (world_of (F.state files.old).files (S.state input.old).left (D.state door.old)))) }
+        (BeginsOne (DefinedRun (known_words words.now)
+        (world_of (F.state files.old).files (S.state input.old).left (D.state door.old))))) }
     ensures finished { OnTrue (is_cut_short result) (Leaves
         (K.state output.old).held (K.state output.new).held
         (D.state door.old).aside.finished (D.state door.new).aside.finished result
@@ -124,8 +128,8 @@ pub fn run<F: Files, S: Source, K: Sink, D: Door>(
     ensures cut { OnTrue (is_status result Status.WriteFault) (Leaves
         (K.state output.old).held (K.state output.new).held
         (D.state door.old).aside.finished (D.state door.new).aside.finished result
-        (CutRun (known_words words.now)
-        (world_of (F.state files.old).files (S.state input.old).left (D.state door.old)))) }
+        (CutShort (DefinedRun (known_words words.now)
+        (world_of (F.state files.old).files (S.state input.old).left (D.state door.old))))) }
     ensures input_counts { (S.state input.old).errors ≤ (S.state input.new).errors }
     ensures file_counts { (F.state files.old).errors ≤ (F.state files.new).errors }
     ensures output_counts { (K.state output.old).errors ≤ (K.state output.new).errors }

@@ -1,6 +1,6 @@
 -- One connection at a listener.
 use Rattle.std.proofs.Common.{◌≡◌, ◌≢◌, ℕ, ◌-◌, List, [], ◌∷◌, ◌++◌, Option, Some, None, Result, Bool, false, refl, sym, ap, ◌∙◌}
-use Rattle.std.specs.Prelude.{is_some, option_map}
+use Rattle.std.specs.Prelude.{if◌then◌else◌, is_some, option_map}
 use Rattle.gs_chars.specs.declared.memory.Memory.{Memory}
 use Rattle.gs_http.specs.ServedStreams.{after_serving, reads_when, writes_when}
 use Rattle.gs_http.specs.Sites.{SiteData}
@@ -11,10 +11,10 @@ use Rattle.gs_port.specs.States.{ConnState}
 use Rattle.gs_port.specs.declared.door.AcceptAnswer.TheVariants as accepting
 use Rattle.tdl_lines.specs.Inputs.{IsKnown}
 use Rattle.tdl_serve.specs.Turns.{OpenServed, TellsError, after_turns}
-use Rattle.tdl_serve.specs.Visits.{AreVisits, IsVisit, Visit, Visited, no_visit, one_visit, known_if}
+use Rattle.tdl_serve.specs.Visits.{AreVisits, IsVisit, Visit, Visited, no_visit, one_visit}
 use Rattle.tdl_serve.proofs.StreamLemmas.{as_answered, front_is_part, replied, known_whole}
 
-begun_known : (waiting : Option (List (List ℕ))) (bytes : List ℕ) → waiting ≢ Some [] → append_known (first_begun waiting) bytes ≡ known_if (is_some waiting) bytes
+begun_known : (waiting : Option (List (List ℕ))) (bytes : List ℕ) → waiting ≢ Some [] → append_known (first_begun waiting) bytes ≡ (if is_some waiting then Some bytes else None)
 begun_known None bytes some = refl
 begun_known (Some []) bytes some = absurd (some refl)
 begun_known (Some (input ∷ rest)) bytes some = refl

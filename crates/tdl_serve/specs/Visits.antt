@@ -1,5 +1,5 @@
 -- The connections that a site served, one at a time.
-use Rattle.std.specs.Prelude.{◌≡◌, ◌⊎◌, ◌≤◌, ℕ, ◌+◌, ◌-◌, ◌==◌, not, Bool, true, false, List, [], ◌∷◌, ◌++◌, Option, Some, None, is_some, option_map, if◌then◌else◌, length, map, take}
+use Rattle.std.specs.Prelude.{◌≡◌, ◌⊎◌, ◌≤◌, ℕ, ◌+◌, ◌-◌, ◌==◌, not, Bool, true, false, List, [], ◌∷◌, ◌++◌, Some, None, is_some, option_map, if◌then◌else◌, length, map, take}
 use Rattle.std.specs.List.{filter, list_any}
 use Rattle.gs_http.specs.declared.connection.Served.{Served}
 use Rattle.gs_http.specs.declared.connection.Served.TheVariants.{Done, ReadFault, WriteFault, Memory}
@@ -57,10 +57,6 @@ errors_of visits = length (filter (λ (visit : Visit). is_error visit.served) vi
 abbrev pub wants_memory : List Visit → Bool
 wants_memory visits = list_any (λ (visit : Visit). is_want visit.served) visits
 
--- trusted, own: the bytes, if the listener's connections are known
-abbrev pub known_if : Bool → List ℕ → Option (List ℕ)
-known_if known bytes = if known then Some bytes else None
-
 -- trusted, the number of bytes is own: Holds if the replies to a number of heads were written, and at most 12,288 bytes were
 -- read beyond these heads. If serving was done, the whole input was read, or a reply ends the connection.
 pub record ReadsAsAnswered (site : SiteData) (input : List ℕ) (served : Served) (read written : List ℕ) : Type 0 where
@@ -76,8 +72,8 @@ pub record ReadsAsAnswered (site : SiteData) (input : List ℕ) (served : Served
 pub record IsVisit (site : SiteData) (known : Bool) (reads writes : ℕ) (visit : Visit) : Type 0 where
   pub read : List ℕ
   pub written : List ℕ
-  pub is_read : visit.entry.read ≡ known_if known read
-  pub is_written : visit.entry.written ≡ known_if known written
+  pub is_read : visit.entry.read ≡ (if known then Some read else None)
+  pub is_written : visit.entry.written ≡ (if known then Some written else None)
   pub of_input : IsInitialPart read visit.input
   pub replied : Replied site visit.input (is_done visit.served) written
   pub as_answered : ReadsAsAnswered site visit.input visit.served read written

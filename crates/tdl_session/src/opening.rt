@@ -1,6 +1,6 @@
 ghost use Rattle.std.specs.Prelude.{◌≡◌, IfOk, IfErr, Ok};
-ghost use Rattle.gs_prefix.specs.Answers.{OrMemory};
 ghost use Rattle.tdl_session.specs.Openings.{ArePrefixesRejected, AreRejected, IsOpened, TablesGive, prefixes_given};
+ghost use Rattle.gs_chars.specs.Answers.{OrError};
 
 use crate::choice::{Choice, Chosen, choose};
 use crate::session::Session;
@@ -46,7 +46,7 @@ fn tables_of(alloc: Global, bytes: &[u8]) -> Result<TableSet, LoadFault>
 
 /// Returns the list of a document, or the empty one if it is empty.
 fn prefixes_of(alloc: Global, bytes: &[u8]) -> Result<PrefixList, PrefixFault>
-    ensures { OrMemory result (prefixes_given bytes.now) }
+    ensures { OrError PrefixFault.Memory result (prefixes_given bytes.now) }
 {
     if bytes.is_empty() {
         return Ok(PrefixList::empty(alloc));
