@@ -33,5 +33,5 @@ pub use error::LinkFault;
 pub use laws::{one_answer_each, one_key_path, written_link_is_read};
 pub use query::part_len;
 pub use read::{read_link, read_target};
-pub use stem::{append_link, stem_ok, write_link};
+pub use stem::{stem_ok, write_link};
 pub use value::decoded;

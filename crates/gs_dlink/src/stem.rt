@@ -1,5 +1,4 @@
-ghost use Rattle.std.specs.Prelude.{◌≡◌, ◌++◌, true, IfOk, OnErr};
-ghost use Rattle.gs_chars.specs.Answers.{BeginsWith};
+ghost use Rattle.std.specs.Prelude.{◌≡◌, true, IfOk};
 ghost use Rattle.gs_ident.specs.Links.{spelled};
 ghost use Rattle.gs_dlink.specs.Stems.{are_stem_bytes, begins_authority, ends_in_slash, stem_ok};
 
@@ -49,14 +48,4 @@ pub fn write_link(alloc: Global, stem: &[u8], identity: &Identity<'_>) -> Result
     ensures { IfOk result (λ text. text ≡ spelled stem.now identity.now) }
 {
     spell(alloc, stem, identity)
-}
-
-/// Appends the link of the identity under the stem, as `write_link` returns it. Fails only with `Memory`; `out` then begins with
-/// its old contents. `stem_ok` allows the stem.
-pub fn append_link(out: &mut Vec<u8>, stem: &[u8], identity: &Identity<'_>) -> Result<(), Memory>
-    requires { stem_ok stem.now ≡ true }
-    ensures written { IfOk result (λ _. out.new.items ≡ out.old.items ++ spelled stem.now identity.now) }
-    ensures begun { OnErr result (BeginsWith out.new.items out.old.items) }
-{
-    gs_ident::append_link(out, stem, identity)
 }
