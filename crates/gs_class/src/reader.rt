@@ -10,7 +10,7 @@ use crate::class_set::{Class, ClassSet};
 use crate::error::ClassFault;
 use gs_ai::{AiTable, Pair};
 use gs_chars::{CowText, Memory, Text};
-use gs_epc::{place_of, push_checked};
+use gs_epc::{field_place, push_checked};
 use gs_grammar_level::{Reading, read_text};
 use gs_ident::Identity;
 use gs_tables::Field;
@@ -20,7 +20,7 @@ use std::alloc::Global;
 fn value_of<'a>(field: Field, fields: &[Option<Field>], values: &'a [CowText<'_>]) -> &'a [u8]
     ensures { result.now ≡ value_of field fields.now values.now }
 {
-    match place_of(field, fields) {
+    match field_place(field, fields) {
         Some(place) if place < values.len() => values[place].as_bytes(),
         _ => &[],
     }
@@ -51,7 +51,7 @@ fn key_value(
 }
 
 /// Returns the identity that the values of the items of a class say.
-fn identity_of<'a>(
+fn class_identity<'a>(
     alloc: Global,
     ais: &AiTable,
     class: &'a Class,
@@ -92,7 +92,7 @@ pub fn read_class<'a>(
     match read_text(alloc, set.level(), text) {
         Reading::One { option, values } => {
             let class = &set.classes()[option];
-            Ok(identity_of(alloc, table, class, values.items())?)
+            Ok(class_identity(alloc, table, class, values.items())?)
         }
         Reading::Nothing => Err(ClassFault::NoReading),
         Reading::Memory => Err(ClassFault::Memory),

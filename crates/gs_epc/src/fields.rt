@@ -10,7 +10,7 @@ use gs_chars::CowText;
 use gs_tables::{Field, OptInfo};
 
 /// Returns the place of the first item that stands for a field.
-pub fn place_of(field: Field, fields: &[Option<Field>]) -> Option<usize>
+pub fn field_place(field: Field, fields: &[Option<Field>]) -> Option<usize>
     ensures { result ≡ position (is_field field) fields.now }
 {
     fields.iter().position(|named| *named == Some(field))

@@ -38,7 +38,7 @@ mod writer;
 
 pub use epc::{Epc, EpcRef};
 pub use error::{EpcFault, EpcWriteFault, FieldsFault};
-pub use fields::place_of;
+pub use fields::field_place;
 pub use key_parts::{
     fields_of, joined, lent_fields_of, parts_at, prefix_in, rest_in, skip_first, value_from_prefix,
 };

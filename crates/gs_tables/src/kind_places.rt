@@ -1,5 +1,5 @@
 ghost use Rattle.std.specs.Prelude.{◌≡◌, IfOk, map};
-ghost use Rattle.gs_tables.specs.PlacesSupport.{place_of, places_of, serial_place};
+ghost use Rattle.gs_tables.specs.PlacesSupport.{row_place, places_of, serial_place};
 
 use gs_ai::AiTable;
 use gs_chars::{List, Memory};
@@ -17,8 +17,8 @@ pub struct KindPlaces {
 }
 
 /// Returns the place of the row of a code.
-fn place_of(ais: &AiTable, code: &[u8]) -> usize
-    ensures { result ≡ place_of ais.now code.now }
+fn row_place(ais: &AiTable, code: &[u8]) -> usize
+    ensures { result ≡ row_place ais.now code.now }
 {
     match ais.find(code) {
         Some(place) => place,
@@ -31,7 +31,7 @@ fn serial_place(ais: &AiTable, at: &SerialAt) -> usize
     ensures { result ≡ serial_place ais.now at.now }
 {
     match at {
-        SerialAt::Ai(code) => place_of(ais, code.as_bytes()),
+        SerialAt::Ai(code) => row_place(ais, code.as_bytes()),
         SerialAt::Nowhere | SerialAt::Tail => ais.rows().len(),
     }
 }
@@ -43,7 +43,7 @@ pub fn places_of(alloc: Global, ais: &AiTable, kinds: &[Kind]) -> Result<List<Ki
     let mut places = Vec::new(alloc);
     for kind in kinds {
         places.push(KindPlaces {
-            key: place_of(ais, kind.key.as_bytes()),
+            key: row_place(ais, kind.key.as_bytes()),
             serial: serial_place(ais, &kind.serial),
         })?;
     }

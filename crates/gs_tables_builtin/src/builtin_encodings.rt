@@ -193,7 +193,7 @@ fn serial_of(line: SerialLine) -> Option<Item>
 }
 
 /// Returns the pure identity of a kind, with the serial that a line describes.
-fn identity_of(
+fn identity_row(
     alloc: Global,
     name: &[u8],
     rest: RestForm,
@@ -215,7 +215,7 @@ fn identities_of(
 {
     let mut rows = Vec::new(alloc);
     for (name, rest, serial) in lines {
-        rows.push(identity_of(alloc, name, *rest, *serial)?)?;
+        rows.push(identity_row(alloc, name, *rest, *serial)?)?;
     }
     Ok(List::from_vec(rows))
 }

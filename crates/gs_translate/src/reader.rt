@@ -124,7 +124,7 @@ pub(crate) fn meaning_alone(alloc: Global, identity: Identity<'_>) -> Meaning<'_
 }
 
 /// Returns the identity of pairs. Returns `Ident` if and only if they have none, with the reason.
-fn identity_of<'a>(
+fn pairs_identity<'a>(
     alloc: Global,
     set: &TableSet,
     pairs: Vec<Pair<'a>>,
@@ -146,7 +146,7 @@ fn raw_identity<'a>(alloc: Global, set: &TableSet, text: &'a [u8]) -> Result<Ide
     ensures with_table { IfOk result (IsMadeWith set.now.ais) }
 {
     let pairs = read_raw(alloc, set.ais(), text)?;
-    identity_of(alloc, set, pairs)
+    pairs_identity(alloc, set, pairs)
 }
 
 /// Returns the identity that a bracketed element string (human readable interpretation) names.
@@ -159,7 +159,7 @@ fn bracketed_identity<'a>(
     ensures with_table { IfOk result (IsMadeWith set.now.ais) }
 {
     let pairs = read_bracketed(alloc, set.ais(), text)?;
-    identity_of(alloc, set, pairs)
+    pairs_identity(alloc, set, pairs)
 }
 
 /// Returns the identity that a link names.
@@ -168,7 +168,7 @@ fn link_identity<'a>(alloc: Global, set: &TableSet, text: &'a [u8]) -> Result<Id
     ensures with_table { IfOk result (IsMadeWith set.now.ais) }
 {
     let pairs = read_link(alloc, set.ais(), text)?;
-    identity_of(alloc, set, pairs)
+    pairs_identity(alloc, set, pairs)
 }
 
 /// Returns the identity that an element string or a link names, or the reason, like `read` for a text of at most 2,048 bytes. A

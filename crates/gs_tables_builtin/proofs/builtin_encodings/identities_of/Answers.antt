@@ -6,7 +6,7 @@ use Rattle.gs_tables_builtin.proofs.builtin_encodings.identities_of.Goals as goa
 pub loop-name-preserved : goal.loop-name-preserved
 loop-name-preserved c =
     row_more identity_known c.args.lines.now c.loop-name.name-index _ [] _ _ c.loop-name-test.true c.loop-name.invariant
-    (rw c.in_ok-identity_of.ensures at c.in_ok-push.ensures.items)
+    (rw c.in_ok-identity_row.ensures at c.in_ok-push.ensures.items)
 
 pub returns : goal.returns
 returns c =

@@ -8,7 +8,7 @@ use Rattle.gs_translate.proofs.reader.bracketed_identity.Goals as goal
 
 pub returns-clause-named : goal.returns-clause-named
 returns-clause-named c =
-    unless_map c.identity_of.result (λ named. goes_on c.in_ok-pairs.pairs.items (rw c.ais.ensures.rows at c.in_ok-pairs.ensures.read) named) c.identity_of.ensures.named
+    unless_map c.pairs_identity.result (λ named. goes_on c.in_ok-pairs.pairs.items (rw c.ais.ensures.rows at c.in_ok-pairs.ensures.read) named) c.pairs_identity.ensures.named
 
 pub returns-in_err-pairs-clause-named : goal.returns-in_err-pairs-clause-named
 returns-in_err-pairs-clause-named c =

@@ -7,7 +7,7 @@ use Rattle.gs_epc.specs.Layout.{lay}
 use Rattle.gs_class.specs.Meanings.{said_by}
 use Rattle.gs_class.specs.Sets.{kind_of}
 use Rattle.gs_class.proofs.ClassIdentities.{identity_is, is_key}
-use Rattle.gs_class.proofs.reader.identity_of.Goals as goal
+use Rattle.gs_class.proofs.reader.class_identity.Goals as goal
 
 pub of_key-requires : goal.of_key-requires
 of_key-requires c =
