@@ -1,5 +1,6 @@
-"""The pages of the definitions that public clauses reach: docs/DEFINITIONS.md and docs/definitions; the formulas of docs/THEOREM.md; and in
-that page and docs/TRUST.md the parts between `<!-- written: NAME -->` and `<!-- end -->`: sizes, and what is used of the kit.
+"""The pages of the definitions that public clauses reach: docs/definitions, of which git keeps that of the kernel, and packaging/site writes
+all; the formulas of docs/THEOREM.md; and in that page and docs/TRUST.md the parts between `<!-- written: NAME -->` and `<!-- end -->`:
+sizes, and what is used of the kit.
 """
 import re
 
@@ -16,28 +17,12 @@ BLOCK = re.compile(r"^```\n(-- \w+: .*?)^```$", re.MULTILINE | re.DOTALL)
 HEAD = re.compile(r"^-- (\w+): (\w+)(?:, (\w+))?$", re.MULTILINE)
 ENTRY = re.compile(r"\[`(\w+)`\]\(definitions/[^)]*\)")
 
-INDEX = """# Definitions
-
-Written by `checks/definitions --write` from the marks in specs/, and not by hand.
-
-These are the definitions that the contracts of public calls reach, directly or through others. Each entry has its sentence, its source, its
-formula and links to the definitions that it uses. The source is a section of a standard or `own`, this project's own.
-
-| Page | Definitions | Lines | Words of sentences |
-|---|---|---|---|
-{rows}
-
-Begin with [THEOREM.md](THEOREM.md). The search for tables that read a text in two ways uses machines, but `Derives` and `IsAmbiguous` define its
-result without them. The third page has machines, since some calls return them.
-
-## Names
-"""
-
 PAGES = {
     "kernel": ("The kernel", "The definitions of the clause `defined` of `run` for `canon` and `translate`, with files of tables and of company prefix lengths."),
     "run": ("The rest of `run`", "The other definitions of the contract of `run`: the other commands and files, `serve`, and the clauses other than `defined`."),
     "calls": ("Other public calls", "The other definitions of the contracts of public calls."),
 }
+KEPT = ("kernel",)
 CHAPTERS = {
     "core": ("The core", "Which texts are accepted, and their meaning."),
     "kernel": ("The rest of the kernel", "The command line, the files, the rules of tables, the reasons, and the choice among several right spellings."),
@@ -45,23 +30,23 @@ CHAPTERS = {
 
 
 class Pages:
-    """Which page and chapter each node stands on, and under which name links find it."""
+    """Some of PAGES: which page and chapter each node stands on, and under which name links find it."""
 
-    def __init__(self, specs):
-        self.specs = specs
+    def __init__(self, specs, names):
+        self.specs, self.names = specs, names
         core, kernel, run = specs.core(), specs.kernel(), specs.reached(specs.item("tdl_run", "run"))
         self.chapters = {}
         for node in specs.reached(specs.items):
             self.chapters[node] = "core" if node in core else "kernel" if node in kernel else "run" if node in run else "calls"
-        self.order = sorted(self.chapters, key=self.place)
-        self.numbers = {node: number for number, node in enumerate(self.order)}
+        self.numbers = {node: number for number, node in enumerate(sorted(self.chapters, key=self.place))}
+        self.order = [node for node in self.numbers if self.page(node) in names]
         self.anchors, self.users, self.items = {}, {}, {}
         taken = set()
         for node in self.order:
-            file = node.file if isinstance(node, Definition) else node.module.replace("::", ".")
-            names = (node.name, f"{node.crate}.{node.name}", f"{node.crate}.{file}.{node.name}")
-            self.anchors[node] = next(name for name in names if name not in taken)
-            taken.add(self.anchors[node])
+            page, file = self.page(node), node.file if isinstance(node, Definition) else node.module.replace("::", ".")
+            anchors = (node.name, f"{node.crate}.{node.name}", f"{node.crate}.{file}.{node.name}")
+            self.anchors[node] = next(name for name in anchors if (page, name) not in taken)
+            taken.add((page, self.anchors[node]))
             for used in specs.next(node):
                 self.users.setdefault(used, []).append(node)
         for item in specs.items:
@@ -80,41 +65,38 @@ class Pages:
         return "kernel" if self.chapters[node] == "core" else self.chapters[node]
 
     def link(self, node, page):
-        """A link from a page to the entry of a node."""
+        """A link from a page to the entry of a node, or to its file if no page has it."""
         own = self.page(node)
+        if own not in self.names:
+            return f"[{node.name}](../../{node.path})"
         file = "" if own == page else f"{own}.md" if page else f"definitions/{own}.md"
         return f"[{node.name}]({file}#{self.anchors[node]})"
 
     def links(self, nodes, page):
-        """Links to nodes, in their order."""
+        """Links to nodes, in the order of crates.txt."""
         return [self.link(node, page) for node in sorted(nodes, key=self.numbers.get)]
 
     def entry(self, node, page):
-        """The entry of a node."""
-        text = [f'\n#### <a id="{self.anchors[node]}"></a>`{node.name}`\n\n']
-        place = f"[{node.path.rpartition('/')[2]}:{node.line}](../../{node.path}#L{node.line})"
+        """The entry of a node: its sentence, its formula, and its place among the others."""
         if isinstance(node, Definition):
-            text.append(f"{node.sentence[:1].upper()}{node.sentence[1:].rstrip('.')}. {self.source(node)} {place}\n\n")
-            text.append("```\n" + "".join(f"{line}\n" for line in shown(node)) + "```\n")
+            told, lines = f"{node.sentence[:1].upper()}{node.sentence[1:].rstrip('.')}. ({self.source(node)}, ", shown(node)
         else:
-            text.append(f"{node.doc or 'A Rust type.'} {place}\n\n")
-            text.append("```\n" + "".join(f"{line}\n" for line in fields_of(node)) + "```\n")
+            told, lines = f"{node.doc or 'A Rust type.'} (", fields_of(node)
+        text = [f'#### <a id="{self.anchors[node]}"></a>`{node.name}`', f"{told}[{node.path.rpartition('/')[2]}](../../{node.path}))"]
         used, users, items = self.links(self.specs.next(node), page), self.links(self.users.get(node, []), page), self.items.get(node, [])
-        told = [("Uses", ", ".join(used)), ("Used by", several(users)), ("In clauses of", several(items))]
-        lines = [f"{word}: {names}." for word, names in told if names]
-        return "".join(text) + ("\n" + "\\\n".join(lines) + "\n" if lines else "")
+        around = [("Uses", ", ".join(used)), ("Used by", several(users)), ("In clauses of", several(items))]
+        text += ["```", *lines, "```", " ".join(f"{word} {names}." for word, names in around if names)]
+        return "\n" + "\n".join(text).rstrip("\n") + "\n"
 
     def source(self, node):
         """Returns the source of a definition, or the law that a reader reads instead of its formula."""
         law = self.specs.laws.get((node.crate, node.law))
-        if not law:
-            return f"Source: {node.source}."
-        return f"Fixed by the law [{law.name}](../../crates/{law.crate}/src/{law.module.replace('::', '/')}.rt#L{law.line}); read the law instead of the formula."
+        return f"by the law [{law.name}](../../crates/{law.crate}/src/{law.module.replace('::', '/')}.rt)" if law else node.source
 
     def text(self, page):
         """The text of a page."""
         title, about = PAGES[page]
-        text = [f"# {title}\n\nWritten by `checks/definitions --write`, and not by hand. {about} [DEFINITIONS.md](../DEFINITIONS.md) has the index.\n"]
+        text = [f"# {title}\n\n{about} `checks/definitions` writes this page, and [DEFINITIONS.md](../DEFINITIONS.md) says how to read it.\n"]
         for chapter in ("core", "kernel") if page == "kernel" else (page,):
             if page == "kernel":
                 text.append(f"\n## {CHAPTERS[chapter][0]}\n\n{CHAPTERS[chapter][1]}\n")
@@ -125,23 +107,6 @@ class Pages:
                 text.append(self.entry(node, page))
                 last = node.crate
         return "".join(text)
-
-    def index(self):
-        """The text of the index."""
-        rows = []
-        for chapter, (name, _) in {"core": ("the core", ""), **PAGES}.items():
-            nodes = [it for it in definitions_in(self.order) if chapter in (self.chapters[it], self.page(it))]
-            lines, words = sum(len(it.formula) for it in nodes), sum(len(it.sentence.split()) for it in nodes)
-            told = f"its first chapter, {name}" if chapter == "core" else f"[{name}](definitions/{chapter}.md)"
-            rows.append(f"| {told} | {len(nodes):,} | {lines:,} | {words:,} |")
-        rows[0], rows[1] = rows[1], rows[0]
-        text, letter = [INDEX.format(rows="\n".join(rows))], ""
-        for node in sorted(self.order, key=lambda it: (it.name.lower(), it.name, it.crate)):
-            if node.name[0].upper() != letter:
-                letter = node.name[0].upper()
-                text.append(f"\n### {letter}\n\n")
-            text.append(f"{self.link(node, '')} {node.crate}\\\n")
-        return re.sub(r"\\\n(?=\n|$)", "\n", "".join(text))
 
 
 def several(names):
@@ -241,13 +206,17 @@ def lost_formulas(specs):
             yield f"docs/THEOREM.md: no public clause reaches {name} of {crate}"
     text = THEOREM.read_text("utf-8")
     yield from unglossed(text)
-    for name in ENTRY.findall(text):
-        if name not in {it for _, it in reached}:
-            yield f"docs/THEOREM.md: no page of definitions has an entry {name}"
+    entries = {it.name for it in specs.kernel()}
+    yield from (f"docs/THEOREM.md: docs/definitions/kernel.md has no entry {name}" for name in ENTRY.findall(text) if name not in entries)
+
+
+def definitions(specs, names):
+    """The path and the text of each of these pages of definitions."""
+    entries = Pages(specs, names)
+    return {DOCS / "definitions" / f"{name}.md": entries.text(name) for name in names}
 
 
 def pages(specs):
-    """The path and the text of each page."""
-    pages = Pages(specs)
-    found = {DOCS / "DEFINITIONS.md": pages.index(), **{DOCS / "definitions" / f"{name}.md": pages.text(name) for name in PAGES}}
-    return {**found, THEOREM: parted(specs, theorem(specs, pages)), TRUST: parted(specs, TRUST.read_text("utf-8"))}
+    """The path and the text of each page that git keeps."""
+    told = {THEOREM: parted(specs, theorem(specs, Pages(specs, KEPT))), TRUST: parted(specs, TRUST.read_text("utf-8"))}
+    return {**definitions(specs, KEPT), **told}
