@@ -18,7 +18,7 @@ use Rattle.serde_json.specs.Data.{Data}
 use Rattle.serde_json.specs.Find.{get}
 use Rattle.gs_linkset.specs.Attributes.{every}
 use Rattle.gs_json.specs.Places.{item_place, member_place}
-use Rattle.gs_linkset.specs.Documents.{member_errors, attr_of, item_errors, relation_errors, relation_of, names_in, target_errors, target_of, targets_at}
+use Rattle.gs_linkset.specs.Documents.{member_errors, attr_of, item_errors, relation_errors, relation_of, names_in, target_errors, target_of, targets_at, attr_with}
 use Rattle.gs_json.proofs.ArrayItems.{items_at}
 use Rattle.gs_linkset.specs.LinkShapes.{ascend, is_attr, is_context, is_relation, is_target, is_value}
 use Rattle.gs_linkset.specs.declared.link_types.Attr.{Attr}
@@ -160,7 +160,7 @@ module _ {A X : Type 0} (h : A → Option X) where
 -- ---- attributes and relations have their shape
 
 pub attr_shaped : (name : List ℕ) (value : AttrValue) → bytes_eq name (codes "href") ≡ false → is_utf8 name ≡ true
-    → is_value name value ≡ true → is_attr (record { name = name; value = value }) ≡ true
+    → is_value name value ≡ true → is_attr (attr_with name value) ≡ true
 unfolding is_attr
 attr_shaped name value a b c = rw (a, b, c) refl
 

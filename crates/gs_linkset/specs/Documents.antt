@@ -18,6 +18,7 @@ use Rattle.gs_linkset.specs.declared.link_types.Attr.{Attr}
 use Rattle.gs_linkset.specs.declared.link_types.Context.{Context}
 use Rattle.gs_linkset.specs.declared.link_types.Relation.{Relation}
 use Rattle.gs_linkset.specs.declared.link_types.Target.{Target}
+use Rattle.gs_linkset.specs.declared.link_types.AttrValue.{AttrValue}
 
 -- trusted, own: the names of the members of `d`, in ascending order
 abbrev pub names_in : Data → List (List ℕ)
@@ -33,9 +34,13 @@ item_errors errors place items = flat_map (λ row. errors (item_place place row.
 
 -- ---- targets (section 4.2.3)
 
+-- trusted, own: the attribute of this name and value
+abbrev pub attr_with : List ℕ → AttrValue → Attr
+attr_with name value = record { name = name; value = value }
+
 -- trusted, own: the attribute of this name, if the value `d` is of its kind
 abbrev pub attr_named : List ℕ → Data → Option Attr
-attr_named name d = option_map (λ value. record { name = name; value = value }) (value_of name d)
+attr_named name d = option_map (attr_with name) (value_of name d)
 
 -- trusted, RFC 9264, section 4.2.4; ignoring is own: the attribute of the member `name`, if this is not `href` and its value
 -- is of its kind

@@ -6,7 +6,7 @@ use Rattle.std.proofs.Common.{ap, sym, ◌∙◌}
 use Rattle.serde_json.specs.Data.{Data}
 use Rattle.serde_json.specs.Find.{get}
 use Rattle.gs_linkset.specs.Attributes.{value_of}
-use Rattle.gs_linkset.specs.Documents.{attr_named, attr_of, relation_of, relation_with, targets_at}
+use Rattle.gs_linkset.specs.Documents.{attr_named, attr_of, attr_with, relation_of, relation_with, targets_at}
 use Rattle.gs_linkset.specs.declared.link_types.Attr.{Attr}
 use Rattle.gs_linkset.specs.declared.link_types.AttrValue.{AttrValue}
 use Rattle.gs_linkset.specs.declared.link_types.Relation.{Relation}
@@ -14,7 +14,7 @@ use Rattle.gs_linkset.specs.declared.link_types.Relation.{Relation}
 named_so : {X : Type 0} (name : X → List ℕ) (n : List ℕ) (made : Option X) (x : X) → option_map_or name made n ≡ n → made ≡ Some x → name x ≡ n
 named_so name n made x own h = sym (ap (λ o. option_map_or name o n) h) ∙ own
 
-attr_by_value : (n : List ℕ) (v : Option AttrValue) → option_map_or (λ attr. attr.name) (option_map (λ value. record { name = n; value = value }) v) n ≡ n
+attr_by_value : (n : List ℕ) (v : Option AttrValue) → option_map_or (λ attr. attr.name) (option_map (attr_with n) v) n ≡ n
 attr_by_value n None = refl
 attr_by_value n (Some v) = refl
 

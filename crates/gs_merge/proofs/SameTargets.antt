@@ -11,9 +11,8 @@ use Rattle.gs_linkset.specs.declared.link_types.AttrValue.{AttrValue}
 use Rattle.gs_linkset.specs.declared.link_types.AttrValue.TheVariants.{One, Many, Tagged}
 use Rattle.gs_linkset.specs.declared.link_types.Target.{Target}
 use Rattle.gs_linkset.proofs.RoundTrip.{same_by_text}
-use Rattle.gs_merge.specs.Distinct.{is_same_attr, is_same_target, is_same_value}
+use Rattle.gs_merge.specs.Distinct.{is_same_attr, is_same_pair, is_same_target, is_same_value}
 use Rattle.std.proofs.lemmas.Bool.{and_from}
-use Rattle.std.specs.Prelude.{◌&&◌}
 
 module _ {X : Type 0} (same : X → X → Bool) where
   all_same : ((x : X) → same x x ≡ true) → (xs : List X) → pointwise same xs xs ≡ true
@@ -29,10 +28,10 @@ module _ {X : Type 0} (same : X → X → Bool) where
       let rest = all_one one xs ys (and_second (same x y) (pointwise same xs ys) h) in
       rw (first, rest) refl
 
-pair_itself : (a : List ℕ × List ℕ) → (bytes_eq a.0 a.0 && bytes_eq a.1 a.1) ≡ true
+pair_itself : (a : List ℕ × List ℕ) → is_same_pair a a ≡ true
 pair_itself a = and_from (bytes_eq a.0 a.0) (bytes_eq a.1 a.1) (same_bytes a.0) (same_bytes a.1)
 
-pair_one : (a b : List ℕ × List ℕ) → (bytes_eq a.0 b.0 && bytes_eq a.1 b.1) ≡ true → a ≡ b
+pair_one : (a b : List ℕ × List ℕ) → is_same_pair a b ≡ true → a ≡ b
 pair_one (t, l) (u, m) h =
     let text = equal_bytes t u (and_first (bytes_eq t u) (bytes_eq l m) h) in
     let language = equal_bytes l m (and_second (bytes_eq t u) (bytes_eq l m) h) in
@@ -41,12 +40,12 @@ pair_one (t, l) (u, m) h =
 value_itself : (a : AttrValue) → is_same_value a a ≡ true
 value_itself (One a) = same_bytes a
 value_itself (Many a) = all_same bytes_eq same_bytes a
-value_itself (Tagged a) = all_same (λ a b. bytes_eq a.0 b.0 && bytes_eq a.1 b.1) pair_itself a
+value_itself (Tagged a) = all_same is_same_pair pair_itself a
 
 value_one : (a b : AttrValue) → is_same_value a b ≡ true → a ≡ b
 value_one (One a) (One b) h = ap One (equal_bytes a b h)
 value_one (Many a) (Many b) h = ap Many (all_one bytes_eq equal_bytes a b h)
-value_one (Tagged a) (Tagged b) h = ap Tagged (all_one (λ a b. bytes_eq a.0 b.0 && bytes_eq a.1 b.1) pair_one a b h)
+value_one (Tagged a) (Tagged b) h = ap Tagged (all_one is_same_pair pair_one a b h)
 value_one (One a) (Many b) h = absurd (cc)
 value_one (One a) (Tagged b) h = absurd (cc)
 value_one (Many a) (One b) h = absurd (cc)

@@ -1,5 +1,5 @@
 -- Lists without duplicates. Two targets are equal if a linkset has the same facts about both (RFC 9264, section 4.2.3).
-use Rattle.std.specs.Prelude.{Bool, false, not, ◌&&◌, List, [], ◌∷◌, filter}
+use Rattle.std.specs.Prelude.{ℕ, Bool, false, not, ◌&&◌, List, [], ◌∷◌, filter}
 use Rattle.std.specs.Cmp.Lexicographic.{pointwise}
 use Rattle.std.specs.Str.{bytes_eq}
 use Rattle.gs_linkset.specs.declared.link_types.Attr.{Attr}
@@ -7,11 +7,15 @@ use Rattle.gs_linkset.specs.declared.link_types.AttrValue.{AttrValue}
 use Rattle.gs_linkset.specs.declared.link_types.AttrValue.TheVariants.{One, Many, Tagged}
 use Rattle.gs_linkset.specs.declared.link_types.Target.{Target}
 
+-- trusted, own: holds if the texts and the languages of `a` and `b` are the same
+abbrev pub is_same_pair : List ℕ × List ℕ → List ℕ × List ℕ → Bool
+is_same_pair a b = bytes_eq a.0 b.0 && bytes_eq a.1 b.1
+
 -- trusted, own: holds if the values of attributes are of one kind, with the same texts in the same order
 abbrev pub is_same_value : AttrValue → AttrValue → Bool
 is_same_value (One a) (One b) = bytes_eq a b
 is_same_value (Many a) (Many b) = pointwise bytes_eq a b
-is_same_value (Tagged a) (Tagged b) = pointwise (λ a b. bytes_eq a.0 b.0 && bytes_eq a.1 b.1) a b
+is_same_value (Tagged a) (Tagged b) = pointwise is_same_pair a b
 is_same_value (One a) (Many b) = false
 is_same_value (One a) (Tagged b) = false
 is_same_value (Many a) (One b) = false

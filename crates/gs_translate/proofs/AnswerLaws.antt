@@ -42,6 +42,7 @@ use Rattle.gs_translate.specs.Steps.{Reworded, Then, goes_on, rejects}
 use Rattle.gs_translate.specs.StepsSupport.{HasOne, HasSome}
 use Rattle.gs_translate.proofs.PairLaws.{ais_kept, one_bracketed, one_link, one_of_pairs, one_raw, some_bracketed, some_link, some_of_pairs, some_raw}
 use Rattle.gs_translate.proofs.StepLaws.{gives_err, gives_ok, one_reworded, then_one, then_some}
+use Rattle.gs_translate.specs.declared.reason.Reason.{Reason}
 
 -- the answer is not out of memory
 abbrev IsKnown : Result Epc EpcFault → Type 0
@@ -146,7 +147,7 @@ one_read set form text asks one other (too_long more e) (short few m) = absurd (
 one_read set form text asks one other (short few m) (too_long more e) = absurd (omega arith)
 one_read set form text asks one other (short few m) (short few' m') = one_meaning set form text asks one other m m'
 
-one_canonical : (meaning : Meaning) → HasOne (λ answer. answer ≡ Ok (canonical_link meaning.identity))
+one_canonical : (meaning : Meaning) → HasOne (λ (answer : Result (List ℕ) Reason). answer ≡ Ok (canonical_link meaning.identity))
 one_canonical meaning one other a b = a ∙ sym b
 
 pub one_answer : (set : TableRows) (form : Form) (text : List ℕ) → AsksForOne form set → HasOne (IsAnswer set form text)
@@ -249,7 +250,7 @@ some_read set form text asks = elim (leb_tells (length text) 2048) as (λ _. Has
   | inr e ↦ (Err Long, too_long e.1 refl)
 ]
 
-some_canonical : (meaning : Meaning) → HasSome (λ answer. answer ≡ Ok (canonical_link meaning.identity))
+some_canonical : (meaning : Meaning) → HasSome (λ (answer : Result (List ℕ) Reason). answer ≡ Ok (canonical_link meaning.identity))
 some_canonical meaning = (Ok (canonical_link meaning.identity), refl)
 
 pub some_answer : (set : TableRows) (form : Form) (text : List ℕ) → AsksForSome form set → HasSome (IsAnswer set form text)
