@@ -4,6 +4,5 @@ pub mod PartTexts
 pub mod PlaceLemmas
 pub mod RowLemmas
 pub mod RuleLemmas
-pub mod StartLemmas
 pub mod TableLemmas
 pub mod ValueLemmas

@@ -9,7 +9,7 @@ ghost use Rattle.gs_ai.specs.Parts.{is_open, is_part};
 use crate::errors::AiFault;
 use crate::part::{Part, Role};
 use crate::row::AiRow;
-use crate::starts::Predefined;
+use crate::starts::predefined_length;
 use crate::value::{greatest_length_of, least_length_of, parts_ok};
 use gs_chars::{Text, are_digits};
 
@@ -56,12 +56,7 @@ fn lists_qualifiers(rows: &[AiRow], codes: &[Text]) -> bool
 }
 
 /// Finds the first error of row `i`, given the earlier rows.
-fn check_row(
-    predefined: &Predefined,
-    i: usize,
-    earlier: &[AiRow],
-    row: &AiRow,
-) -> Result<(), AiFault>
+fn check_row(i: usize, earlier: &[AiRow], row: &AiRow) -> Result<(), AiFault>
     ensures { IsFirstError (row_errors i earlier.now row.now) result }
 {
     if !is_row(row) {
@@ -70,7 +65,7 @@ fn check_row(
     if let Some(j) = find_clash(earlier, row.code.as_bytes()) {
         return Err(AiFault::CodePrefix(j, i));
     }
-    if !keeps_predefined(predefined, row) {
+    if !keeps_predefined(row) {
         return Err(AiFault::PredefinedLength(i));
     }
     Ok(())
@@ -92,12 +87,12 @@ fn check_list(rows: &[AiRow], i: usize, row: &AiRow) -> Result<(), AiFault>
 }
 
 /// Finds the first error of a row, given the rows before it.
-fn check_each_row(predefined: &Predefined, rows: &[AiRow]) -> Result<(), AiFault>
+fn check_each_row(rows: &[AiRow]) -> Result<(), AiFault>
     ensures { IsFirstError (flat_map (λ row. row_errors row.0 (take row.0 rows.now) row.1)
         (enumerate_from 0 rows.now)) result }
 {
     for (i, row) in rows.iter().enumerate() {
-        check_row(predefined, i, &rows[..i], row)?;
+        check_row(i, &rows[..i], row)?;
     }
     Ok(())
 }
@@ -114,10 +109,10 @@ fn check_each_list(rows: &[AiRow]) -> Result<(), AiFault>
 }
 
 /// Finds the first error of the rows.
-pub fn check_rows(predefined: &Predefined, rows: &[AiRow]) -> Result<(), AiFault>
+pub fn check_rows(rows: &[AiRow]) -> Result<(), AiFault>
     ensures { IsFirstError (table_errors rows.now) result }
 {
-    check_each_row(predefined, rows)?;
+    check_each_row(rows)?;
     check_each_list(rows)
 }
 
@@ -197,13 +192,13 @@ fn is_row(row: &AiRow) -> bool
 /// Returns whether AI and value together have only the predefined length, if the AI's start has one. The row has the form that
 /// the table requires.
 #[tactic(auto, unfolding(crate::specs::Tables::is_row, crate::specs::Tables::keeps_predefined))]
-fn keeps_predefined(predefined: &Predefined, row: &AiRow) -> bool
+fn keeps_predefined(row: &AiRow) -> bool
     requires { is_row row.now ≡ true }
     ensures { result ≡ keeps_predefined row.now }
 {
     let parts = row.parts.items();
     let code = row.code.as_bytes();
-    match predefined.length_of(code) {
+    match predefined_length(code) {
         Some(n) => {
             let greatest = greatest_length_of(parts);
             least_length_of(parts) == greatest && code.len() + greatest == n

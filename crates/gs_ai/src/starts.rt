@@ -1,13 +1,11 @@
-ghost use Rattle.std.specs.Prelude.{◌≡◌, ◌<◌, IfOk, IfSome, map, filter, ◌≤◌, IsTrue, length};
+ghost use Rattle.std.specs.Prelude.{◌≡◌, ◌<◌, ◌==◌, IfOk, IfSome, map, filter, find, option_map};
 ghost use Rattle.std.specs.List.{enumerate_from};
 ghost use Rattle.gs_ai.specs.TablesSupport.{two_digits, starts_at, places_at, AreStarts};
-ghost use Rattle.gs_chars.specs.Characters.{are_digits};
-ghost use Rattle.gs_ai.specs.PredefinedLengths.{predefined_length};
+ghost use Rattle.gs_ai.specs.PredefinedLengths.{predefined_length, predefined_lengths};
 
 use crate::row::AiRow;
-use gs_chars::{List, Memory, Rows};
+use gs_chars::{List, Memory};
 use std::alloc::Global;
-use std::marker::Model;
 
 /// Returns the number of the first two digits of the text, if there are two digits.
 pub fn two_digits(text: &[u8]) -> Option<usize>
@@ -56,51 +54,30 @@ pub fn starts_of(alloc: Global, rows: &[AiRow]) -> Result<Vec<List<usize>>, Memo
     Ok(starts)
 }
 
-/// The first two digits of the codes of predefined length, as numbers.
-const STARTS: [u32; 22] = [
-    0, 1, 2, 3, 4, 11, 12, 13, 14, 15, 16, 17, 18, 19, 20, 31, 32, 33, 34, 35, 36, 41,
-];
-
-/// The lengths of code and value together, in the order of the starts.
-const LENGTHS: [usize; 22] = [
-    20, 16, 16, 16, 18, 8, 8, 8, 8, 8, 8, 8, 8, 8, 4, 10, 10, 10, 10, 10, 10, 16,
-];
-
-/// The starts of predefined length, as rows.
-#[derive(Drop)]
-pub struct Predefined {
-    starts: Rows<22>,
-}
-
-impl Model for Predefined {
-    ghost use Rattle.std.specs.Prelude.{◌≡◌};
-    ghost use Rattle.gs_ai.specs.declared.starts.TheConstants.{STARTS};
-
-    ghost Value = { Unit {0} };
-
-    ghost view = { λ _. tt };
-
-    ghost invariant = { λ a. a.starts ≡ STARTS };
-}
-
-impl Predefined {
-    /// Returns the rows of the list.
-    pub fn new() -> Predefined {
-        match Rows::new(STARTS) {
-            Some(starts) => Predefined { starts },
-            None => unreachable!(),
-        }
+/// Returns the length of AI and value together by the number of the AI's first two digits, if it is in the list.
+fn length_at(start: usize) -> Option<usize>
+    ensures { result ≡ option_map (λ row. row.1) (find (λ row. row.0 == start) predefined_lengths) }
+{
+    match start {
+        0 => Some(20),
+        1..=3 | 41 => Some(16),
+        4 => Some(18),
+        11..=19 => Some(8),
+        20 => Some(4),
+        31..=36 => Some(10),
+        _ => None,
     }
+}
 
-    /// Returns the length of AI and value together, if the AI's first two digits are in the list. Returns `None` if and only if
-    /// they are not. The AI has at least two digits.
-    pub fn length_of(&self, code: &[u8]) -> Option<usize>
-        requires long { 2 ≤ length code.now }
-        requires digits { IsTrue (are_digits code.now) }
-        ensures { result ≡ predefined_length code.now }
-    {
-        let start = 10 * u32::from(code[0] - b'0') + u32::from(code[1] - b'0');
-        let i = self.starts.find(start)?;
-        Some(LENGTHS[i])
+/// Returns the length of AI and value together, if the AI's first two digits are in the list. Returns `None` if and only if
+/// they are not.
+pub fn predefined_length(code: &[u8]) -> Option<usize>
+    ensures { result ≡ predefined_length code.now }
+{
+    match code {
+        [a, b, ..] => length_at(
+            10 * usize::from(a.saturating_sub(b'0')) + usize::from(b.saturating_sub(b'0')),
+        ),
+        _ => None,
     }
 }

@@ -7,7 +7,7 @@ ghost use Rattle.gs_ai.specs.Values.{has_code, row_error, value_error};
 use crate::errors::{AiFault, ValueFault};
 use crate::row::AiRow;
 use crate::rules::check_rows;
-use crate::starts::{Predefined, starts_of, two_digits};
+use crate::starts::{predefined_length, starts_of, two_digits};
 use crate::value::parts_ok;
 use gs_chars::List;
 use std::alloc::Global;
@@ -18,17 +18,12 @@ use std::marker::Model;
 pub struct AiTable {
     rows: List<AiRow>,
     starts: List<List<usize>>,
-    predefined: Predefined,
 }
 
 // by hand, so that a function that drops one calls this one: a derived drop is written out at each of its exits
 impl Drop for AiTable {
     fn drop(self) {
-        let AiTable {
-            rows: _,
-            starts: _,
-            predefined: _,
-        } = self;
+        let AiTable { rows: _, starts: _ } = self;
     }
 }
 
@@ -54,15 +49,13 @@ impl AiTable {
         ensures rejected { IfErr result (λ error. error ≢ AiFault.Memory
             → slice_get (table_errors rows.items) 0 ≡ Some error) }
     {
-        let predefined = Predefined::new();
-        check_rows(&predefined, rows.as_slice())?;
+        check_rows(rows.as_slice())?;
         let Ok(starts) = starts_of(alloc, rows.as_slice()) else {
             return Err(AiFault::Memory);
         };
         Ok(AiTable {
             rows: List::from_vec(rows),
             starts: List::from_vec(starts),
-            predefined,
         })
     }
 
@@ -146,8 +139,7 @@ impl AiTable {
         requires { row < length self.now }
         ensures { result ≡ option_and_then (λ r. predefined_length r.code) (slice_get self.now row) }
     {
-        self.predefined
-            .length_of(self.rows.items()[row].code.as_bytes())
+        predefined_length(self.rows.items()[row].code.as_bytes())
     }
 
     /// Checks a value of the row's application identifier. Returns its first error: `Length`, `Char`, `Check`, `Date`, in this

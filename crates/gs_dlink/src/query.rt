@@ -1,4 +1,4 @@
-ghost use Rattle.std.specs.Prelude.{◌≡◌, ◌+◌, ◌^◌, ◌++◌, ◌≤◌, All, OnOk, drop, map, length};
+ghost use Rattle.std.specs.Prelude.{◌≡◌, ◌+◌, ◌^◌, ◌++◌, ◌≤◌, All, OnOk, map, length};
 ghost use Rattle.gs_dlink.specs.Uris.{part_pairs, query_pairs, ends_authority, separates_parts};
 ghost use Rattle.gs_dlink.specs.Values.{IsPlaced};
 ghost use Rattle.gs_dlink.specs.ValuesSupport.{written_of};
@@ -6,20 +6,8 @@ ghost use Rattle.std.specs.List.{position_or_len};
 
 use crate::value::WrittenPair;
 use gs_ai::AiTable;
-use gs_chars::{Memory, are_digits, place_of};
+use gs_chars::{Memory, after, are_digits, place_of};
 use memchr::{memchr2, memchr3};
-
-/// Returns the text after a place, and the empty text if it ends there.
-pub(crate) fn behind(text: &[u8], place: usize) -> &[u8]
-    requires { place ≤ length text.now }
-    ensures { result.now ≡ drop (place + 1) text.now }
-{
-    if place < text.len() {
-        &text[place + 1..]
-    } else {
-        &text[place..]
-    }
-}
 
 /// Appends the pair of a part of a query, if its name is digits.
 fn push_part<'a>(
@@ -42,7 +30,7 @@ fn push_part<'a>(
         at,
         row: table.find(code),
         code,
-        value: behind(part, name),
+        value: after(part, name),
     })?;
     Ok(())
 }
@@ -69,7 +57,7 @@ pub(crate) fn push_query<'a>(
             return Ok(());
         }
         at += end + 1;
-        rest = behind(rest, end);
+        rest = after(rest, end);
     }
 }
 

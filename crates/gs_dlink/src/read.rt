@@ -9,10 +9,10 @@ ghost use Rattle.gs_chars.specs.Answers.{OrError};
 
 use crate::error::LinkFault;
 use crate::path::key_path;
-use crate::query::{authority_len, behind, push_query};
+use crate::query::{authority_len, push_query};
 use crate::value::{WrittenPair, read_pair};
 use gs_ai::{AiTable, Pair};
-use gs_chars::{List, place_of};
+use gs_chars::{List, after, place_of};
 use std::alloc::Global;
 
 /// Returns the pairs that a link names: those of its key path, then those of its query (GS1 Digital Link URI Syntax, section
@@ -112,7 +112,7 @@ fn read_at<'a>(
     let Some(mut written) = key_path(alloc, table, at, path)? else {
         return Err(LinkFault::NoKeyPath);
     };
-    push_query(table, &mut written, at + end + 1, behind(text, end))?;
+    push_query(table, &mut written, at + end + 1, after(text, end))?;
     read_pairs(alloc, table, written.as_slice())
 }
 

@@ -149,9 +149,7 @@ impl<'a> Node<'a> {
         ensures memory { IfErr result (λ e. e ≡ JsonFault.Memory) }
     {
         let value: &'a Value = self.value;
-        let Some(items) = value.as_array() else {
-            unreachable!();
-        };
+        let items = value.as_array().unwrap();
         Ok(Node {
             value: &items[i],
             place: self.place.then(alloc, Step::Item(i))?,

@@ -12,7 +12,7 @@ pub loop-at-preserved : goal.loop-at-preserved
 loop-at-preserved c =
     let low : c.part_len-end.result < length c.loop-at.rest.now = let w = c.part_len-end.ensures.within in let other = c.if-end-rest.false in omega arith in
     record {
-      all = rw c.behind-rest.ensures (query_goes_on _ (map written_of c.loop-at.pairs.items) (map written_of c.push_part.new.pairs.items) c.loop-at.at c.loop-at.rest.now c.part_len-end.result c.loop-at.invariant.all c.part_len-end.ensures.place c.in_ok-push_part.ensures.pairs low);
-      within = rw c.behind-rest.ensures (let w = c.loop-at.invariant.within in omega (arith, length-drop (c.part_len-end.result + 1) c.loop-at.rest.now));
+      all = rw c.after-rest.ensures (query_goes_on _ (map written_of c.loop-at.pairs.items) (map written_of c.push_part.new.pairs.items) c.loop-at.at c.loop-at.rest.now c.part_len-end.result c.loop-at.invariant.all c.part_len-end.ensures.place c.in_ok-push_part.ensures.pairs low);
+      within = rw c.after-rest.ensures (let w = c.loop-at.invariant.within in omega (arith, length-drop (c.part_len-end.result + 1) c.loop-at.rest.now));
       placed = c.in_ok-push_part.ensures.placed;
     }

@@ -10,8 +10,8 @@ returns-then-not-is_rooted c =
 pub returns : goal.returns
 returns c =
     pairs_found c.args.table.now c.args.at c.args.text.now c.place_of.result c.place_of-end.result c.place_of.ensures.place c.place_of-end.ensures.place
-    (map written_of c.in-Some.written.items) (map written_of c.push_query.new.pairs.items) c.behind.result.now c.read_pairs.result c.place_of-end.ensures.within (sym c.is_rooted.ensures ∙ c.if-not-is_rooted.false)
-    (rw c.in-Some.is at c.in_ok-written.ensures.path) c.behind.ensures c.in_ok-push_query.ensures.pairs (rw c.as_slice.ensures.value at c.read_pairs.ensures)
+    (map written_of c.in-Some.written.items) (map written_of c.push_query.new.pairs.items) c.after.result.now c.read_pairs.result c.place_of-end.ensures.within (sym c.is_rooted.ensures ∙ c.if-not-is_rooted.false)
+    (rw c.in-Some.is at c.in_ok-written.ensures.path) c.after.ensures c.in_ok-push_query.ensures.pairs (rw c.as_slice.ensures.value at c.read_pairs.ensures)
 
 pub returns-in_default : goal.returns-in_default
 returns-in_default c =

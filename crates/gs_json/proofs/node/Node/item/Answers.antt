@@ -6,15 +6,15 @@ use Rattle.gs_json.proofs.node.Node.item.Goals as goal
 
 pub index-requires : goal.index-requires
 index-requires c =
-    let size = count_is _ _ c.in-Some.ensures in
+    let size = count_is _ _ (rw c.unwrap-items.ensures at c.as_array.ensures) in
     let within = rw (← c.self.view_is) at c.requires in
-    let items = c.in-Some.items.now in
+    let items = c.unwrap-items.result.now in
     let len : vec_len items ≡ length items.items = search rules in
     omega arith
 
 pub returns-clause-item : goal.returns-clause-item
 returns-clause-item c =
-    let size = count_is _ _ c.in-Some.ensures in
+    let size = count_is _ _ (rw c.unwrap-items.ensures at c.as_array.ensures) in
     let within = rw (← c.self.view_is) at c.requires in
-    let below : c.args.i < length c.in-Some.items.now.items = omega arith in
-    rw (← c.self.view_is) (ap (λ v. Some (view v)) c.index.ensures ∙ item_found _ _ c.args.i c.index.result.now c.in-Some.ensures below)
+    let below : c.args.i < length c.unwrap-items.result.now.items = omega arith in
+    rw (← c.self.view_is) (ap (λ v. Some (view v)) c.index.ensures ∙ item_found _ _ c.args.i c.index.result.now (rw c.unwrap-items.ensures at c.as_array.ensures) below)
