@@ -20,7 +20,13 @@ pub(crate) fn whole_head(head: &[u8], spans: &mut [HeaderSpan]) -> Option<Reques
         (λ parts. (h : RequestHead) × IsWhole head.now h × IsRequestAt head.now spans.new parts h) }
 {
     match parse_request(head, spans) {
-        Ok(Status::Complete(parts)) if parts.len == head.len() => Some(parts),
+        Ok(Status::Complete(parts)) => {
+            if parts.len == head.len() {
+                Some(parts)
+            } else {
+                None
+            }
+        }
         _ => None,
     }
 }

@@ -81,6 +81,13 @@ fn sent_body(head_only: bool, body: &[u8]) -> &[u8]
     if head_only { &[] } else { body }
 }
 
+/// Returns the bytes of the parts, one part after another.
+fn joined(alloc: Global, parts: &[&[u8]]) -> Result<Text, Memory>
+    ensures { IfOk result (λ text. text ≡ flat_map (λ part. part.now) parts.now) }
+{
+    Ok(Text::from_vec(parts.concat(alloc)?))
+}
+
 /// Returns the bytes of a reply, given its length field, the end of its head and the sent part of its content.
 fn written<'p>(
     alloc: Global,
@@ -95,7 +102,7 @@ fn written<'p>(
 {
     let (name, value, close) = own_field(answer);
     let parts = [status_line(answer), name, value, close, length, end, body];
-    Ok(Text::from_vec(parts.concat(alloc)?))
+    joined(alloc, &parts)
 }
 
 /// Returns the bytes of a reply.
