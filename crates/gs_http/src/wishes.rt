@@ -6,11 +6,11 @@ ghost use Rattle.gs_http.specs.Wishes.{wish_named, wish_of, wish_unnamed, is_lin
 ghost use Rattle.std.specs.List.{find, slice_split};
 ghost use Rattle.gs_dlink.specs.Uris.{separates_parts};
 
-use crate::cuts::{after, before, behind, query_of};
+use crate::cuts::{before, behind, query_of};
 use crate::documents::LinksetForm;
 use crate::request::Request;
 use crate::resolver::Resolver;
-use gs_chars::{CowText, Memory, Text};
+use gs_chars::{CowText, Memory, Text, after};
 use gs_dlink::part_len;
 use gs_links::expand;
 use percent_encoding::percent_decode;
