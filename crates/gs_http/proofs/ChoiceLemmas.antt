@@ -10,7 +10,6 @@ use Rattle.gs_links.specs.Choices.{chosen, is_candidate}
 use Rattle.gs_links.specs.Documents.{linked}
 use Rattle.gs_links.specs.Languages.{matches, narrowed}
 use Rattle.gs_links.specs.declared.link.Link.{Link}
-use Rattle.gs_links.specs.declared.link.Want.{Want}
 use Rattle.gs_links.specs.declared.link.Want.TheVariants.{All as AllRelations, Relation as RelationOf}
 use Rattle.gs_http.specs.Forms.{rendered_as}
 use Rattle.gs_http.specs.References.{reference_for}
