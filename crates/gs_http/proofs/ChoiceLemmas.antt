@@ -10,7 +10,6 @@ use Rattle.gs_links.specs.Choices.{chosen, is_candidate}
 use Rattle.gs_links.specs.Documents.{linked}
 use Rattle.gs_links.specs.Languages.{matches, narrowed}
 use Rattle.gs_links.specs.declared.link.Link.{Link}
-use Rattle.gs_links.specs.declared.link.Want.{Want}
 use Rattle.gs_links.specs.declared.link.Want.TheVariants.{All as AllRelations, Relation as RelationOf}
 use Rattle.gs_http.specs.Forms.{rendered_as}
 use Rattle.gs_http.specs.References.{reference_for}
@@ -18,7 +17,7 @@ use Rattle.gs_http.specs.declared.documents.LinksetForm.{LinksetForm}
 use Rattle.gs_http.specs.declared.documents.Rendered.{Rendered}
 use Rattle.gs_linkset.specs.WrittenTrees.{written}
 use Rattle.gs_http.specs.Answers.{by_elements, by_linkset, by_relation, choices, linkset, of_relation, redirect, sent_document}
-use Rattle.gs_http.specs.Lookups.{numbers_for}
+use Rattle.gs_http.specs.Lookups.{AreChosen, numbers_for}
 use Rattle.gs_http.specs.Wishes.{Wish, for_linkset, for_relation}
 
 pub same_want : (links : List Link) (identity : Elements) (name : List ℕ) (lent : Bor (List ℕ)) → lent.now ≡ name
@@ -69,7 +68,7 @@ narrowed_few links (i ∷ j ∷ numbers) (range ∷ ranges) few = absurd (omega 
 -- they are chosen, and narrowed
 pub numbers_narrowed : (links : List Link) (ranges : List (List ℕ)) (identity : Elements) (wish : Wish) (numbers : List ℕ)
     → numbers ≡ numbers_for links ranges identity wish
-    → (want : Want) × (others : List (List ℕ)) × (numbers ≡ narrowed links (chosen links identity want) others)
+    → AreChosen links identity numbers
 numbers_narrowed links ranges identity (for_linkset form) numbers e = (AllRelations, [], e)
 numbers_narrowed links ranges identity (for_relation name) numbers e = (of_relation name, ranges, e)
 

@@ -1,24 +1,22 @@
 -- What the fields so far say, field by field.
 use Rattle.std.proofs.Common.{◌≡◌, ℕ, ◌||◌, Bool, true, false, if◌then◌else◌, List, [], ◌∷◌, ◌++◌, length, map, Option, Some, None, refl, sym, ap, ◌∙◌, inl, inr, subst}
 use Rattle.std.specs.Prelude.{All, codes}
-use Rattle.std.specs.List.{flat_map}
+use Rattle.std.specs.List.{flat_map, list_any}
 use Rattle.std.proofs.lemmas.List.Elements.{All-tail}
 use Rattle.gs_chars.proofs.TruthsAndLists.{true_or_false}
 use Rattle.httparse.specs.Spans.{IsHeaderWithin, header_bytes}
 use Rattle.httparse.specs.declared.spans.HeaderSpan.{HeaderSpan}
 use Rattle.gs_http.specs.AcceptedForms.{accepted_form, field_forms, first_form}
-use Rattle.gs_http.specs.Fields.{is_shown, is_word, shows}
+use Rattle.gs_http.specs.Fields.{is_word, shows_body, shows_end}
 use Rattle.gs_http.specs.LanguageRanges.{language_values}
 use Rattle.gs_http.specs.SaidFields.{Adds, Says, or_fields, or_form}
 use Rattle.gs_http.specs.declared.documents.LinksetForm.{LinksetForm}
-use Rattle.gs_http.specs.declared.fields.Sign.TheVariants.{Encoded, Sized, Closes}
 use Rattle.gs_http.specs.declared.said.Said.{Said}
 
 -- the fields so far say this, and others are left
 pub record SaysSoFar (said : Said) (head : List ℕ) (all rest : List HeaderSpan) : Type 0 where
-  pub encoded : is_shown Encoded (map (header_bytes head) all) ≡ (said.encoded || is_shown Encoded (map (header_bytes head) rest))
-  pub sized : is_shown Sized (map (header_bytes head) all) ≡ (said.sized || is_shown Sized (map (header_bytes head) rest))
-  pub closes : is_shown Closes (map (header_bytes head) all) ≡ (said.closes || is_shown Closes (map (header_bytes head) rest))
+  pub has_body : list_any shows_body (map (header_bytes head) all) ≡ (said.has_body || list_any shows_body (map (header_bytes head) rest))
+  pub closes : list_any shows_end (map (header_bytes head) all) ≡ (said.closes || list_any shows_end (map (header_bytes head) rest))
   pub form : accepted_form (map (header_bytes head) all) ≡ or_form said.form (accepted_form (map (header_bytes head) rest))
   pub languages : language_values (map (header_bytes head) all) ≡ language_values (map (header_bytes head) (or_fields said.languages.now rest))
   pub within : All (IsHeaderWithin (length head)) said.languages.now
@@ -90,9 +88,8 @@ module _ (head : List ℕ) (field : HeaderSpan) (rest : List HeaderSpan) where
       let more = map (header_bytes head) rest in
       let language = next_languages old.languages.now new.languages.now _ s.languages s.within s.left a.languages in
       record {
-        encoded = s.encoded ∙ or_next old.encoded (shows Encoded here) (is_shown Encoded more) ∙ ap (λ b. b || is_shown Encoded more) (sym a.encoded);
-        sized = s.sized ∙ or_next old.sized (shows Sized here) (is_shown Sized more) ∙ ap (λ b. b || is_shown Sized more) (sym a.sized);
-        closes = s.closes ∙ or_next old.closes (shows Closes here) (is_shown Closes more) ∙ ap (λ b. b || is_shown Closes more) (sym a.closes);
+        has_body = s.has_body ∙ or_next old.has_body (shows_body here) (list_any shows_body more) ∙ ap (λ b. b || list_any shows_body more) (sym a.has_body);
+        closes = s.closes ∙ or_next old.closes (shows_end here) (list_any shows_end more) ∙ ap (λ b. b || list_any shows_end more) (sym a.closes);
         form = s.form ∙ ap (or_form old.form) (first_joined (field_forms here) (flat_map field_forms more)) ∙ or_form_next old.form
             (first_form (field_forms here)) (accepted_form more)
             ∙ ap (λ form. or_form form (accepted_form more)) (sym a.form);
@@ -110,8 +107,7 @@ says_step head fields all others field old new name value first n v s a = says_n
 -- no field is left
 pub says_all : (said : Said) (head : List ℕ) (all : List HeaderSpan) → SaysSoFar said head all [] → Says said head all
 says_all said head all s = record {
-  encoded = sym (s.encoded ∙ or_no said.encoded);
-  sized = sym (s.sized ∙ or_no said.sized);
+  has_body = sym (s.has_body ∙ or_no said.has_body);
   closes = sym (s.closes ∙ or_no said.closes);
   form = sym (s.form ∙ or_form_none said.form);
   languages = sym (s.languages ∙ ap (λ (fields : List HeaderSpan). language_values (map (header_bytes head) fields)) (or_fields_none said.languages.now));

@@ -1,10 +1,8 @@
 -- Header fields: RFC 9110, sections 5.1 (names) and 5.6.1 (lists). Which of them matter is this project's own.
-use Rattle.std.specs.Prelude.{ℕ, ◌==◌, ◌&&◌, not, Bool, List, map, codes, bytes_eq}
+use Rattle.std.specs.Prelude.{ℕ, ◌==◌, ◌&&◌, ◌||◌, not, Bool, List, map, codes, bytes_eq}
 use Rattle.std.specs.Char.{to_ascii_lowercase}
 use Rattle.std.specs.List.{list_any, slice_split}
 use Rattle.httparse.specs.Grammar.{trim_ows}
-use Rattle.gs_http.specs.declared.fields.Sign.{Sign}
-use Rattle.gs_http.specs.declared.fields.Sign.TheVariants.{Encoded, Sized, Closes}
 
 -- trusted, RFC 9110, section 5.1: holds if `text` is `word`, which has no capital letters, case-insensitively
 abbrev pub is_word : List ℕ → List ℕ → Bool
@@ -26,12 +24,13 @@ is_close part = is_word (codes "close") (trim_ows part)
 abbrev pub has_close : List ℕ → Bool
 has_close value = list_any is_close (slice_split is_comma value)
 
--- trusted, own: holds if `field`, a name and a value without the white space around it, shows the sign
-abbrev pub shows : Sign → List ℕ × List ℕ → Bool
-shows Encoded field = is_word (codes "transfer-encoding") field.0
-shows Sized field = is_word (codes "content-length") field.0 && not (bytes_eq field.1 (codes "0"))
-shows Closes field = is_word (codes "connection") field.0 && has_close field.1
+-- trusted, RFC 9112, section 6: holds if `field`, a name and a value without the white space around it, shows a message body: a
+-- transfer coding, or a length that is not written `0`
+abbrev pub shows_body : List ℕ × List ℕ → Bool
+shows_body field =
+    is_word (codes "transfer-encoding") field.0
+    || (is_word (codes "content-length") field.0 && not (bytes_eq field.1 (codes "0")))
 
--- trusted, own: holds if one of `fields` shows `sign`
-abbrev pub is_shown : Sign → List (List ℕ × List ℕ) → Bool
-is_shown sign fields = list_any (shows sign) fields
+-- trusted, RFC 9112, section 9.6: holds if `field` shows that the connection ends
+abbrev pub shows_end : List ℕ × List ℕ → Bool
+shows_end field = is_word (codes "connection") field.0 && has_close field.1

@@ -4,8 +4,7 @@ use Rattle.std.specs.Prelude.{◌≡◌, ◌≤◌, ℕ, ◌==◌, ◌&&◌, ◌
 use Rattle.std.specs.List.{list_any, zip}
 use Rattle.httparse.specs.Grammar.{ReadsRequest, RequestHead}
 use Rattle.httparse.specs.Spans.{name_and_value}
-use Rattle.gs_http.specs.declared.fields.Sign.TheVariants.{Encoded, Sized}
-use Rattle.gs_http.specs.Fields.{is_shown}
+use Rattle.gs_http.specs.Fields.{shows_body}
 
 -- trusted, RFC 9112, section 3: the contents of a request: its method, its target, the minor version of HTTP/1, and the names
 -- and values of its fields.
@@ -38,7 +37,7 @@ has_bare_line_feed head = list_any is_bare_line_feed (zip (0 ∷ head) head)
 
 -- trusted, own: holds if the whole head is not answered: it has a bare line feed, or `fields` show a message body
 unfoldable pub is_rejected : List ℕ → List (List ℕ × List ℕ) → Bool
-is_rejected head fields = has_bare_line_feed head || (is_shown Encoded fields || is_shown Sized fields)
+is_rejected head fields = has_bare_line_feed head || list_any shows_body fields
 
 -- trusted, own: holds if `head` is that of a request that is answered, and `asked` is its contents
 pub record IsAskedBy (head : List ℕ) (asked : Asked) : Type 0 where

@@ -1,22 +1,17 @@
 -- The meanings of the values that this crate makes and lends.
-use Rattle.std.specs.Prelude.{◌≡◌, ⊤, ℕ, List, map, Result, Ok, Err}
+use Rattle.std.specs.Prelude.{◌≡◌, ℕ, List, map}
 use Rattle.httparse.specs.Grammar.{RequestHead}
 use Rattle.httparse.specs.Spans.{IsRequestAt, header_bytes}
 use Rattle.httparse.specs.declared.spans.HeaderSpan.{HeaderSpan}
 use Rattle.httparse.specs.declared.spans.RequestSpans.{RequestSpans}
 use Rattle.gs_http.specs.declared.answer.Answer.{Answer as Lent}
 use Rattle.gs_http.specs.declared.answer.Answer.TheVariants.{Description, Linkset, Choices, Redirect, BadRequest, NotFound, NotAllowed}
-use Rattle.gs_http.specs.declared.answer.RequestFault.{RequestFault}
-use Rattle.gs_http.specs.declared.answer.RequestFault.TheVariants as fault
-use Rattle.gs_http.specs.declared.wishes.RelationName.{RelationName}
-use Rattle.gs_http.specs.declared.wishes.RelationName.TheVariants.{Made, Lent as LentName}
 use Rattle.gs_http.specs.declared.wishes.Wish.{Wish as LentWish}
 use Rattle.gs_http.specs.declared.wishes.Wish.TheVariants.{Relation as OfRelation, Linkset as OfLinkset}
 use Rattle.gs_http.specs.declared.request.Request.{Request}
 use Rattle.gs_http.specs.Answers.{Answer, described, linkset, choices, redirect, bad_request, not_found, not_allowed}
 use Rattle.gs_http.specs.Heads.{Asked, asked_of}
 use Rattle.gs_http.specs.Wishes.{Wish, for_linkset, for_relation}
-use Rattle.gs_http.specs.References.{reference_of}
 
 -- the contents of the request that this crate lends
 abbrev pub asked_by : Request → Asked
@@ -31,29 +26,12 @@ abbrev pub said : Lent → Answer
 said (Description text) = described text.now
 said (Linkset sent) = linkset sent
 said (Choices text) = choices text
-said (Redirect reference) = redirect (reference_of reference)
+said (Redirect reference) = redirect reference
 said BadRequest = bad_request
 said NotFound = not_found
 said NotAllowed = not_allowed
 
--- holds if the answer is that to a request with this fault; any, if memory ran out
-abbrev pub Refuses : RequestFault → Answer → Type 0
-Refuses fault.BadRequest answer = answer ≡ bad_request
-Refuses fault.NotFound answer = answer ≡ not_found
-Refuses fault.NotAllowed answer = answer ≡ not_allowed
-Refuses fault.Memory answer = ⊤
-
--- holds if the result has this answer
-abbrev pub Gives : Result Lent RequestFault → Answer → Type 0
-Gives (Ok lent) answer = said lent ≡ answer
-Gives (Err refused) answer = Refuses refused answer
-
--- the bytes of a name that was made or is lent
-abbrev pub name_of : RelationName → List ℕ
-name_of (Made name) = name
-name_of (LentName name) = name.now
-
 -- the wish, with a name that is owned or lent
 abbrev pub wished : LentWish → Wish
-wished (OfRelation name) = for_relation (name_of name)
+wished (OfRelation name) = for_relation name
 wished (OfLinkset form) = for_linkset form

@@ -6,13 +6,6 @@ use Rattle.gs_linkset.specs.declared.link_types.Context.{Context}
 use Rattle.gs_linkset.specs.declared.link_types.Relation.{Relation}
 use Rattle.gs_linkset.specs.declared.link_types.Target.{Target}
 use Rattle.gs_template.specs.Templates.{filled}
-use Rattle.gs_http.specs.declared.documents.Reference.{Reference}
-use Rattle.gs_http.specs.declared.documents.Reference.TheVariants.{Made, Lent}
-
--- trusted, own: the bytes of a reference that was made or is lent
-abbrev pub reference_of : Reference → List ℕ
-reference_of (Made text) = text
-reference_of (Lent bytes) = bytes.now
 
 -- trusted, own: the target URI for an identity: with its places filled if it is a template, otherwise unchanged
 abbrev pub reference_for : Bool → Elements → List ℕ → List ℕ

@@ -1,15 +1,15 @@
 -- The bytes of a reply: RFC 9112, sections 4 and 5, and RFC 9110, sections 8.3, 8.6, 10.2.1 and 10.2.2. The choice of fields and
 -- their order is this project's own.
+use Rattle.std.specs.List.{list_any}
 use Rattle.std.specs.Prelude.{◌≡◌, ℕ, ◌==◌, ◌||◌, Bool, true, false, if◌then◌else◌, List, [], ◌∷◌, ◌++◌, codes, length, decimal, Option, Some, None}
 use Rattle.gs_ai.specs.declared.row.AiRow.{AiRow}
 use Rattle.gs_links.specs.declared.link.Link.{Link}
 use Rattle.gs_http.specs.declared.replies.Reply.{Reply}
 use Rattle.gs_http.specs.declared.resolver.Settings.{Settings}
-use Rattle.gs_http.specs.declared.fields.Sign.TheVariants.{Closes}
 use Rattle.gs_http.specs.declared.documents.LinksetForm.{LinksetForm}
 use Rattle.gs_http.specs.declared.documents.LinksetForm.TheVariants.{Json, Text}
 use Rattle.gs_http.specs.Answers.{Answer, described, linkset, choices, redirect, bad_request, not_found, not_allowed, answer_of, is_head}
-use Rattle.gs_http.specs.Fields.{is_shown}
+use Rattle.gs_http.specs.Fields.{shows_end}
 use Rattle.gs_http.specs.Heads.{Asked, IsAsked}
 
 -- trusted, RFC 9112, section 2.1: the line of `text` with its end
@@ -73,7 +73,7 @@ reply_bytes head_only close answer =
 -- trusted, RFC 9112, section 9.3: holds if the connection ends with the reply: it is the last, the request is of HTTP/1.0, or a
 -- field asks for it
 abbrev pub closes : Bool → Asked → Bool
-closes last asked = last || ((asked.minor == 0) || is_shown Closes asked.fields)
+closes last asked = last || ((asked.minor == 0) || list_any shows_end asked.fields)
 
 -- trusted, own: The reply to the facts of a head, or 400 if it is not the head of a request. `last` says that the connection ends
 -- with it anyway.

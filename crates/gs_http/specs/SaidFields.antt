@@ -1,15 +1,14 @@
 -- What the header fields of a request say, found in one pass, for private functions.
 use Rattle.std.specs.Prelude.{◌≡◌, ℕ, ◌||◌, if◌then◌else◌, List, [], ◌∷◌, map, length, codes, Option, Some, None, All}
 use Rattle.std.specs.Borrow.{Bor}
-use Rattle.std.specs.List.{slice_split}
+use Rattle.std.specs.List.{list_any, slice_split}
 use Rattle.httparse.specs.Spans.{IsHeaderWithin, header_bytes}
 use Rattle.httparse.specs.declared.spans.HeaderSpan.{HeaderSpan}
 use Rattle.gs_http.specs.declared.fields.Members.{Members}
-use Rattle.gs_http.specs.declared.fields.Sign.TheVariants.{Encoded, Sized, Closes}
 use Rattle.gs_http.specs.declared.documents.LinksetForm.{LinksetForm}
 use Rattle.gs_http.specs.declared.said.Said.{Said}
 use Rattle.gs_http.specs.AcceptedForms.{accepted_form, field_forms, first_form}
-use Rattle.gs_http.specs.Fields.{is_comma, is_shown, is_word, shows}
+use Rattle.gs_http.specs.Fields.{is_comma, is_word, shows_body, shows_end}
 use Rattle.gs_http.specs.LanguageRanges.{language_values}
 
 -- the members of the part of a value that is left, if one is
@@ -33,17 +32,15 @@ or_fields (field ∷ first) fields = field ∷ first
 
 -- holds if a field was added, with which the last list begins
 pub record Adds (old new : Said) (field : List ℕ × List ℕ) (from : List HeaderSpan) : Type 0 where
-  pub encoded : new.encoded ≡ (old.encoded || shows Encoded field)
-  pub sized : new.sized ≡ (old.sized || shows Sized field)
-  pub closes : new.closes ≡ (old.closes || shows Closes field)
+  pub has_body : new.has_body ≡ (old.has_body || shows_body field)
+  pub closes : new.closes ≡ (old.closes || shows_end field)
   pub form : new.form ≡ or_form old.form (first_form (field_forms field))
   pub languages : new.languages.now ≡ (if is_word (codes "accept-language") field.0 then or_fields old.languages.now from else old.languages.now)
 
 -- holds if each is the value that its definition gives for the fields of the head
 pub record Says (said : Said) (head : List ℕ) (fields : List HeaderSpan) : Type 0 where
-  pub encoded : said.encoded ≡ is_shown Encoded (map (header_bytes head) fields)
-  pub sized : said.sized ≡ is_shown Sized (map (header_bytes head) fields)
-  pub closes : said.closes ≡ is_shown Closes (map (header_bytes head) fields)
+  pub has_body : said.has_body ≡ list_any shows_body (map (header_bytes head) fields)
+  pub closes : said.closes ≡ list_any shows_end (map (header_bytes head) fields)
   pub form : said.form ≡ accepted_form (map (header_bytes head) fields)
   pub languages : language_values (map (header_bytes head) said.languages.now) ≡ language_values (map (header_bytes head) fields)
   pub within : All (IsHeaderWithin (length head)) said.languages.now

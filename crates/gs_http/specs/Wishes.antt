@@ -1,5 +1,5 @@
 -- Which links a request asks for: GS1-Conformant Resolver, `linkType` and linksets. The exact conditions are this project's own.
-use Rattle.std.specs.Prelude.{ℕ, ◌||◌, if◌then◌else◌, Bool, List, codes, Option, Some, None, option_map, bytes_eq}
+use Rattle.std.specs.Prelude.{ℕ, ◌||◌, if◌then◌else◌, Bool, List, codes, Option, Some, None, option_map, unwrap_or, bytes_eq}
 use Rattle.std.specs.List.{after_first, before_first, find, slice_split}
 use Rattle.percent_encoding.specs.Percent.{percent_decode}
 use Rattle.gs_chars.specs.Characters.{is_byte}
@@ -24,16 +24,11 @@ is_link_type part = bytes_eq (before_first (is_byte 61) part) (codes "linkType")
 abbrev pub link_type : List ℕ → Option (List ℕ)
 link_type target = option_map (after_first (is_byte 61)) (find is_link_type (slice_split separates_parts (query_of target)))
 
--- trusted, own: the accepted form of a linkset, and JSON if none is accepted
-abbrev pub form_or_json : Option LinksetForm → LinksetForm
-form_or_json None = Json
-form_or_json (Some form) = form
-
 -- trusted, GS1-Conformant Resolver: The wish of a link type. The types `linkset` and `all` ask for a linkset in the accepted
--- form, and any other for the relation of its name.
+-- form, JSON if none is accepted, and any other for the relation of its name.
 abbrev pub wish_named : List ℕ → Option LinksetForm → List ℕ → Wish
 wish_named voc accepted value =
-    if bytes_eq value (codes "linkset") || bytes_eq value (codes "all") then for_linkset (form_or_json accepted)
+    if bytes_eq value (codes "linkset") || bytes_eq value (codes "all") then for_linkset (unwrap_or accepted Json)
     else for_relation (expanded voc value)
 
 -- trusted, GS1-Conformant Resolver: the relation of a request that names none: `gs1:defaultLink`

@@ -119,7 +119,8 @@ impl Buffer {
     fn read_more<C: Conn>(&mut self, conn: &mut C) -> More
         requires current { (C.state conn.old).is_open ≡ true }
         requires few { length self.old < 8192 }
-        ensures fetches { Fetches self.old self.new (is_not_read result) (C.state conn.old) (C.state conn.new) }
+        ensures fetches { Fetches self.old self.new (is_not_read result)
+            (C.state conn.old) (C.state conn.new) }
         ensures comes { Comes result self.old self.new (C.state conn.new).left }
         ensures few { length self.new ≤ length self.old + 4096 }
     {

@@ -1,23 +1,15 @@
-ghost use Rattle.std.specs.Prelude.{◌≡◌, ◌+◌, ◌≤◌, drop, length};
+ghost use Rattle.std.specs.Prelude.{◌≡◌};
 ghost use Rattle.std.specs.List.{after_first, before_first};
 ghost use Rattle.gs_chars.specs.Characters.{is_byte};
 ghost use Rattle.gs_dlink.specs.Uris.{path_of, query_of};
 
-use gs_chars::place_of;
+use gs_chars::{after, place_of};
 
 /// Returns the text before the first such byte, or all of the text.
 pub(crate) fn before(text: &[u8], byte: u8) -> &[u8]
     ensures { result.now ≡ before_first (is_byte byte) text.now }
 {
     &text[..place_of(text, byte)]
-}
-
-/// Returns the text after a place, and the empty text if it ends there.
-pub(crate) fn after(text: &[u8], place: usize) -> &[u8]
-    requires { place ≤ length text.now }
-    ensures { result.now ≡ drop (place + 1) text.now }
-{
-    text.get(place + 1..).unwrap_or(&[])
 }
 
 /// Returns the text after the first such byte, or the empty text.

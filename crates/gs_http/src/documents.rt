@@ -1,36 +1,14 @@
 ghost use Rattle.std.specs.Prelude.{◌≡◌, IfOk, Ok, false, map, true};
 ghost use Rattle.std.specs.List.{list_all};
-ghost use Rattle.gs_http.specs.References.{document_for, reference_for, reference_of};
-ghost use Rattle.gs_http.specs.declared.documents.Reference.TheVariants.{Lent};
+ghost use Rattle.gs_http.specs.References.{document_for, reference_for};
 ghost use Rattle.gs_http.specs.Forms.{in_json, rendered_as, text_or_json};
 
-use gs_chars::{List, Memory, Text};
+use gs_chars::{CowText, List, Memory, Text};
 use gs_ident::Identity;
 use gs_linkset::{Context, LinkDoc, Relation, Target};
 use gs_linktext::LinkTextWriteFault;
 use gs_template::expand;
 use std::alloc::Global;
-
-/// The reference of a link.
-#[derive(Drop)]
-pub enum Reference<'a> {
-    /// One that was made of a template.
-    Made(Text),
-    /// The link's own target URI, unchanged.
-    Lent(&'a [u8]),
-}
-
-impl Reference<'_> {
-    /// Returns its bytes.
-    pub fn as_bytes(&self) -> &[u8]
-        ensures { result.now ≡ reference_of self.now }
-    {
-        match self {
-            Reference::Made(text) => text.as_bytes(),
-            Reference::Lent(bytes) => bytes,
-        }
-    }
-}
 
 /// Returns the target URI of a link for an identity. If target URIs are templates, its places are filled by the identity's
 /// values, as `gs_template::expand` fills them. Otherwise it is the link's own, which needs no memory. Fails only with `Memory`.
@@ -39,15 +17,15 @@ pub fn reference_for<'a>(
     templates: bool,
     identity: &Identity<'_>,
     href: &'a [u8],
-) -> Result<Reference<'a>, Memory>
-    ensures reference { IfOk result (λ reference. reference_of reference
+) -> Result<CowText<'a>, Memory>
+    ensures reference { IfOk result (λ reference. reference
         ≡ reference_for templates identity.now href.now) }
-    ensures own { templates ≡ false → result ≡ Ok (Lent href.entry) }
+    ensures own { templates ≡ false → result ≡ Ok href.now }
 {
     if !templates {
-        return Ok(Reference::Lent(href));
+        return Ok(CowText::lent(href));
     }
-    Ok(Reference::Made(expand(alloc, href, identity)?))
+    Ok(expand(alloc, href, identity)?.into())
 }
 
 /// A value with target URIs that an identity's values fill.

@@ -62,17 +62,6 @@ fn is_close(part: &[u8]) -> bool
     is_word(trimmed(part), b"close")
 }
 
-/// A fact that a field shows and that matters to the reply.
-#[derive(Clone, Copy)]
-pub(crate) enum Sign {
-    /// That the message body has a transfer coding.
-    Encoded,
-    /// That the message body has a length that is not written `0`.
-    Sized,
-    /// That the connection ends: `close` among the parts of a field `Connection`.
-    Closes,
-}
-
 /// The members of a list-valued field (RFC 9110, section 5.6.1): the parts of its value between commas.
 #[derive(Drop)]
 pub(crate) struct Members<'a> {

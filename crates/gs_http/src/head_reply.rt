@@ -7,7 +7,6 @@ ghost use Rattle.gs_http.specs.Replies.{IsReply, closes, reply_of};
 ghost use Rattle.gs_http.specs.Sites.{room_for};
 
 use crate::answer::Answer;
-use crate::fields::Sign;
 use crate::heads::{MOST_FIELDS, is_rejected, request_at, whole_head};
 use crate::replies::{Reply, reply_bytes};
 use crate::request::Request;
@@ -35,7 +34,7 @@ pub(crate) fn rejection(alloc: Global) -> Result<Reply, Memory>
 fn closes(last: bool, request: &Request<'_>) -> bool
     ensures { result ≡ closes last (asked_by request.now) }
 {
-    last || request.minor == 0 || request.shows(Sign::Closes)
+    last || request.minor == 0 || request.said.closes
 }
 
 /// Returns the reply to a request.

@@ -4,7 +4,6 @@ ghost use Rattle.httparse.specs.Spans.{IsRequestAt, IsRequestWithin};
 ghost use Rattle.gs_http.specs.Heads.{IsWhole, has_bare_line_feed, is_bare_line_feed, is_rejected, most_fields};
 ghost use Rattle.gs_http.specs.LentValues.{SaysHead, asked_by};
 
-use crate::fields::Sign;
 use crate::request::Request;
 use crate::said::Said;
 use httparse::Status;
@@ -79,5 +78,5 @@ fn has_bare_line_feed(head: &[u8]) -> bool
 pub(crate) fn is_rejected(request: &Request<'_>) -> bool
     ensures { result ≡ is_rejected request.now.head.now (asked_by request.now).fields }
 {
-    has_bare_line_feed(request.head) || request.shows(Sign::Encoded) || request.shows(Sign::Sized)
+    has_bare_line_feed(request.head) || request.said.has_body
 }

@@ -56,7 +56,7 @@ mod said;
 mod wishes;
 
 pub use connection::{Served, serve_one, serve_with};
-pub use documents::{LinksetForm, Reference, Rendered, document_for, reference_for, render};
+pub use documents::{LinksetForm, Rendered, document_for, reference_for, render};
 pub use head_reply::{reply, reply_with};
 pub use languages::language_ranges;
 pub use laws::{one_answer_to_a_stream, one_reply};

@@ -1,7 +1,5 @@
 ghost use Rattle.gs_http.specs.SaidFields.{Says};
 
-use crate::documents::LinksetForm;
-use crate::fields::Sign;
 use crate::said::Said;
 use httparse::spans::HeaderSpan;
 
@@ -21,29 +19,4 @@ pub(crate) struct Request<'a> {
     /// What its fields say.
     pub said: Said<'a>,
     ghost says: { Says said head.now fields.now },
-}
-
-impl Request<'_> {
-    ghost use Rattle.std.specs.Prelude.{◌≡◌};
-    ghost use Rattle.gs_http.specs.AcceptedForms.{accepted_form};
-    ghost use Rattle.gs_http.specs.Fields.{is_shown};
-    ghost use Rattle.gs_http.specs.LentValues.{asked_by};
-
-    /// Returns whether some field shows the sign.
-    pub(crate) fn shows(&self, sign: Sign) -> bool
-        ensures { result ≡ is_shown sign (asked_by self.now).fields }
-    {
-        match sign {
-            Sign::Encoded => self.said.encoded,
-            Sign::Sized => self.said.sized,
-            Sign::Closes => self.said.closes,
-        }
-    }
-
-    /// Returns the form of a linkset that is accepted first.
-    pub(crate) fn form(&self) -> Option<LinksetForm>
-        ensures { result ≡ accepted_form (asked_by self.now).fields }
-    {
-        self.said.form
-    }
 }

@@ -41,9 +41,7 @@ impl<'a> Model for Site<'a> {
 /// A site, with values that are made once for all requests. Contracts see the site.
 #[derive(Drop)]
 pub struct Resolver<'a> {
-    table: &'a AiTable,
-    store: &'a Store,
-    settings: &'a Settings,
+    site: &'a Site<'a>,
     /// The relation of a request that names none.
     default_relation: Text,
 }
@@ -55,28 +53,26 @@ impl<'a> Model for Resolver<'a> {
 
     ghost Value = { SiteData };
 
-    ghost view = { λ r. record { table = r.table.now; links = r.store.now; settings = r.settings.now } };
+    ghost view = { λ r. r.site.now };
 
-    ghost invariant = { λ r. r.default_relation ≡ expanded r.settings.now.voc (codes "gs1:defaultLink") };
+    ghost invariant = { λ r. r.default_relation ≡ expanded r.site.now.settings.voc (codes "gs1:defaultLink") };
 }
 
 impl<'a> Resolver<'a> {
     /// Returns the resolver of a site. Fails only with `Memory`.
-    pub fn new(alloc: Global, site: &Site<'a>) -> Result<Resolver<'a>, Memory>
+    pub fn new(alloc: Global, site: &'a Site<'a>) -> Result<Resolver<'a>, Memory>
         ensures { IfOk result (λ resolver. resolver ≡ site.now) }
     {
         let voc = site.settings.voc.as_bytes();
         let default = Text::from_bytes(alloc, b"gs1:defaultLink")?;
         Ok(Resolver {
-            table: site.table,
-            store: site.store,
-            settings: site.settings,
+            site,
             default_relation: expand(alloc, voc, default)?,
         })
     }
 
     /// Returns the resolver of a site, and its room. Fails only with `Memory`.
-    pub fn with_room(alloc: Global, site: &Site<'a>) -> Result<(Resolver<'a>, Vec<u32>), Memory>
+    pub fn with_room(alloc: Global, site: &'a Site<'a>) -> Result<(Resolver<'a>, Vec<u32>), Memory>
         ensures site { IfOk result (λ made. made.0 ≡ site.now) }
         ensures room { IfOk result (λ made. vec_len made.1 ≡ room_for site.now.links) }
     {
@@ -90,7 +86,7 @@ impl<'a> Resolver<'a> {
     pub fn room(&self, alloc: Global) -> Result<Vec<u32>, Memory>
         ensures { IfOk result (λ room. vec_len room ≡ room_for self.now.links) }
     {
-        let len = self.store.len();
+        let len = self.store().len();
         // no memory has that many numbers if their count overflows
         let Some(count) = len.checked_add(len) else {
             return Err(Memory);
@@ -103,21 +99,24 @@ impl<'a> Resolver<'a> {
     pub(crate) fn table(&self) -> &'a AiTable
         ensures { result.now ≡ self.now.table }
     {
-        self.table
+        let site = self.site;
+        site.table
     }
 
     /// Returns the links.
     pub(crate) fn store(&self) -> &'a Store
         ensures { result.now ≡ self.now.links }
     {
-        self.store
+        let site = self.site;
+        site.store
     }
 
     /// Returns the settings of replies.
     pub(crate) fn settings(&self) -> &'a Settings
         ensures { result.now ≡ self.now.settings }
     {
-        self.settings
+        let site = self.site;
+        site.settings
     }
 
     /// Returns the relation of a request that names none.

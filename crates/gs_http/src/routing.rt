@@ -1,32 +1,30 @@
-ghost use Rattle.std.specs.Prelude.{◌≡◌, ◌≤◌, ◌<◌, ◌==◌, ◌||◌, ℕ, Bool, List, IfErr, IfOk, false, length, bytes_eq, codes};
-ghost use Rattle.std.specs.Bool.{OnTrue};
-ghost use Rattle.gs_dlink.specs.Answers.{target_answer};
+ghost use Rattle.std.specs.Prelude.{◌≡◌, ◌≤◌, ◌<◌, ◌==◌, ◌||◌, All, IfOk, Ok, bytes_eq, codes, length};
+ghost use Rattle.gs_ident.specs.Identities.{IsInOrder};
 ghost use Rattle.gs_http.specs.References.{reference_for};
 ghost use Rattle.gs_http.specs.Forms.{in_json, rendered_as, text_or_json};
 ghost use Rattle.gs_links.specs.Choices.{chosen as chosen_numbers};
 ghost use Rattle.gs_links.specs.Documents.{document_of, linked};
 ghost use Rattle.gs_links.specs.Languages.{narrowed};
-ghost use Rattle.gs_links.specs.declared.link.Link.{Link as Linked};
 ghost use Rattle.gs_links.specs.declared.link.Want.{Want as Wanted};
 ghost use Rattle.gs_http.specs.Answers.{answer_of, by_elements, by_pairs, by_relation, describe, redirect};
 ghost use Rattle.gs_http.specs.Answers.{is_description, is_head, sent_document};
 ghost use Rattle.gs_http.specs.LanguageRanges.{accepted_ranges};
-ghost use Rattle.gs_http.specs.LentValues.{Gives, Refuses, asked_by, said, wished};
-ghost use Rattle.gs_http.specs.Lookups.{numbers_for};
+ghost use Rattle.gs_http.specs.LentValues.{asked_by, said, wished};
+ghost use Rattle.gs_http.specs.Lookups.{AreChosen, numbers_for};
 ghost use Rattle.gs_http.specs.Sites.{room_for};
-ghost use Rattle.gs_http.specs.Wishes.{Wish as WishOf, for_relation};
+ghost use Rattle.gs_http.specs.Wishes.{for_relation};
 
-use crate::answer::{Answer, RequestFault};
+use crate::answer::Answer;
 use crate::cuts::path_of;
 use crate::documents::{LinksetForm, Rendered, document_for, reference_for, render};
 use crate::languages::accepted_ranges;
 use crate::request::Request;
 use crate::resolver::{Resolver, Settings};
 use crate::wishes::{Wish, wish_of};
-use gs_ai::AiTable;
+use gs_ai::Pair;
 use gs_chars::Memory;
-use gs_dlink::read_target;
-use gs_ident::{Identity, make};
+use gs_dlink::{LinkFault, read_target};
+use gs_ident::{IdentFault, Identity, make};
 use gs_links::{Link, Want};
 use gs_linktext::LinkTextWriteFault;
 use std::alloc::Global;
@@ -53,32 +51,13 @@ fn is_description(target: &[u8]) -> bool
 }
 
 /// Returns the answer with the resolver description file, if there is one.
-fn describe(settings: &Settings) -> Result<Answer<'_>, RequestFault>
-    ensures { Gives result (describe settings.now.describe) }
+fn describe(settings: &Settings) -> Answer<'_>
+    ensures { said result ≡ describe settings.now.describe }
 {
     match &settings.describe {
-        Some(text) => Ok(Answer::Description(text.as_bytes())),
-        None => Err(RequestFault::NotFound),
+        Some(text) => Answer::Description(text.as_bytes()),
+        None => Answer::NotFound,
     }
-}
-
-/// Returns the identity that a target names.
-fn identity_at<'a>(
-    alloc: Global,
-    table: &AiTable,
-    target: &'a [u8],
-) -> Result<Identity<'a>, RequestFault>
-    ensures named { IfOk result (λ identity. (templates : Bool) (links : List Linked)
-        (ranges : List (List ℕ)) (wish : WishOf)
-        → by_pairs table.now templates links ranges wish (target_answer table.now 0 target.now)
-        ≡ by_elements templates links ranges identity wish) }
-    ensures refused { IfErr result (λ fault. (templates : Bool) (links : List Linked)
-        (ranges : List (List ℕ)) (wish : WishOf)
-        → Refuses fault
-        (by_pairs table.now templates links ranges wish (target_answer table.now 0 target.now))) }
-{
-    let pairs = read_target(alloc, table, target)?;
-    Ok(make(alloc, table, pairs)?)
 }
 
 /// Returns whether only one link is chosen.
@@ -156,9 +135,7 @@ impl<'q, 'a, 't> Lookup<'q, 'a, 't> {
 
     /// Returns the document of chosen links as JSON, with the links' own target URIs.
     fn own_json(&self, alloc: Global, chosen: &[u32]) -> Result<Rendered, Memory>
-        requires chosen { (want : Wanted) × (ranges : List (List ℕ))
-            × (chosen.now ≡ narrowed self.now.resolver.now.links
-            (chosen_numbers self.now.resolver.now.links self.now.identity.now want) ranges) }
+        requires chosen { AreChosen self.now.resolver.now.links self.now.identity.now chosen.now }
         requires some { 0 < length chosen.now }
         ensures { IfOk result (λ sent. sent
             ≡ in_json (document_of (linked self.now.resolver.now.links chosen.now))) }
@@ -173,9 +150,7 @@ impl<'q, 'a, 't> Lookup<'q, 'a, 't> {
     /// Returns the document of chosen links as text if each of them can be spelled, otherwise as JSON, with the links' own target
     /// URIs.
     fn own_text(&self, alloc: Global, chosen: &[u32]) -> Result<Rendered, Memory>
-        requires chosen { (want : Wanted) × (ranges : List (List ℕ))
-            × (chosen.now ≡ narrowed self.now.resolver.now.links
-            (chosen_numbers self.now.resolver.now.links self.now.identity.now want) ranges) }
+        requires chosen { AreChosen self.now.resolver.now.links self.now.identity.now chosen.now }
         requires some { 0 < length chosen.now }
         ensures { IfOk result (λ sent. sent
             ≡ text_or_json (document_of (linked self.now.resolver.now.links chosen.now))) }
@@ -201,9 +176,7 @@ impl<'q, 'a, 't> Lookup<'q, 'a, 't> {
         form: LinksetForm,
         chosen: &[u32],
     ) -> Result<Rendered, Memory>
-        requires chosen { (want : Wanted) × (ranges : List (List ℕ))
-            × (chosen.now ≡ narrowed self.now.resolver.now.links
-            (chosen_numbers self.now.resolver.now.links self.now.identity.now want) ranges) }
+        requires chosen { AreChosen self.now.resolver.now.links self.now.identity.now chosen.now }
         requires some { 0 < length chosen.now }
         ensures { IfOk result (λ sent. sent
             ≡ rendered_as form (document_of (linked self.now.resolver.now.links chosen.now))) }
@@ -216,9 +189,7 @@ impl<'q, 'a, 't> Lookup<'q, 'a, 't> {
 
     /// Returns the document of chosen links in a form. It copies the links only for templates.
     fn render(&self, alloc: Global, form: LinksetForm, chosen: &[u32]) -> Result<Rendered, Memory>
-        requires chosen { (want : Wanted) × (ranges : List (List ℕ))
-            × (chosen.now ≡ narrowed self.now.resolver.now.links
-            (chosen_numbers self.now.resolver.now.links self.now.identity.now want) ranges) }
+        requires chosen { AreChosen self.now.resolver.now.links self.now.identity.now chosen.now }
         requires some { 0 < length chosen.now }
         ensures { IfOk result (λ sent. sent ≡ rendered_as form
             (sent_document self.now.resolver.now.settings.templates self.now.identity.now
@@ -252,9 +223,7 @@ impl<'q, 'a, 't> Lookup<'q, 'a, 't> {
 
     /// Returns the answer for a relation, by the links that are chosen for the identity: at least one.
     fn by_count(&self, alloc: Global, chosen: &[u32]) -> Result<Answer<'a>, Memory>
-        requires chosen { (want : Wanted) × (ranges : List (List ℕ))
-            × (chosen.now ≡ narrowed self.now.resolver.now.links
-            (chosen_numbers self.now.resolver.now.links self.now.identity.now want) ranges) }
+        requires chosen { AreChosen self.now.resolver.now.links self.now.identity.now chosen.now }
         requires some { 0 < length chosen.now }
         ensures { IfOk result (λ answer. said answer ≡ by_relation self.now.resolver.now.settings.templates
             self.now.identity.now (linked self.now.resolver.now.links chosen.now)) }
@@ -268,56 +237,54 @@ impl<'q, 'a, 't> Lookup<'q, 'a, 't> {
     }
 
     /// Returns the answer by the links that fit the wish.
-    fn answer(&self, alloc: Global, room: &mut [u32]) -> Result<Answer<'a>, RequestFault>
+    fn answer(&self, alloc: Global, room: &mut [u32]) -> Result<Answer<'a>, Memory>
         requires { room_for self.now.resolver.now.links ≤ length room.old }
-        ensures { Gives result (by_elements self.now.resolver.now.settings.templates
+        ensures { IfOk result (λ answer. said answer ≡ by_elements self.now.resolver.now.settings.templates
             self.now.resolver.now.links (accepted_ranges (asked_by self.now.request.now).fields)
             self.now.identity.now (wished self.now.wish.now)) }
     {
         let chosen = self.choose(alloc, room)?;
         if chosen.is_empty() {
-            return Err(RequestFault::NotFound);
+            return Ok(Answer::NotFound);
         }
         match self.wish {
-            Wish::Relation(_) => Ok(self.by_count(alloc, chosen)?),
+            Wish::Relation(_) => self.by_count(alloc, chosen),
             Wish::Linkset(form) => Ok(Answer::Linkset(self.render(alloc, *form, chosen)?)),
         }
     }
 }
 
-/// Returns the answer to a request, or why it has none, by the first case that fits.
-#[tactic(auto, unfolding(crate::specs::Answers::answer_of))]
-fn look_up<'a>(
+/// Returns the answer to a request by the pairs that its target names.
+fn answer_pairs<'a>(
     alloc: Global,
     resolver: &Resolver<'a>,
     room: &mut [u32],
     request: &Request<'_>,
-) -> Result<Answer<'a>, RequestFault>
-    requires { room_for resolver.now.links ≤ length room.old }
-    ensures { Gives result (answer_of resolver.now.table resolver.now.links
-        resolver.now.settings (asked_by request.now)) }
+    wish: &Wish<'_>,
+    pairs: Vec<Pair<'_>>,
+) -> Result<Answer<'a>, Memory>
+    requires room { room_for resolver.now.links ≤ length room.old }
+    requires in_order { All (IsInOrder resolver.now.table) pairs.items }
+    ensures { IfOk result (λ answer. said answer ≡ by_pairs resolver.now.table
+        resolver.now.settings.templates resolver.now.links
+        (accepted_ranges (asked_by request.now).fields) (wished wish.now) (Ok pairs.entry.items)) }
 {
-    if !is_allowed(request.method) {
-        return Err(RequestFault::NotAllowed);
-    }
-    if !request.target.starts_with(b"/") {
-        return Err(RequestFault::BadRequest);
-    }
-    if is_description(request.target) {
-        return describe(resolver.settings());
-    }
-    let wish = wish_of(alloc, resolver, request)?;
-    let identity = identity_at(alloc, resolver.table(), request.target)?;
+    let identity = match make(alloc, resolver.table(), pairs) {
+        Ok(identity) => identity,
+        Err(IdentFault::Memory) => return Err(Memory),
+        Err(_) => return Ok(Answer::BadRequest),
+    };
     let lookup = Lookup {
         resolver,
         request,
-        wish: &wish,
+        wish,
         identity: &identity,
     };
     lookup.answer(alloc, room)
 }
 
-/// Returns the answer to a request.
+/// Returns the answer to a request, by the first case that fits.
+#[tactic(auto, unfolding(crate::specs::Answers::answer_of))]
 pub(crate) fn answer_to<'a>(
     alloc: Global,
     resolver: &Resolver<'a>,
@@ -328,8 +295,20 @@ pub(crate) fn answer_to<'a>(
     ensures { IfOk result (λ answer. said answer ≡ answer_of resolver.now.table resolver.now.links
         resolver.now.settings (asked_by request.now)) }
 {
-    match look_up(alloc, resolver, room, request) {
-        Ok(answer) => Ok(answer),
-        Err(fault) => fault.answer(),
+    if !is_allowed(request.method) {
+        return Ok(Answer::NotAllowed);
+    }
+    if !request.target.starts_with(b"/") {
+        return Ok(Answer::BadRequest);
+    }
+    if is_description(request.target) {
+        return Ok(describe(resolver.settings()));
+    }
+    let wish = wish_of(alloc, resolver, request)?;
+    match read_target(alloc, resolver.table(), request.target) {
+        Ok(pairs) => answer_pairs(alloc, resolver, room, request, &wish, pairs),
+        Err(LinkFault::NoKeyPath) => Ok(Answer::NotFound),
+        Err(LinkFault::NotHttp | LinkFault::Element(_)) => Ok(Answer::BadRequest),
+        Err(LinkFault::Memory) => Err(Memory),
     }
 }

@@ -43,10 +43,8 @@ fn value_form(value: &[u8]) -> Option<LinksetForm>
 /// What the header fields of a request say to its reply.
 #[derive(Clone, Copy)]
 pub(crate) struct Said<'a> {
-    /// Whether the message body has a transfer coding (`Transfer-Encoding`).
-    pub encoded: bool,
-    /// Whether the message body has a length that is not written `0` (`Content-Length`).
-    pub sized: bool,
+    /// Whether there is a message body: a `Transfer-Encoding`, or a `Content-Length` that is not written `0`.
+    pub has_body: bool,
     /// Whether the connection ends: `close` is a member of a field `Connection`.
     pub closes: bool,
     /// The form of a linkset that is accepted first (`Accept`).
@@ -61,9 +59,9 @@ impl<'a> Said<'a> {
         ensures { Adds self.old self.new (name.now, value.now) from.now }
     {
         if is_word(name, b"transfer-encoding") {
-            self.encoded = true;
+            self.has_body = true;
         } else if is_word(name, b"content-length") {
-            self.sized |= value != b"0".as_slice();
+            self.has_body |= value != b"0".as_slice();
         } else if is_word(name, b"connection") {
             self.closes |= has_close(value);
         } else if is_word(name, b"accept") {
@@ -83,8 +81,7 @@ impl<'a> Said<'a> {
         ensures { Says result head.now fields.now }
     {
         let mut said = Said {
-            encoded: false,
-            sized: false,
+            has_body: false,
             closes: false,
             form: None,
             languages: &[],

@@ -1,16 +1,16 @@
 ghost use Rattle.std.specs.Prelude.{◌≡◌, IfOk, option_map};
 ghost use Rattle.percent_encoding.specs.Percent.{percent_decode};
 ghost use Rattle.gs_http.specs.AcceptedForms.{accepted_form};
-ghost use Rattle.gs_http.specs.LentValues.{asked_by, name_of, wished};
-ghost use Rattle.gs_http.specs.Wishes.{form_or_json, wish_named, wish_of, wish_unnamed, is_link_type, link_type};
+ghost use Rattle.gs_http.specs.LentValues.{asked_by, wished};
+ghost use Rattle.gs_http.specs.Wishes.{wish_named, wish_of, wish_unnamed, is_link_type, link_type};
 ghost use Rattle.std.specs.List.{find, slice_split};
 ghost use Rattle.gs_dlink.specs.Uris.{separates_parts};
 
-use crate::cuts::{after, before, behind, query_of};
+use crate::cuts::{before, behind, query_of};
 use crate::documents::LinksetForm;
 use crate::request::Request;
 use crate::resolver::Resolver;
-use gs_chars::{Memory, Text};
+use gs_chars::{CowText, Memory, Text, after};
 use gs_dlink::part_len;
 use gs_links::expand;
 use percent_encoding::percent_decode;
@@ -45,50 +45,17 @@ fn link_type_part(query: &[u8]) -> Option<&[u8]>
 fn link_type(target: &[u8]) -> Option<&[u8]>
     ensures { option_map (λ value. value.now) result ≡ link_type target.now }
 {
-    match link_type_part(query_of(target)) {
-        Some(part) => Some(behind(part, b'=')),
-        None => None,
-    }
-}
-
-/// The name of a relation.
-#[derive(Drop)]
-pub(crate) enum RelationName<'a> {
-    /// One that was made from a name in a request.
-    Made(Text),
-    /// One that was made before.
-    Lent(&'a [u8]),
-}
-
-impl RelationName<'_> {
-    /// Returns its bytes.
-    pub(crate) fn as_bytes(&self) -> &[u8]
-        ensures { result.now ≡ name_of self.now }
-    {
-        match self {
-            RelationName::Made(name) => name.as_bytes(),
-            RelationName::Lent(name) => name,
-        }
-    }
+    let part = link_type_part(query_of(target))?;
+    Some(behind(part, b'='))
 }
 
 /// The wish of a request.
 #[derive(Drop)]
 pub(crate) enum Wish<'a> {
     /// The links of a relation.
-    Relation(RelationName<'a>),
+    Relation(CowText<'a>),
     /// A linkset in a form.
     Linkset(LinksetForm),
-}
-
-/// Returns the form in which a request wants a linkset that it asks for: that which it accepts first, otherwise JSON.
-fn wanted_form(request: &Request<'_>) -> LinksetForm
-    ensures { result ≡ form_or_json (accepted_form (asked_by request.now).fields) }
-{
-    match request.form() {
-        Some(form) => form,
-        None => LinksetForm::Json,
-    }
 }
 
 /// Returns the wish of a decoded link type.
@@ -103,9 +70,9 @@ fn wish_named<'a>(
 {
     let name = value.as_bytes();
     if name == b"linkset".as_slice() || name == b"all".as_slice() {
-        return Ok(Wish::Linkset(wanted_form(request)));
+        return Ok(Wish::Linkset(request.said.form.unwrap_or(LinksetForm::Json)));
     }
-    Ok(Wish::Relation(RelationName::Made(expand(alloc, voc, value)?)))
+    Ok(Wish::Relation(expand(alloc, voc, value)?.into()))
 }
 
 /// Returns the wish of a link type.
@@ -129,7 +96,7 @@ fn wish_unnamed<'r>(resolver: &'r Resolver<'_>, accepted: Option<LinksetForm>) -
 {
     match accepted {
         Some(form) => Wish::Linkset(form),
-        None => Wish::Relation(RelationName::Lent(resolver.default_relation())),
+        None => Wish::Relation(CowText::lent(resolver.default_relation())),
     }
 }
 
@@ -144,6 +111,6 @@ pub(crate) fn wish_of<'r>(
 {
     match link_type(request.target) {
         Some(value) => by_link_type(alloc, resolver.settings().voc.as_bytes(), request, value),
-        None => Ok(wish_unnamed(resolver, request.form())),
+        None => Ok(wish_unnamed(resolver, request.said.form)),
     }
 }

@@ -1,5 +1,4 @@
-use Rattle.std.proofs.Common.{refl}
 use Rattle.gs_http.proofs.documents.reference_for.Goals as goal
 
 pub returns-then-not-templates-clause-reference : goal.returns-then-not-templates-clause-reference
-returns-then-not-templates-clause-reference c = rw c.if-not-templates.true refl
+returns-then-not-templates-clause-reference c = rw c.if-not-templates.true c.lent.ensures
