@@ -57,15 +57,6 @@ module _ (elements : List Pair) (serial : List ℕ) where
   one_step code before now are is =
       rw (← are) (is ∙ ap (λ (step : List ℕ). before ++ step) (sym (append-nil (47 ∷ (code ++ 47 ∷ percent_encoded serial)))))
 
-joined : (old stem step path start key all : List ℕ) → start ≡ old ++ stem → key ≡ start ++ step → all ≡ key ++ path → all ≡ old ++ (stem ++ step ++ path ++ [])
-joined old stem step path start key all a b c = rw (c, b, a, append-nil (stem ++ step ++ path)) (simp append_assoc)
-
-pub link_written : (ais : List AiRow) (kind : Kind) (fields : KeyFields) (old stem value start key all : List ℕ)
-    → value ≡ key_value (parts_at ais kind.key) kind fields → start ≡ old ++ stem
-    → key ≡ start ++ (47 ∷ (kind.key ++ 47 ∷ percent_encoded value))
-    → all ≡ key ++ flat_map path_step (serial_elements ais kind.serial fields.serial) → all ≡ old ++ spelled stem (lay ais kind fields)
-link_written ais kind fields old stem value start key all v a b c = joined old stem _ _ start key all a (rw v at b) c
-
 -- ---- the identity of the EPC
 
 pub laid_is : (set : TableRows) (epc : Epc) (identity : Elements) (kind : Kind) (ais : List AiRow) (fields : KeyFields)
