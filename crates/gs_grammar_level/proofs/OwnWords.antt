@@ -1,5 +1,5 @@
 -- Words that are their own values, at the places that the sizes of items give.
-use Rattle.std.proofs.Common.{◌≡◌, ℕ, ◌<◌, ◌≤◌, ◌+◌, ◌-◌, List, [], ◌∷◌, length, take, drop, zero, suc, Some, None, refl, sym, ◌∙◌, ap, arith, length-drop, get_or}
+use Rattle.std.proofs.Common.{◌≡◌, ℕ, ◌≤◌, ◌+◌, ◌-◌, List, [], ◌∷◌, length, take, drop, zero, suc, Some, None, refl, sym, ◌∙◌, ap, arith, length-drop, get_or}
 use Rattle.std.specs.List.{slice_get}
 use Rattle.std.proofs.lemmas.List.{take_all, drop_all, drop-drop, nil_from_length, take-append-drop}
 use Rattle.gs_grammar.specs.declared.item.Item.{Item}

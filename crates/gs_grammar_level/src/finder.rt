@@ -17,7 +17,7 @@ pub struct Found<'a> {
 }
 
 /// Returns whether the literal is in the symbols at this place.
-pub fn stands_at(symbols: &[u8], place: usize, literal: &[u8]) -> bool
+fn stands_at(symbols: &[u8], place: usize, literal: &[u8]) -> bool
     ensures { IsTrue result ↔ StandsAt place literal.now symbols.now }
 {
     match symbols.get(place..) {
@@ -27,7 +27,7 @@ pub fn stands_at(symbols: &[u8], place: usize, literal: &[u8]) -> bool
 }
 
 /// Returns whether the first symbol of the literal is at this place. An empty literal is at every place.
-fn begins_at(symbols: &[u8], place: usize, literal: &[u8]) -> bool
+pub fn begins_at(symbols: &[u8], place: usize, literal: &[u8]) -> bool
     ensures { StandsAt place literal.now symbols.now → IsTrue result }
 {
     match literal.first() {
@@ -37,7 +37,7 @@ fn begins_at(symbols: &[u8], place: usize, literal: &[u8]) -> bool
 }
 
 /// Returns whether the probe of an option is in the symbols. The option derives them only if it does.
-pub fn is_probed(level: &Level, option: usize, symbols: &[u8]) -> bool
+fn is_probed(level: &Level, option: usize, symbols: &[u8]) -> bool
     requires { option < length level.now.options }
     ensures { result ≡ false → NoneReads level.now.options option (option + 1) symbols.now }
 {

@@ -7,6 +7,8 @@
 //! - `read_text` and `read_bits` find the option that reads a text or bits, and the value of each of its items. If each item
 //!   before the last has words of one length, these lengths give the words. Otherwise the option's machine finds them.
 //!   `read_bits_within` reads bits into room of the caller's, from which the values are lent.
+//! - `find_words` lends the words of a text that are their own values, and makes no list of them. `None` leaves the text to
+//!   `read_text`.
 //! - `Level::first_share` gives the first two options of the level that share a list of symbols, and a text that shows it. It gives
 //!   `None` if and only if no list of symbols has two readings by the level.
 //!

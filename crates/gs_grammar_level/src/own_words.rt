@@ -9,7 +9,7 @@ ghost use Rattle.gs_grammar_level.specs.Readings.{Reads};
 ghost use Rattle.gs_grammar_level.specs.declared.read.Reading.TheVariants.{One};
 
 use crate::cuttings::{Cutting, width_by};
-use crate::finder::{is_probed, stands_at};
+use crate::finder::begins_at;
 use crate::fronts::Group;
 use crate::level::Level;
 use gs_grammar::{Item, is_own_word};
@@ -92,6 +92,7 @@ impl<'a> Words<'a> {
 }
 
 /// Returns `true` only if the symbols are words of the items, which begin at these places, and each is its own value.
+#[inline(never)]
 fn are_own_words(items: &[Item], places: &[usize], symbols: &[u8]) -> bool
     requires { places.now ≡ starts_of 0 items.now }
     ensures { IsTrue result → HasValues items.now symbols.now (own_values items.now places.now symbols.now) }
@@ -121,7 +122,8 @@ fn words_by<'a>(level: &'a Level, option: usize, symbols: &'a [u8]) -> Option<Wo
     requires unambiguous { IsUnambiguous (item_lists level.now.options) }
     ensures { IfSome result (λ words. Reads (item_lists level.now.options) symbols.now (One words.option words.values)) }
 {
-    if !is_probed(level, option, symbols) {
+    let probe = &level.probes()[option];
+    if !begins_at(symbols, probe.place, probe.literal.as_bytes()) {
         return None;
     }
     let Cutting::Widths(places) = &level.cuttings()[option] else {
@@ -151,7 +153,10 @@ fn words_by_group<'a>(
     requires unambiguous { IsUnambiguous (item_lists level.now.options) }
     ensures { IfSome result (λ words. Reads (item_lists level.now.options) symbols.now (One words.option words.values)) }
 {
-    if !stands_at(symbols, 0, group.literal.as_bytes()) {
+    // the last bytes distinguish the groups' literals; `are_own_words` compares the whole literal
+    let literal = group.literal.as_bytes();
+    let front = symbols.get(..literal.len())?;
+    if front.last_chunk::<8>() != literal.last_chunk::<8>() {
         return None;
     }
     for option in from..group.end {

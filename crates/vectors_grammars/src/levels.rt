@@ -2,6 +2,8 @@
 //!
 //! - `read_text TEXT ITEM.. | ITEM..`: the number of the option and the values of its items, or `Nothing`; of options that are
 //!   ambiguous `Ambiguous` and the numbers of the two that share a list.
+//! - `find_words TEXT ITEM.. | ITEM..`: the number of the option and the values of its items, or `None` where the text is left to
+//!   `read_text`; the same of options that are ambiguous.
 //! - `first_share LEVEL ITEM.. | ITEM..`, with LEVEL `text` or `bits`: `None`, or the numbers of the first two options that share a
 //!   list.
 //! - `machines LEVEL ITEM.. | ITEM..`, with LEVEL `text` or `bits`: the number of states of each machine that the level lends.
@@ -10,19 +12,21 @@
 use crate::bits::buffer;
 use crate::grammars::{is_bits, options_of};
 use gs_chars::{Memory, Text};
-use gs_grammar_level::{Level, Reading, Shared, read_bits, read_text};
+use gs_grammar_level::{Level, Reading, Shared, Words, find_words, read_bits, read_text};
 use std::alloc::Global;
 use vectors_cases::{Done, Line, Rejection, behind, bytes_at, named};
 
 #[derive(Clone, Copy)]
 enum Call {
+    FindWords,
     FirstShare,
     Machines,
     ReadBits,
     ReadText,
 }
 
-const CALLS: [(&str, Call); 4] = [
+const CALLS: [(&str, Call); 5] = [
+    ("find_words", Call::FindWords),
     ("first_share", Call::FirstShare),
     ("machines", Call::Machines),
     ("read_bits", Call::ReadBits),
@@ -34,6 +38,7 @@ pub fn answer(alloc: Global, line: &mut Line, call: &[u8], args: &[Text]) -> Don
     let text = bytes_at(args, 0);
     let words = behind(args, 1);
     match named(&CALLS, call) {
+        Some(Call::FindWords) => words_found(alloc, line, text, words),
         Some(Call::FirstShare) => first_shared(alloc, line, is_bits(text), words),
         Some(Call::Machines) => states(alloc, line, is_bits(text), words),
         Some(Call::ReadBits) => bits_read(alloc, line, text, words),
@@ -59,6 +64,16 @@ fn add_reading(line: &mut Line, reading: Reading<'_>) {
         }
         Reading::Nothing => line.plain("Nothing"),
         Reading::Memory => line.want_memory(),
+    }
+}
+
+/// Writes the words that a level finds.
+fn add_words(line: &mut Line, level: &Level, words: &Words<'_>) {
+    line.debug(words.option());
+    if let Some(option) = level.options().get(words.option()) {
+        for number in 0..option.items().len() {
+            line.bytes(words.value(number));
+        }
     }
 }
 
@@ -99,6 +114,20 @@ fn text_read(alloc: Global, line: &mut Line, text: &[u8], words: &[Text]) -> Don
         Ok(Some(pair)) => add_pair(line, pair),
         Err(Memory) => line.want_memory(),
         Ok(None) => add_reading(line, read_text(alloc, &level, text)),
+    }
+    Ok(())
+}
+
+/// Writes how a level finds the words of a text.
+fn words_found(alloc: Global, line: &mut Line, text: &[u8], words: &[Text]) -> Done {
+    let level = level_of(alloc, false, words)?;
+    match level.first_share(alloc) {
+        Ok(Some(pair)) => add_pair(line, pair),
+        Err(Memory) => line.want_memory(),
+        Ok(None) => match find_words(&level, text) {
+            Some(words) => add_words(line, &level, &words),
+            None => line.plain("None"),
+        },
     }
     Ok(())
 }
