@@ -1,5 +1,5 @@
 -- The link of the identity that an EPC names, written step by step.
-use Rattle.std.proofs.Common.{◌≡◌, ◌==◌, ◌&&◌, ℕ, not, Bool, true, false, List, [], ◌∷◌, ◌++◌, length, suc, Option, Some, None, slice_get, bytes_eq, append_assoc, append-nil, refl, sym, ap, ◌∙◌, arith}
+use Rattle.std.proofs.Common.{◌≡◌, ◌==◌, ◌&&◌, ℕ, not, Bool, true, false, List, [], ◌∷◌, ◌++◌, length, suc, Option, Some, None, slice_get, bytes_eq, append-nil, refl, sym, ap, ◌∙◌, arith}
 use Rattle.std.proofs.lemmas.Bool.Decides.{nat_tests}
 use Rattle.std.specs.List.{find, flat_map}
 use Rattle.std.specs.Option.{option_map_or}
@@ -9,13 +9,13 @@ use Rattle.gs_ai.specs.Tables.{is_empty}
 use Rattle.gs_ai.specs.Values.{has_code}
 use Rattle.gs_ident.specs.Elements.{Elements}
 use Rattle.gs_ident.specs.Identities.{stands_for_none}
-use Rattle.gs_ident.specs.Links.{path_step, percent_encoded, spelled}
+use Rattle.gs_ident.specs.Links.{path_step, percent_encoded}
 use Rattle.gs_tables_document.specs.declared.document.Kind.{Kind}
 use Rattle.gs_tables_document.specs.declared.document.SerialAt.TheVariants.{Ai}
 use Rattle.gs_tables.specs.Tables.{TableRows}
 use Rattle.gs_epc.specs.declared.epc.Epc.{Epc}
 use Rattle.gs_epc.specs.KeyParts.{none_text}
-use Rattle.gs_epc.specs.Layout.{IsLaidOut, KeyFields, fields_in, key_value, lay, parts_at, serial_elements}
+use Rattle.gs_epc.specs.Layout.{IsLaidOut, KeyFields, fields_in, lay, serial_elements}
 use Rattle.gs_epc.specs.LayoutSupport.{coded_pairs}
 
 -- ---- the text that means none

@@ -69,12 +69,7 @@ fn key_texts_of<'a>(info: &OptInfo, words: &Words<'a>) -> KeyTexts<'a>
 impl EpcWords<'_> {
     /// Appends the link, under the stem, of the identity that the EPC names, as `EpcReading::append_link` does. Fails only with
     /// `Memory`; `out` then begins with its old contents. The EPC is one of the set.
-    pub fn append_link(
-        &self,
-        set: &TableSet,
-        stem: &[u8],
-        out: &mut Vec<u8>,
-    ) -> Result<(), Memory>
+    pub fn append_link(&self, set: &TableSet, stem: &[u8], out: &mut Vec<u8>) -> Result<(), Memory>
         requires { IsOfSet set.now self.now }
         ensures written { (identity : Elements) → IsLaidOut set.now self.now identity → IfOk result (λ _.
             out.new.items ≡ out.old.items ++ spelled stem.now identity) }

@@ -5,7 +5,7 @@ use Rattle.gs_ai.specs.Values.{has_code}
 use Rattle.gs_ident.proofs.KeyPairs.{found_place}
 use Rattle.gs_ident.specs.Links.{percent_encoded}
 use Rattle.gs_tables.specs.Forms.{characters_of}
-use Rattle.gs_epc.specs.Layout.{key_value, parts_at}
+use Rattle.gs_epc.specs.Layout.{parts_at}
 use Rattle.gs_epc.proofs.LayoutValues.{are_key_digits}
 use Rattle.gs_epc.proofs.WrittenLinks.{characters_value, two_written}
 use Rattle.gs_epc.proofs.link_writer.append_value.Goals as goal
