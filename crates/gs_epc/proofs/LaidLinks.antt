@@ -1,5 +1,5 @@
 -- The link of the identity that an EPC names, written step by step.
-use Rattle.std.proofs.Common.{◌≡◌, ◌==◌, ◌&&◌, ℕ, not, Bool, true, false, List, [], ◌∷◌, ◌++◌, length, suc, Option, Some, None, slice_get, bytes_eq, append_assoc, append-nil, refl, sym, ap, ◌∙◌, arith}
+use Rattle.std.proofs.Common.{◌≡◌, ◌==◌, ◌&&◌, ℕ, not, Bool, true, false, List, [], ◌∷◌, ◌++◌, length, suc, Option, Some, None, slice_get, bytes_eq, append-nil, refl, sym, ap, ◌∙◌, arith}
 use Rattle.std.proofs.lemmas.Bool.Decides.{nat_tests}
 use Rattle.std.specs.List.{find, flat_map}
 use Rattle.std.specs.Option.{option_map_or}
@@ -9,12 +9,12 @@ use Rattle.gs_ai.specs.Tables.{is_empty}
 use Rattle.gs_ai.specs.Values.{has_code}
 use Rattle.gs_ident.specs.Elements.{Elements}
 use Rattle.gs_ident.specs.Identities.{stands_for_none}
-use Rattle.gs_ident.specs.Links.{path_step, percent_encoded, spelled}
+use Rattle.gs_ident.specs.Links.{path_step, percent_encoded}
 use Rattle.gs_tables_document.specs.declared.document.Kind.{Kind}
 use Rattle.gs_tables_document.specs.declared.document.SerialAt.TheVariants.{Ai}
 use Rattle.gs_tables.specs.Tables.{TableRows}
 use Rattle.gs_epc.specs.declared.epc.Epc.{Epc}
-use Rattle.gs_epc.specs.Layout.{IsLaidOut, KeyFields, fields_in, key_value, lay, parts_at, serial_elements}
+use Rattle.gs_epc.specs.Layout.{IsLaidOut, KeyFields, fields_in, lay, serial_elements}
 use Rattle.gs_epc.specs.LayoutSupport.{coded_pairs}
 
 -- ---- the text that means none
@@ -55,15 +55,6 @@ module _ (elements : List Pair) (serial : List ℕ) where
       → now ≡ before ++ (47 ∷ (code ++ 47 ∷ percent_encoded serial)) → now ≡ before ++ flat_map path_step elements
   one_step code before now are is =
       rw (← are) (is ∙ ap (λ (step : List ℕ). before ++ step) (sym (append-nil (47 ∷ (code ++ 47 ∷ percent_encoded serial)))))
-
-joined : (old stem step path start key all : List ℕ) → start ≡ old ++ stem → key ≡ start ++ step → all ≡ key ++ path → all ≡ old ++ (stem ++ step ++ path ++ [])
-joined old stem step path start key all a b c = rw (c, b, a, append-nil (stem ++ step ++ path)) (simp append_assoc)
-
-pub link_written : (ais : List AiRow) (kind : Kind) (fields : KeyFields) (old stem value start key all : List ℕ)
-    → value ≡ key_value (parts_at ais kind.key) kind fields → start ≡ old ++ stem
-    → key ≡ start ++ (47 ∷ (kind.key ++ 47 ∷ percent_encoded value))
-    → all ≡ key ++ flat_map path_step (serial_elements ais kind.serial fields.serial) → all ≡ old ++ spelled stem (lay ais kind fields)
-link_written ais kind fields old stem value start key all v a b c = joined old stem _ _ start key all a (rw v at b) c
 
 -- ---- the identity of the EPC
 

@@ -95,7 +95,7 @@ digit_from : (n : ℕ) → n < 10 → is_digit (48 + n) ≡ true
 digit_from n h = grind (arith, nat_tests)
 
 -- a check digit is a digit
-check_is_digit : (digits : List ℕ) → is_digit (check_digit_of digits) ≡ true
+pub check_is_digit : (digits : List ℕ) → is_digit (check_digit_of digits) ≡ true
 check_is_digit digits = digit_from ((10 - weighted_sum digits % 10) % 10) (omega arith)
 
 pub checked_piece : (k : ℕ) (digits : List ℕ) → 2 ≤ k → length digits ≡ k - 1 → list_all is_digit digits ≡ true → IsPiece (NumCheck k) (with_check digits)

@@ -1,6 +1,7 @@
 pub mod FieldPlaces
 pub mod FieldRules
 pub mod TextsOfItems
+pub mod TextsOfWords
 pub mod KeptFields
 pub mod KeptItems
 pub mod KeptLaws
@@ -21,4 +22,5 @@ pub mod NumberWalks
 pub mod LaidAgain
 pub mod LaidSets
 pub mod LaidLinks
+pub mod WrittenLinks
 pub mod LaidLaws

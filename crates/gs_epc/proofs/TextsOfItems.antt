@@ -12,7 +12,7 @@ use Rattle.gs_epc.specs.FieldTexts.{filter_number, texts_of, with_text}
 use Rattle.gs_epc.specs.Filters.{IsFilter}
 
 -- the first item counts
-first_item : (info : OptInfo) (field : Option Field) (value : List ℕ) (fields : List (Option Field)) (values : List (List ℕ))
+pub first_item : (info : OptInfo) (field : Option Field) (value : List ℕ) (fields : List (Option Field)) (values : List (List ℕ))
     → texts_of info (field ∷ fields) (value ∷ values) ≡ with_text field value (texts_of info fields values)
 first_item info (Some Filter) value fields values = refl
 first_item info (Some Gcp) value fields values = refl
@@ -22,7 +22,7 @@ first_item info (Some Total) value fields values = refl
 first_item info (Some Serial) value fields values = refl
 first_item info None value fields values = refl
 
-no_values : (info : OptInfo) (fields : List (Option Field)) → texts_of info fields [] ≡ texts_of info [] []
+pub no_values : (info : OptInfo) (fields : List (Option Field)) → texts_of info fields [] ≡ texts_of info [] []
 no_values info [] = refl
 no_values info (field ∷ fields) = refl
 

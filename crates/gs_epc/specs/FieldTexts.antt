@@ -6,6 +6,7 @@ use Rattle.gs_tables_document.specs.declared.document.Field.TheVariants.{Filter,
 use Rattle.gs_tables_document.specs.declared.document.OptInfo.{OptInfo}
 use Rattle.gs_epc.specs.declared.epc.Epc.{Epc}
 use Rattle.gs_epc.specs.Epcs.{value_at, value_of}
+use Rattle.gs_epc.specs.Layout.{KeyFields}
 
 -- the number of the first digit
 abbrev pub filter_number : List ℕ → Option ℕ
@@ -35,3 +36,13 @@ with_text (Some Piece) text epc = record epc { piece = text }
 with_text (Some Total) text epc = record epc { total = text }
 with_text (Some Serial) text epc = record epc { serial = text }
 with_text None text epc = epc
+
+-- the fields of a key with the value of one more item, before the others
+abbrev pub with_value : Option Field → List ℕ → KeyFields → KeyFields
+with_value (Some Filter) value fields = fields
+with_value (Some Gcp) value fields = record fields { prefix = value }
+with_value (Some Rest) value fields = record fields { rest = value }
+with_value (Some Piece) value fields = record fields { piece = value }
+with_value (Some Total) value fields = record fields { total = value }
+with_value (Some Serial) value fields = record fields { serial = value }
+with_value None value fields = fields

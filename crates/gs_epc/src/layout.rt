@@ -1,9 +1,6 @@
-ghost use Rattle.std.specs.Prelude.{◌≡◌, ◌≤◌, ◌++◌, ℕ, IfOk, List, OnErr, length, Some, slice_get, find, []};
-ghost use Rattle.std.specs.List.{flat_map};
+ghost use Rattle.std.specs.Prelude.{◌≡◌, ◌≤◌, ◌++◌, ℕ, IfOk, List, length, Some, slice_get, find, []};
 ghost use Rattle.std.specs.Option.{option_copied, option_map_or};
-ghost use Rattle.gs_chars.specs.Answers.{BeginsWith};
 ghost use Rattle.gs_ident.specs.Identities.{IsMadeWith, stands_for_none};
-ghost use Rattle.gs_ident.specs.Links.{path_step, spelled};
 ghost use Rattle.gs_ident.specs.QualifiedKeys.{pairs_in};
 ghost use Rattle.gs_epc.specs.Epcs.{IsOfSet};
 ghost use Rattle.gs_epc.specs.KeptFields.{FitKind};
@@ -18,12 +15,12 @@ use crate::epc::{Epc, EpcRef, lent};
 use crate::key_parts::{joined, none_of, parts_of};
 use gs_ai::{Pair, Part};
 use gs_chars::{CowText, Memory, Text, check_digit};
-use gs_ident::{Identity, append_element};
+use gs_ident::Identity;
 use gs_tables::{Kind, SerialAt, TableSet, are_characters};
 use std::alloc::Global;
 
 /// Returns the leading zero of the key, if its parts begin with one.
-fn zero_in_front(parts: &[Part]) -> &'static [u8]
+pub(crate) fn zero_in_front(parts: &[Part]) -> &'static [u8]
     ensures { result.now ≡ zero_in_front parts.now }
 {
     match parts {
@@ -33,7 +30,7 @@ fn zero_in_front(parts: &[Part]) -> &'static [u8]
 }
 
 /// Returns the serial, if it is in the key's own value.
-fn tail_of_key<'a>(at: &SerialAt, serial: &'a [u8]) -> &'a [u8]
+pub(crate) fn tail_of_key<'a>(at: &SerialAt, serial: &'a [u8]) -> &'a [u8]
     ensures { result.now ≡ tail_of_key at.now serial.now }
 {
     match at {
@@ -142,15 +139,20 @@ fn stands_for_none(none: &[u8], value: &[u8]) -> bool
     !none.is_empty() && none == value
 }
 
-/// Returns the code of the serial, if it is a separate element and means one.
-fn serial_code<'a>(set: &TableSet, kind: &'a Kind, epc: &EpcRef<'_>) -> Option<&'a [u8]>
-    requires { slice_get set.now.kinds epc.now.kind ≡ Some kind.now }
-    ensures { coded_pairs (option_copied result) epc.now.serial
-        ≡ serial_elements set.now.ais kind.now.serial epc.now.serial }
+/// Returns the code of the serial, if it is a separate element and means one. The kind is given by its index too.
+pub(crate) fn serial_code<'a>(
+    set: &TableSet,
+    index: usize,
+    kind: &'a Kind,
+    serial: &[u8],
+) -> Option<&'a [u8]>
+    requires { slice_get set.now.kinds index ≡ Some kind.now }
+    ensures { coded_pairs (option_copied result) serial.now
+        ≡ serial_elements set.now.ais kind.now.serial serial.now }
 {
     match &kind.serial {
         SerialAt::Ai(code) => {
-            if stands_for_none(none_of(set, epc.kind, kind), epc.serial) {
+            if stands_for_none(none_of(set, index, kind), serial) {
                 return None;
             }
             Some(code.as_bytes())
@@ -164,7 +166,7 @@ fn serial_pair<'a>(set: &TableSet, kind: &'a Kind, epc: &EpcRef<'a>) -> Option<P
     requires { slice_get set.now.kinds epc.now.kind ≡ Some kind.now }
     ensures { pairs_in result ≡ serial_elements set.now.ais kind.now.serial epc.now.serial }
 {
-    match serial_code(set, kind, epc) {
+    match serial_code(set, epc.kind, kind, epc.serial) {
         Some(code) => Some(Pair {
             code: CowText::lent(code),
             value: CowText::lent(epc.serial),
@@ -234,45 +236,6 @@ pub(crate) fn lay_out<'a>(
     let KeyAndSerial { key, serial } = key_and_serial(alloc, set, kind, epc)?;
     let qualifiers = one_or_none(alloc, serial)?;
     Ok(Identity::from_pairs(key, qualifiers, Vec::new(alloc)))
-}
-
-/// Appends a serial as a step of the path of a link, if it is a separate element and means one.
-fn append_serial(
-    set: &TableSet,
-    kind: &Kind,
-    epc: &EpcRef<'_>,
-    out: &mut Vec<u8>,
-) -> Result<(), Memory>
-    requires { slice_get set.now.kinds epc.now.kind ≡ Some kind.now }
-    ensures written { IfOk result (λ _. out.new.items
-        ≡ out.old.items ++ flat_map path_step (serial_elements set.now.ais kind.now.serial epc.now.serial)) }
-    ensures begun { OnErr result (BeginsWith out.new.items out.old.items) }
-{
-    match serial_code(set, kind, epc) {
-        Some(code) => append_element(out, b'/', code, epc.serial, b'/'),
-        None => Ok(()),
-    }
-}
-
-/// Appends the link under the stem of a key of the kind, and of its serial.
-pub(crate) fn append_laid_out(
-    alloc: Global,
-    set: &TableSet,
-    kind: &Kind,
-    epc: &EpcRef<'_>,
-    stem: &[u8],
-    out: &mut Vec<u8>,
-) -> Result<(), Memory>
-    requires named { slice_get set.now.kinds epc.now.kind ≡ Some kind.now }
-    requires fit { FitKind set.now.ais kind.now (fields_in epc.now) }
-    ensures written { IfOk result (λ _. out.new.items
-        ≡ out.old.items ++ spelled stem.now (lay set.now.ais kind.now (fields_in epc.now))) }
-    ensures begun { OnErr result (BeginsWith out.new.items out.old.items) }
-{
-    let value = key_value(alloc, set, kind, epc)?;
-    out.extend_from_slice(stem)?;
-    append_element(out, b'/', kind.key.as_bytes(), value.as_bytes(), b'/')?;
-    append_serial(set, kind, epc, out)
 }
 
 /// Returns the identity that an EPC of the set names (TDS 2.0, section 7). It is the key of its kind, laid out with its check

@@ -3,6 +3,8 @@
 //! - `read_hex`, `read_tag` and `read_pure` give the fields of an EPC; `write_hex`, `write_tag` and `write_pure` its text.
 //! - `reading_of` reads a text of any level. An `EpcReading` lends its fields, gives the identity that it names or only its
 //!   pairs, and appends its link.
+//! - `words_of` finds the words of an EPC URI whose fields stand in it as they are. An `EpcWords` appends its link, for which
+//!   nothing is allocated.
 //! - `identity_of` lays the fields out as a key and its serial number; `fields_of` takes an identity apart. `push_checked` writes
 //!   the digits of a key, for gs_class too.
 //! - `lent_fields_of` and `append_lent` are `fields_of` and `write_level` over lent texts, without copies of them.
@@ -33,7 +35,9 @@ mod fields;
 mod key_parts;
 mod laws;
 mod layout;
+mod link_writer;
 mod reading;
+mod words;
 mod writer;
 
 pub use epc::{Epc, EpcRef};
@@ -47,4 +51,5 @@ pub use laws::{
 };
 pub use layout::{KeyAndSerial, identity_of, push_checked};
 pub use reading::{EpcReading, read_hex, read_pure, read_tag, reading_of};
+pub use words::{EpcWords, words_of};
 pub use writer::{append_lent, write_hex, write_level, write_pure, write_tag};

@@ -18,7 +18,8 @@ use crate::epc::{Epc, EpcRef};
 use crate::error::EpcFault;
 use crate::fields::epc_of;
 use crate::key_parts::copied;
-use crate::layout::{KeyAndSerial, append_laid_out, key_and_serial, kind_at, lay_out};
+use crate::layout::{KeyAndSerial, key_and_serial, kind_at, lay_out};
+use crate::link_writer::{append_laid_out, key_texts};
 use gs_bits::BitBuf;
 use gs_chars::{CowText, List, Memory};
 use gs_grammar::MOST_SYMBOLS;
@@ -85,13 +86,7 @@ impl EpcReading<'_> {
 
     /// Appends the link, under the stem, of the identity that the EPC names, as `append_link` of gs_ident does. The identity is
     /// not made for it. Fails only with `Memory`; `out` then begins with its old contents. The EPC is one of the set.
-    pub fn append_link(
-        &self,
-        alloc: Global,
-        set: &TableSet,
-        stem: &[u8],
-        out: &mut Vec<u8>,
-    ) -> Result<(), Memory>
+    pub fn append_link(&self, set: &TableSet, stem: &[u8], out: &mut Vec<u8>) -> Result<(), Memory>
         requires { IsOfSet set.now self.now }
         ensures written { (identity : Elements) → IsLaidOut set.now self.now identity → IfOk result (λ _.
             out.new.items ≡ out.old.items ++ spelled stem.now identity) }
@@ -99,7 +94,7 @@ impl EpcReading<'_> {
     {
         let kind = kind_at(set, self.info.kind);
         let lent = self.epc();
-        append_laid_out(alloc, set, kind, &lent, stem, out)
+        append_laid_out(set, self.info.kind, kind, &key_texts(&lent), stem, out)
     }
 }
 

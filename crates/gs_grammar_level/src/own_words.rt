@@ -122,10 +122,6 @@ fn words_by<'a>(level: &'a Level, option: usize, symbols: &'a [u8]) -> Option<Wo
     requires unambiguous { IsUnambiguous (item_lists level.now.options) }
     ensures { IfSome result (λ words. Reads (item_lists level.now.options) symbols.now (One words.option words.values)) }
 {
-    let probe = &level.probes()[option];
-    if !begins_at(symbols, probe.place, probe.literal.as_bytes()) {
-        return None;
-    }
     let Cutting::Widths(places) = &level.cuttings()[option] else {
         return None;
     };
@@ -142,7 +138,16 @@ fn words_by<'a>(level: &'a Level, option: usize, symbols: &'a [u8]) -> Option<Wo
     })
 }
 
-/// Returns the words of the symbols by an option of the group, which has the options from this number on.
+/// Returns whether the probe of an option begins in the symbols. The option derives them only if it does.
+fn is_begun(level: &Level, option: usize, symbols: &[u8]) -> bool
+    requires { option < length level.now.options }
+{
+    let probe = &level.probes()[option];
+    begins_at(symbols, probe.place, probe.literal.as_bytes())
+}
+
+/// Returns the words of the symbols by the first option of the group whose probe begins in them. The group has the options from
+/// this number on.
 fn words_by_group<'a>(
     level: &'a Level,
     from: usize,
@@ -153,30 +158,35 @@ fn words_by_group<'a>(
     requires unambiguous { IsUnambiguous (item_lists level.now.options) }
     ensures { IfSome result (λ words. Reads (item_lists level.now.options) symbols.now (One words.option words.values)) }
 {
-    // the last bytes distinguish the groups' literals; `are_own_words` compares the whole literal
-    let literal = group.literal.as_bytes();
-    let front = symbols.get(..literal.len())?;
-    if front.last_chunk::<8>() != literal.last_chunk::<8>() {
-        return None;
-    }
     for option in from..group.end {
-        if let Some(words) = words_by(level, option, symbols) {
-            return Some(words);
+        if is_begun(level, option, symbols) {
+            return words_by(level, option, symbols);
         }
     }
     None
 }
 
-/// Finds the option that cuts a text of a level that is not ambiguous at fixed places into words that are their own values.
-/// `None` says nothing: `read_text` decides then. Does not allocate.
+/// Returns whether the symbols have the last bytes of a group's literal at its place. These distinguish the groups;
+/// `are_own_words` compares the whole literal.
+fn is_told(group: &Group, symbols: &[u8]) -> bool {
+    let literal = group.literal.as_bytes();
+    match symbols.get(..literal.len()) {
+        Some(front) => front.last_chunk::<8>() == literal.last_chunk::<8>(),
+        None => false,
+    }
+}
+
+/// Finds the option that cuts a text of a level that is not ambiguous at fixed places into words that are their own values. Only
+/// the first group and option that the text seems to have is tried. `None` says nothing: `read_text` decides then. Does not
+/// allocate.
 pub fn find_words<'a>(level: &'a Level, text: &'a [u8]) -> Option<Words<'a>>
     requires { IsUnambiguous (item_lists level.now.options) }
     ensures { IfSome result (λ words. Reads (item_lists level.now.options) text.now (One words.option words.values)) }
 {
     let mut from = 0;
     for group in level.groups() {
-        if let Some(words) = words_by_group(level, from, group, text) {
-            return Some(words);
+        if is_told(group, text) {
+            return words_by_group(level, from, group, text);
         }
         from = group.end;
     }

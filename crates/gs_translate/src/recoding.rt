@@ -72,8 +72,8 @@ fn append_laid_out(
     ensures begun { OnErr result (BeginsWith out.new.items out.old.items) }
 {
     match to {
-        PairsForm::Canon => reading.append_link(alloc, set, CANONICAL_STEM.as_bytes(), out),
-        PairsForm::Link => reading.append_link(alloc, set, options.stem.as_bytes(), out),
+        PairsForm::Canon => reading.append_link(set, CANONICAL_STEM.as_bytes(), out),
+        PairsForm::Link => reading.append_link(set, options.stem.as_bytes(), out),
         PairsForm::Raw => {
             let pairs = reading.pairs(alloc, set)?;
             append_raw_pairs(out, set.ais(), &pairs.key, pairs.serial.as_slice(), &[])

@@ -1,4 +1,4 @@
-use Rattle.std.proofs.Common.{◌≡◌, ◌++◌, Some, slice_get, ap, refl}
+use Rattle.std.proofs.Common.{◌≡◌, ◌++◌, Some, slice_get, ap, refl, ◌∙◌}
 use Rattle.std.proofs.lemmas.Result.{IfOk-equal}
 use Rattle.gs_ident.specs.Elements.{Elements}
 use Rattle.gs_ident.specs.Links.{spelled}
@@ -10,4 +10,4 @@ pub returns-clause-written : goal.returns-clause-written
 returns-clause-written c = λ identity laid.
     let named : slice_get c.args.set.now.kinds c.args.self.now.kind ≡ Some c.kind_at-kind.result.now = rw (← c.self.view_is) c.kind_at-kind.ensures.named in
     IfOk-equal c.append_laid_out.result _ _ _ c.append_laid_out.ensures.written
-    (ap (λ (i : Elements). c.args.out.now.items ++ spelled c.args.stem.now i) (laid_is c.args.set.now c.args.self.now identity c.kind_at-kind.result.now c.args.set.now.ais (fields_in c.epc-lent.result) named refl (ap fields_in c.epc-lent.ensures) laid))
+    (ap (λ (i : Elements). c.args.out.now.items ++ spelled c.args.stem.now i) (laid_is c.args.set.now c.args.self.now identity c.kind_at-kind.result.now c.args.set.now.ais c.key_texts.result named refl (c.key_texts.ensures ∙ ap fields_in c.epc-lent.ensures) laid))
