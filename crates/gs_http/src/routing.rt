@@ -27,7 +27,7 @@ use gs_ai::AiTable;
 use gs_chars::Memory;
 use gs_dlink::read_target;
 use gs_ident::{Identity, make};
-use gs_links::{Link, Want};
+use gs_links::{Link, Ranges, Want};
 use gs_linktext::LinkTextWriteFault;
 use std::alloc::Global;
 
@@ -115,8 +115,8 @@ impl<'q, 'a, 't> Lookup<'q, 'a, 't> {
         if chosen.len() <= 1 {
             return Ok(chosen);
         }
-        let ranges = accepted_ranges(alloc, self.request)?;
-        let count = self.resolver.store().narrow(chosen, ranges.items(), out);
+        let ranges = Ranges::new(alloc, accepted_ranges(alloc, self.request)?)?;
+        let count = self.resolver.store().narrow(chosen, &ranges, out);
         Ok(&out[..count])
     }
 
