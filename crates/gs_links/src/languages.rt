@@ -29,9 +29,9 @@ pub(crate) fn tags_of(link: &Link) -> &[Text]
     ensures { result.now ≡ tags_of link.now }
 {
     let attrs = link.target.attrs.items();
-    for i in 0..attrs.len() {
-        if is_hreflang(attrs[i].name.as_bytes()) {
-            return texts_of(&attrs[i].value);
+    for attr in attrs {
+        if is_hreflang(attr.name.as_bytes()) {
+            return texts_of(&attr.value);
         }
     }
     &[]
@@ -59,7 +59,7 @@ fn is_in_range(range: &[u8], tag: &[u8]) -> bool
 }
 
 /// Returns whether a range is that of every language.
-pub(crate) fn is_any(range: &[u8]) -> bool
+fn is_any(range: &[u8]) -> bool
     ensures { result ≡ is_any range.now }
 {
     range == b"*".as_slice()
@@ -69,8 +69,8 @@ pub(crate) fn is_any(range: &[u8]) -> bool
 fn is_one_in_range(range: &[u8], tags: &[Text]) -> bool
     ensures { result ≡ list_any (is_in_range range.now) tags.now }
 {
-    for i in 0..tags.len() {
-        if is_in_range(range, tags[i].as_bytes()) {
+    for tag in tags {
+        if is_in_range(range, tag.as_bytes()) {
             return true;
         }
     }

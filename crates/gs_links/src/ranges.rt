@@ -1,4 +1,4 @@
-ghost use Rattle.std.specs.Prelude.{◌≡◌, ◌≤◌, ℕ, IfOk, List, OnOk, Some, slice_get};
+ghost use Rattle.std.specs.Prelude.{◌≡◌, ◌≤◌, ℕ, IfOk, List, OnOk, Some, codes, slice_get};
 ghost use Rattle.gs_links.specs.Numbers.{IsLeast, IsLeastOfLowered, IsNumbered, number_at};
 
 use gs_chars::{List, Memory, Text};
@@ -76,11 +76,12 @@ impl Numbers {
         self.least_of_lowered(lowered)
     }
 
-    /// Returns at most the number of a range that one of the tags is in.
+    /// Returns at most the number of a range that is `*`, or that one of the tags is in.
     pub(crate) fn least_of_tags(&self, tags: &[Text]) -> usize
-        ensures { (t : ℕ) (tag : List ℕ) → slice_get tags.now t ≡ Some tag → IsLeast self.now tag result }
+        ensures any { result ≤ number_at self.now (codes "*") }
+        ensures tags { (t : ℕ) (tag : List ℕ) → slice_get tags.now t ≡ Some tag → IsLeast self.now tag result }
     {
-        let mut least = usize::MAX;
+        let mut least = self.at(b"*");
         for t in 0..tags.len() {
             least = least.min(self.least_of_tag(tags[t].as_bytes()));
         }
