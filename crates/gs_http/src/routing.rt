@@ -25,7 +25,7 @@ use gs_ai::Pair;
 use gs_chars::Memory;
 use gs_dlink::{LinkFault, read_target};
 use gs_ident::{IdentFault, Identity, make};
-use gs_links::{Link, Want};
+use gs_links::{Link, Ranges, Want};
 use gs_linktext::LinkTextWriteFault;
 use std::alloc::Global;
 
@@ -94,8 +94,8 @@ impl<'q, 'a, 't> Lookup<'q, 'a, 't> {
         if chosen.len() <= 1 {
             return Ok(chosen);
         }
-        let ranges = accepted_ranges(alloc, self.request)?;
-        let count = self.resolver.store().narrow(chosen, ranges.items(), out);
+        let ranges = Ranges::new(alloc, accepted_ranges(alloc, self.request)?)?;
+        let count = self.resolver.store().narrow(chosen, &ranges, out);
         Ok(&out[..count])
     }
 

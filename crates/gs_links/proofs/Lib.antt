@@ -2,6 +2,7 @@ pub mod ChoiceLemmas
 pub mod DocumentLemmas
 pub mod RunLemmas
 pub mod IndexLemmas
+pub mod NumberLemmas
 pub mod LanguageLemmas
 pub mod VocabularyLemmas
 pub mod LoadLemmas

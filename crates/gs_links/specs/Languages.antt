@@ -59,18 +59,6 @@ narrowed links numbers (range ∷ ranges) = some_or (passing links (matches rang
 
 -- ---- the first range that decides
 
--- holds if no range before the place is that of every language
-abbrev pub NoneIsAny : List (List ℕ) → ℕ → Type 0
-NoneIsAny ranges n = (k : ℕ) (range : List ℕ) → k < n → slice_get ranges k ≡ Some range → is_any range ≡ false
-
--- holds if the range at the place, if there is one, is that of every language
-abbrev pub IsAnyAt : List (List ℕ) → ℕ → Type 0
-IsAnyAt ranges n = (range : List ℕ) → slice_get ranges n ≡ Some range → is_any range ≡ true
-
--- holds if no range is that of every language
-abbrev pub NameLanguages : List (List ℕ) → Type 0
-NameLanguages ranges = (k : ℕ) (range : List ℕ) → slice_get ranges k ≡ Some range → is_any range ≡ false
-
 -- holds if the link matches no range from a place to another
 abbrev pub MatchesNone : List (List ℕ) → Link → ℕ → ℕ → Type 0
 MatchesNone ranges link from n = (k : ℕ) (range : List ℕ) → from ≤ k → k < n → slice_get ranges k ≡ Some range → matches range link ≡ false

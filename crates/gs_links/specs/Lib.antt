@@ -7,4 +7,4 @@ pub mod Documents
 pub mod Runs
 pub mod Index
 pub mod Languages
-pub mod Marks
+pub mod Numbers

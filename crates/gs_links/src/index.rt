@@ -9,10 +9,10 @@ use indexmap::IndexMap;
 use std::alloc::Global;
 
 /// The number of no pair.
-pub(crate) const OFFSET: u64 = 14_695_981_039_346_656_037;
+const OFFSET: u64 = 14_695_981_039_346_656_037;
 
 /// The number by which a hash is multiplied at each byte.
-pub(crate) const PRIME: u64 = 1_099_511_628_211;
+const PRIME: u64 = 1_099_511_628_211;
 
 /// Returns the hash of bytes after others with a hash.
 fn hash_with(before: u64, bytes: &[u8]) -> u64

@@ -4,7 +4,8 @@
 //! - `Store::load` takes a linkset, or gives its first rejection.
 //! - `Store::choose` finds the links of an identity, of one relation or of all, at the longest of its prefixes that has one. A
 //!   link of a lot goes before one of the trade item.
-//! - `Store::narrow` keeps, of the chosen links, those in the first wished language that one of them has.
+//! - `Store::narrow` keeps, of the chosen links, those in the first wished language that one of them has. `Ranges` holds the
+//!   wished languages.
 //! - `Store::document` makes a linkset of the chosen links. `write_document` and `write_text` write it and copy none of them.
 //!
 //! # Example
@@ -37,6 +38,7 @@ mod laws;
 mod link;
 mod loader;
 mod narrower;
+mod ranges;
 mod store;
 
 pub use error::{AnchorWhy, StoreFault};
@@ -47,4 +49,5 @@ pub use laws::{
 };
 pub use link::{Chosen, Link, Want};
 pub use loader::{expand, is_over, keeps_names};
+pub use ranges::Ranges;
 pub use store::Store;

@@ -189,8 +189,8 @@ fn count_relations(before: usize, relations: &[Relation]) -> usize
     ensures { result ≡ min (before + relations_count relations.now) (suc most_links) }
 {
     let mut count = before;
-    for i in 0..relations.len() {
-        count = (count + relations[i].targets.items().len()).min(MOST_LINKS + 1);
+    for relation in relations {
+        count = (count + relation.targets.items().len()).min(MOST_LINKS + 1);
     }
     count
 }
@@ -200,8 +200,8 @@ pub fn is_over(contexts: &[Context]) -> bool
     ensures { result ≡ nat_lt most_links (targets_count contexts.now) }
 {
     let mut count = 0;
-    for i in 0..contexts.len() {
-        count = count_relations(count, contexts[i].relations.items());
+    for context in contexts {
+        count = count_relations(count, context.relations.items());
     }
     MOST_LINKS < count
 }

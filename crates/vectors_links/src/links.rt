@@ -14,9 +14,9 @@ ghost use Rattle.std.specs.Prelude.{◌≡◌, IfOk, vec_len};
 
 use crate::{links_by_language, many_links};
 use gs_ai::AiTable;
-use gs_chars::Text;
+use gs_chars::{List, Text};
 use gs_ident::Identity;
-use gs_links::{AnchorWhy, Link, Store, StoreFault, Want, keeps_names};
+use gs_links::{AnchorWhy, Link, Ranges, Store, StoreFault, Want, keeps_names};
 use gs_linkset::LinkDoc;
 use std::alloc::{AllocError, Global};
 use vectors_cases::{Done, Line, Rejection, behind, bytes_at, named};
@@ -189,15 +189,14 @@ fn want_of(word: &[u8]) -> Want<'_> {
 }
 
 /// Returns the language ranges with commas between, and none of an empty word.
-fn ranges_of(alloc: Global, list: &[u8]) -> Result<Vec<Text>, Rejection> {
+fn ranges_of(alloc: Global, list: &[u8]) -> Result<Ranges, Rejection> {
     let mut ranges = Vec::new(alloc);
-    if list.is_empty() {
-        return Ok(ranges);
+    if !list.is_empty() {
+        for range in list.split(|c| *c == b',') {
+            ranges.push(Text::from_bytes(alloc, range)?)?;
+        }
     }
-    for range in list.split(|c| *c == b',') {
-        ranges.push(Text::from_bytes(alloc, range)?)?;
-    }
-    Ok(ranges)
+    Ok(Ranges::new(alloc, List::from_vec(ranges))?)
 }
 
 fn asked(
@@ -218,7 +217,7 @@ fn asked(
         Call::Narrow => {
             let ranges = ranges_of(alloc, bytes_at(args, 1))?;
             let mut kept = room(alloc, chosen.count)?;
-            let count = store.narrow(chosen_numbers, ranges.as_slice(), kept.as_mut_slice());
+            let count = store.narrow(chosen_numbers, &ranges, kept.as_mut_slice());
             let kept_numbers = &kept.as_slice()[..count];
             let doc = store.document(alloc, identity, kept_numbers)?;
             add_numbers(line, kept_numbers);

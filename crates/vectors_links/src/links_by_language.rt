@@ -5,10 +5,10 @@
 
 use crate::links::{VOC, add_error, room};
 use gs_ai::AiTable;
-use gs_chars::Text;
+use gs_chars::{List, Text};
 use gs_dlink::read_target;
 use gs_ident::{Identity, make};
-use gs_links::{Store, Want};
+use gs_links::{Ranges, Store, Want};
 use gs_linkset::LinkDoc;
 use std::alloc::Global;
 use vectors_cases::{Answer, Done, Line, Rejection, bytes_at, number, said};
@@ -18,7 +18,7 @@ pub fn answer(alloc: Global, line: &mut Line, table: &AiTable, args: &[Text]) ->
     let text = linkset(alloc, number(args, 0)?)?;
     let ranges = ranges(alloc, number(args, 1)?, bytes_at(args, 2))?;
     match gs_linkset::read(alloc, text.as_bytes()) {
-        Ok(doc) => answer_over(alloc, line, table, doc, ranges.as_slice()),
+        Ok(doc) => answer_over(alloc, line, table, doc, &ranges),
         Err(error) => {
             line.error(error);
             Ok(())
@@ -32,7 +32,7 @@ fn answer_over(
     line: &mut Line,
     table: &AiTable,
     doc: LinkDoc,
-    ranges: &[Text],
+    ranges: &Ranges,
 ) -> Done {
     match Store::load(alloc, table, VOC, doc) {
         Ok(store) => add_kept(alloc, line, &store, &identity(alloc, table)?, ranges),
@@ -70,13 +70,13 @@ fn other_range(alloc: Global, k: u64) -> Result<Text, Rejection> {
 }
 
 /// Makes `times` ranges that no link is in, and one more.
-fn ranges(alloc: Global, times: u64, last: &[u8]) -> Result<Vec<Text>, Rejection> {
+fn ranges(alloc: Global, times: u64, last: &[u8]) -> Result<Ranges, Rejection> {
     let mut ranges = Vec::new(alloc);
     for k in 0..times {
         ranges.push(other_range(alloc, k)?)?;
     }
     ranges.push(Text::from_bytes(alloc, last)?)?;
-    Ok(ranges)
+    Ok(Ranges::new(alloc, List::from_vec(ranges))?)
 }
 
 /// Returns the identity of the anchor.
@@ -97,7 +97,7 @@ fn add_kept(
     line: &mut Line,
     store: &Store,
     identity: &Identity<'_>,
-    ranges: &[Text],
+    ranges: &Ranges,
 ) -> Done {
     let mut numbers = room(alloc, store.len())?;
     let mut kept = room(alloc, store.len())?;

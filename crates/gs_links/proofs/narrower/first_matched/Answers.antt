@@ -3,7 +3,7 @@ use Rattle.std.proofs.lemmas.List.{take_all}
 use Rattle.gs_chars.proofs.TruthsAndLists.{read_at}
 use Rattle.gs_links.proofs.ChoiceLemmas.{get_at}
 use Rattle.gs_links.proofs.LanguageLemmas.{none_before, none_more, some_more}
-use Rattle.gs_links.proofs.narrower.first_marked.Goals as goal
+use Rattle.gs_links.proofs.narrower.first_matched.Goals as goal
 
 pub loop-i-preserved : goal.loop-i-preserved
 loop-i-preserved c =
@@ -18,7 +18,7 @@ loop-i-preserved c =
     let low = c.first_of_link-first.ensures.most in
     let most = c.loop-i.invariant.0 in
     let behind = c.first_of_link-first.ensures.before in
-    let ahead = λ (k : ℕ) (range : List ℕ) (own : slice_get c.args.ranges.now k ≡ Some range) (front : k < from). none_before c.args.marks.now c.args.ranges.now c.tags_of.result.now link from c.requires.marked c.tags_of.ensures c.least_of_tags-from.ensures k range (c.requires.other k range own) own front in (
+    let ahead = λ (k : ℕ) (range : List ℕ) (own : slice_get c.args.ranges.now k ≡ Some range) (front : k < from). none_before c.args.by_text.now c.args.ranges.now c.tags_of.result.now link from c.requires.numbered c.tags_of.ensures c.least_of_tags-from.ensures.any c.least_of_tags-from.ensures.tags k range own front in (
       omega (arith, low, most),
       none_more c.args.links.now numbers i n link at there c.args.ranges.now from c.loop-i.first less low behind ahead c.loop-i.invariant.1,
       some_more c.args.links.now numbers i n link at there c.args.ranges.now from c.loop-i.first less low behind ahead c.first_of_link-first.ensures.matched c.loop-i.invariant.2,

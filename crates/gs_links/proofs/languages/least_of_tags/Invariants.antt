@@ -1,6 +1,0 @@
-use Rattle.std.proofs.Common.{◌≡◌, ℕ, List, Some, slice_get, take}
-use Rattle.gs_links.specs.Marks.{IsLeast}
-use Rattle.gs_links.proofs.languages.least_of_tags.Given as goal
-
-abbrev pub invariant-loop-t : goal.invariant-loop-t
-invariant-loop-t l = (t : ℕ) (tag : List ℕ) → slice_get (take l.t l.tags) t ≡ Some tag → IsLeast l.marks tag l.least
