@@ -2,7 +2,7 @@ ghost use Rattle.std.specs.Prelude.{◌≡◌, ◌++◌, OnOk};
 ghost use Rattle.tdl_messages.specs.Rejections.{anchor_text, bad_anchor_text, bad_href_text, link_text_text};
 ghost use Rattle.tdl_messages.specs.Rejections.{place_text, store_text, ambiguous_classes_text, classes_text};
 
-use crate::answer_lines::{append_numbered_twice, append_words};
+use crate::answer_lines::append_words;
 use crate::rejections::append_form;
 use gs_chars::Memory;
 use gs_class::ClassLoadFault;
@@ -10,7 +10,8 @@ use gs_links::{AnchorWhy, StoreFault};
 use gs_linktext_grammar::LinkTextFault;
 use gs_template::PlaceFault;
 use gs_translate::{
-    Reason, append_ident, append_number, append_numbered, append_reason, append_word,
+    Reason, append_ident, append_number, append_numbered, append_numbered_twice, append_reason,
+    append_word,
 };
 use std::alloc::Global;
 

@@ -1,7 +1,7 @@
 ghost use Rattle.std.specs.Prelude.{◌≡◌, ◌++◌, IfOk, OnOk, codes};
 ghost use Rattle.tdl_messages.specs.Rejections.{ai_text, ambiguous_text, error_text, json_text, level_text, limit_text, mismatch_text, of_level, of_level_twice, prefixes_text, rejected_line, shown, shown_byte, tables_text};
 
-use crate::answer_lines::{append_numbered_twice, append_words};
+use crate::answer_lines::append_words;
 use crate::link_rejections::{append_classes, append_link_text, append_place_of, append_store};
 use crate::rejection::{FileFault, Rejection};
 use gs_ai::AiFault;
@@ -9,7 +9,7 @@ use gs_chars::{CharSet, Memory};
 use gs_json::JsonFault;
 use gs_prefix::PrefixFault;
 use gs_tables_document::{LevelName, LimitName, LoadFault};
-use gs_translate::{append_number, append_numbered, append_word};
+use gs_translate::{append_number, append_numbered, append_numbered_twice, append_word};
 use std::alloc::Global;
 
 /// Returns the printed byte of a place: a question mark if the byte is not a visible character.
