@@ -33,15 +33,15 @@ use Rattle.gs_epc.proofs.ReadingFacts.{hex_answer, of_set, said_of, says}
 use Rattle.gs_translate.specs.declared.form.Form.{Form}
 use Rattle.gs_translate.specs.declared.form.Form.TheVariants as form
 use Rattle.gs_translate.specs.declared.reader.Meaning.{Meaning}
-use Rattle.gs_translate.specs.declared.reason.Reason.TheVariants.{Epc as NoEpc, Long}
+use Rattle.gs_translate.specs.declared.reason.Reason.TheVariants.{Epc as NoEpc}
 use Rattle.gs_translate.specs.Answers.{IsAnswer}
 use Rattle.gs_translate.specs.Conditions.{AsksForOne, AsksForSome}
-use Rattle.gs_translate.specs.Meanings.{IsRead, Means, MeansEpc, ReadsBracketed, ReadsRaw, epc_meaning, short, too_long}
+use Rattle.gs_translate.specs.Meanings.{IsRead, Means, MeansEpc, ReadsBracketed, ReadsRaw, epc_meaning}
 use Rattle.gs_translate.specs.MeaningsSupport.{ReadsLink}
 use Rattle.gs_translate.specs.Steps.{Reworded, Then, goes_on, rejects}
 use Rattle.gs_translate.specs.StepsSupport.{HasOne, HasSome}
 use Rattle.gs_translate.proofs.PairLaws.{ais_kept, one_bracketed, one_link, one_of_pairs, one_raw, some_bracketed, some_link, some_of_pairs, some_raw}
-use Rattle.gs_translate.proofs.StepLaws.{gives_err, gives_ok, one_reworded, then_one, then_some}
+use Rattle.gs_translate.proofs.StepLaws.{gives_err, gives_ok, one_after_long, one_reworded, some_after_long, then_one, then_some}
 use Rattle.gs_translate.specs.declared.reason.Reason.{Reason}
 
 -- the answer is not out of memory
@@ -142,10 +142,7 @@ one_meaning set form.Bracketed text shaped = one_of_pairs set (ReadsBracketed se
 one_meaning set form.Link text asks = one_of_pairs set (ReadsLink set text) (one_link set text)
 
 pub one_read : (set : TableRows) (form : Form) (text : List ℕ) → AsksForOne form set → HasOne (IsRead set form text)
-one_read set form text asks one other (too_long more e) (too_long more' e') = e ∙ sym e'
-one_read set form text asks one other (too_long more e) (short few m) = absurd (omega arith)
-one_read set form text asks one other (short few m) (too_long more e) = absurd (omega arith)
-one_read set form text asks one other (short few m) (short few' m') = one_meaning set form text asks one other m m'
+one_read set form text asks = one_after_long (Means set form) text (one_meaning set form text asks)
 
 one_canonical : (meaning : Meaning) → HasOne (λ (answer : Result (List ℕ) Reason). answer ≡ Ok (canonical_link meaning.identity))
 one_canonical meaning one other a b = a ∙ sym b
@@ -245,10 +242,7 @@ some_meaning set form.Bracketed text shaped = some_of_pairs set (ReadsBracketed 
 some_meaning set form.Link text asks = some_of_pairs set (ReadsLink set text) (some_link set text)
 
 pub some_read : (set : TableRows) (form : Form) (text : List ℕ) → AsksForSome form set → HasSome (IsRead set form text)
-some_read set form text asks = elim (leb_tells (length text) 2048) as (λ _. HasSome (IsRead set form text)) [
-  | inl e ↦ let m = some_meaning set form text asks in (m.0, short e.1 m.1)
-  | inr e ↦ (Err Long, too_long e.1 refl)
-]
+some_read set form text asks = some_after_long (Means set form) text (λ few. some_meaning set form text asks)
 
 some_canonical : (meaning : Meaning) → HasSome (λ (answer : Result (List ℕ) Reason). answer ≡ Ok (canonical_link meaning.identity))
 some_canonical meaning = (Ok (canonical_link meaning.identity), refl)

@@ -36,9 +36,9 @@ meaning_made set seen epc identity encoding same is laid = (identity, laid, rw (
 -- why nothing is read is why there is no meaning
 pub none_means : (set : TableRows) (Reads : Result Epc EpcFault → Type 0) (error : EpcFault) → Reads (Err error)
     → UnlessMemory {X = Meaning} (Err (epc_reason error)) (Then (Reworded Memory NoEpc Reads) (MeansEpc set) (Err (epc_reason error)))
-none_means set Reads Memory h = tt
-none_means set Reads NoReading h = rejects (NoEpc NoReading) (gives_err Memory NoEpc Reads NoReading (λ e. cc) h) refl
-none_means set Reads (Hex error) h = rejects (NoEpc (Hex error)) (gives_err Memory NoEpc Reads (Hex error) (λ e. cc) h) refl
+none_means set Reads Memory h = λ known. absurd (known refl)
+none_means set Reads NoReading h = λ known. rejects (NoEpc NoReading) (gives_err Memory NoEpc Reads NoReading (λ e. cc) h) refl
+none_means set Reads (Hex error) h = λ known. rejects (NoEpc (Hex error)) (gives_err Memory NoEpc Reads (Hex error) (λ e. cc) h) refl
 
 -- a text of a level means what its EPC means
 pub means_at : (set : TableRows) (name : LevelName) (text : List ℕ) (epc : Epc) (elements : Elements) → ReadsText set name text (Ok epc)

@@ -142,6 +142,6 @@ module _ (set : TableRows) (level : LevelName) (epc : Epc) where
 pub appended_none : (set : TableRows) (level : LevelName) (epc : Epc) (before now : List ℕ) (error : EpcWriteFault)
     → AppendsAs set level epc before now (Err error)
     → UnlessMemory {X = Unit {0}} (Err (write_reason error)) (AppendsText {Done = Unit {0}} (Reworded write.Memory write_reason (WritesAs set level epc)) before now (Err (write_reason error)))
-appended_none set level epc before now write.NoOption a = (a.0, gives_err write.Memory write_reason (WritesAs set level epc) write.NoOption (λ e. cc) a.1)
-appended_none set level epc before now (write.CannotHold field why) a = (a.0, gives_err write.Memory write_reason (WritesAs set level epc) (write.CannotHold field why) (λ e. cc) a.1)
-appended_none set level epc before now write.Memory a = tt
+appended_none set level epc before now write.NoOption a = λ known. (a.0, gives_err write.Memory write_reason (WritesAs set level epc) write.NoOption (λ e. cc) a.1)
+appended_none set level epc before now (write.CannotHold field why) a = λ known. (a.0, gives_err write.Memory write_reason (WritesAs set level epc) (write.CannotHold field why) (λ e. cc) a.1)
+appended_none set level epc before now write.Memory a = λ known. absurd (known refl)

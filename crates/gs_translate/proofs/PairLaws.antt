@@ -112,8 +112,8 @@ some_of_pairs set Reads some = then_some Reads (IsIdentified set) some (λ pairs
 pub elements_rejected : (set : TableRows) (Are : List Pair → Type 0) (IsError : ElementFault → Type 0) (Rejects : RawFault → Type 0)
     (error : RawFault) → ((f : ElementFault) → Rejects (WrongElement f) → IsError f) → Rejects error → UnlessMemory {X = Elements}
     (Err (elements_reason error)) (Then (λ answer. MatchResult answer Are (OfElement IsError)) (IsIdentified set) (Err (elements_reason error)))
-elements_rejected set Are IsError Rejects (WrongElement error) f r = rejects (Element error) (error, refl, f error r) refl
-elements_rejected set Are IsError Rejects NoMemory f r = tt
+elements_rejected set Are IsError Rejects (WrongElement error) f r = λ known. rejects (Element error) (error, refl, f error r) refl
+elements_rejected set Are IsError Rejects NoMemory f r = λ known. absurd (known refl)
 
 why_said : (set : TableRows) (text : List ℕ) (error : LinkFault) → link_error set.ais text ≡ Some error → ReadsLink set text (Err (link_reason error))
 why_said set text error e = ap (reworded link_reason) (sym (error_said (link_answer set.ais text) error e))
@@ -121,7 +121,7 @@ why_said set text error e = ap (reworded link_reason) (sym (error_said (link_ans
 -- a rejection of the reader of links is that of the text
 pub link_rejected : (set : TableRows) (text : List ℕ) (error : LinkFault) → (error ≢ link.Memory → link_error set.ais text ≡ Some error)
     → UnlessMemory {X = Elements} (Err (link_reason error)) (Then (ReadsLink set text) (IsIdentified set) (Err (link_reason error)))
-link_rejected set text link.NotHttp f = rejects NotHttp (why_said set text link.NotHttp (f (λ e. cc))) refl
-link_rejected set text link.NoKeyPath f = rejects NoKeyPath (why_said set text link.NoKeyPath (f (λ e. cc))) refl
-link_rejected set text (link.Element error) f = rejects (Element error) (why_said set text (link.Element error) (f (λ e. cc))) refl
-link_rejected set text link.Memory f = tt
+link_rejected set text link.NotHttp f = λ known. rejects NotHttp (why_said set text link.NotHttp (f (λ e. cc))) refl
+link_rejected set text link.NoKeyPath f = λ known. rejects NoKeyPath (why_said set text link.NoKeyPath (f (λ e. cc))) refl
+link_rejected set text (link.Element error) f = λ known. rejects (Element error) (why_said set text (link.Element error) (f (λ e. cc))) refl
+link_rejected set text link.Memory f = λ known. absurd (known refl)

@@ -1,11 +1,15 @@
 -- Results that are found in steps are unique if the result of each step is.
-use Rattle.std.proofs.Common.{◌≡◌, ℕ, List, [], ◌++◌, refl, sym, ◌∙◌, ap, subst}
+use Rattle.std.proofs.Common.{◌≡◌, ◌≤◌, ℕ, List, [], ◌++◌, length, refl, sym, ◌∙◌, ap, subst, inl, inr}
+use Rattle.std.proofs.Math.Nat.{not-le_of_lt}
+use Rattle.std.proofs.lemmas.Bool.Decides.{leb_tells}
 use Rattle.std.proofs.lemmas.List.{append-nil}
 use Rattle.std.specs.Prelude.{◌≢◌, Result, Ok, Err, OnErr}
 use Rattle.gs_chars.specs.Answers.{BeginsWith}
+use Rattle.gs_chars.specs.Limits.{longest_text}
 use Rattle.gs_ident.proofs.BeginLemmas.{begins_more, on_err}
 use Rattle.gs_translate.specs.declared.reason.Reason.{Reason}
-use Rattle.gs_translate.specs.declared.reason.Reason.TheVariants.{CannotHold, Element, Epc, Extra, Ident, Long, Memory, Missing, NoKeyPath, NoKind, NoOption, NotHttp}
+use Rattle.gs_translate.specs.declared.reason.Reason.TheVariants.{Long, Memory}
+use Rattle.gs_translate.specs.Meanings.{AfterLong, short, too_long}
 use Rattle.gs_translate.specs.Steps.{AppendsText, Reworded, Then, UnlessMemory, goes_on, rejects, reworded}
 use Rattle.gs_translate.specs.StepsSupport.{HasOne, HasSome}
 
@@ -57,51 +61,43 @@ module _ {A E R : Type 0} (memory : E) (say : E → R) (Answer : Result A E → 
   given_ok a read = subst Answer (said_ok say read.given a read.is) read.is_given
 
 -- a fact about an answer that is not out of memory
-pub known_answer : {X : Type 0} (answer : Result X Reason) (fact : Type 0) → (answer ≡ Err Memory → ⊥) → UnlessMemory answer fact → fact
+pub known_answer : {X : Type 0} (answer : Result X Reason) (fact : Type 0) → answer ≢ Err Memory → UnlessMemory answer fact → fact
 known_answer (Ok x) fact known f = f
-known_answer (Err Long) fact known f = f
-known_answer (Err (Epc error)) fact known f = f
-known_answer (Err (Element error)) fact known f = f
-known_answer (Err (Ident error)) fact known f = f
-known_answer (Err NotHttp) fact known f = f
-known_answer (Err NoKeyPath) fact known f = f
-known_answer (Err NoKind) fact known f = f
-known_answer (Err (Extra code)) fact known f = f
-known_answer (Err (Missing name)) fact known f = f
-known_answer (Err NoOption) fact known f = f
-known_answer (Err (CannotHold field why)) fact known f = f
-known_answer (Err Memory) fact known f = absurd (known refl)
+known_answer (Err reason) fact known f = f (λ e. known (ap Err e))
+
+-- a fact, whether memory ran out or not
+pub unless_of : {X A : Type 0} (answer : Result X Reason) → A → UnlessMemory answer A
+unless_of (Ok x) a = a
+unless_of (Err reason) a = λ known. a
 
 -- a fact about an answer follows from another
 pub unless_map : {X A B : Type 0} (answer : Result X Reason) → (A → B) → UnlessMemory answer A → UnlessMemory answer B
 unless_map (Ok x) f a = f a
-unless_map (Err Long) f a = f a
-unless_map (Err (Epc error)) f a = f a
-unless_map (Err (Element error)) f a = f a
-unless_map (Err (Ident error)) f a = f a
-unless_map (Err NotHttp) f a = f a
-unless_map (Err NoKeyPath) f a = f a
-unless_map (Err NoKind) f a = f a
-unless_map (Err (Extra code)) f a = f a
-unless_map (Err (Missing name)) f a = f a
-unless_map (Err NoOption) f a = f a
-unless_map (Err (CannotHold field why)) f a = f a
-unless_map (Err Memory) f a = tt
+unless_map (Err reason) f a = λ known. f (a known)
+
+-- what a short text has is what it has after the long ones
+pub after_long : {A : Type 0} (Short : List ℕ → Result A Reason → Type 0) (text : List ℕ) (answer : Result A Reason)
+    → length text ≤ longest_text → UnlessMemory answer (Short text answer) → UnlessMemory answer (AfterLong Short text answer)
+after_long Short text answer few = unless_map answer (λ is. short few is)
 
 -- a fact about a rejection, as the answer of a later step
 pub unless_rejected : (X Y : Type 0) {A B : Type 0} (reason : Reason) → (A → B) → UnlessMemory {X = X} (Err reason) A → UnlessMemory {X = Y} (Err reason) B
-unless_rejected X Y Long f a = f a
-unless_rejected X Y (Epc error) f a = f a
-unless_rejected X Y (Element error) f a = f a
-unless_rejected X Y (Ident error) f a = f a
-unless_rejected X Y NotHttp f a = f a
-unless_rejected X Y NoKeyPath f a = f a
-unless_rejected X Y NoKind f a = f a
-unless_rejected X Y (Extra code) f a = f a
-unless_rejected X Y (Missing name) f a = f a
-unless_rejected X Y NoOption f a = f a
-unless_rejected X Y (CannotHold field why) f a = f a
-unless_rejected X Y Memory f a = tt
+unless_rejected X Y reason f a = λ known. f (a known)
+
+-- ---- long texts
+
+module _ {A : Type 0} (Short : List ℕ → Result A Reason → Type 0) (text : List ℕ) where
+  pub one_after_long : HasOne (Short text) → HasOne (AfterLong Short text)
+  one_after_long unique one other (too_long more e) (too_long more' f) = e ∙ sym f
+  one_after_long unique one other (too_long more e) (short few s) = absurd (not-le_of_lt more few)
+  one_after_long unique one other (short few s) (too_long more e) = absurd (not-le_of_lt more few)
+  one_after_long unique one other (short few s) (short few' t) = unique one other s t
+
+  pub some_after_long : (length text ≤ longest_text → HasSome (Short text)) → HasSome (AfterLong Short text)
+  some_after_long some = elim (leb_tells (length text) longest_text) as (λ _. HasSome (AfterLong Short text)) [
+    | inl few ↦ let s = some few.1 in (s.0, short few.1 s.1)
+    | inr more ↦ (Err Long, too_long more.1 refl)
+  ]
 
 -- ---- texts that are appended
 

@@ -81,9 +81,12 @@ Means set Raw text answer = Then (ReadsRaw set text) (IsIdentified set) answer
 Means set Bracketed text answer = Then (ReadsBracketed set text) (IsIdentified set) answer
 Means set Link text answer = Then (λ pairs. pairs ≡ reworded link_reason (link_answer set.ais text)) (IsIdentified set) answer
 
--- trusted, own: Holds if `text` has more than 2,048 bytes and is rejected as long, or `answer` is its meaning or why it has
--- none.
-pub data IsRead (set : TableRows) (form : Form) (text : List ℕ) (answer : Result Meaning Reason)
+-- trusted, own: holds if `text` has more than 2,048 bytes and is rejected as long, or at most that many and `Short` holds
+pub data AfterLong {A : Type 0} (Short : List ℕ → Result A Reason → Type 0) (text : List ℕ) (answer : Result A Reason)
     : Type 0 where
-  too_long : longest_text < length text → answer ≡ Err Long → IsRead set form text answer
-  short : length text ≤ longest_text → Means set form text answer → IsRead set form text answer
+  too_long : longest_text < length text → answer ≡ Err Long → AfterLong Short text answer
+  short : length text ≤ longest_text → Short text answer → AfterLong Short text answer
+
+-- trusted, own: Holds if `answer` is the meaning of `text`, or why it has none. A long text is rejected as long.
+abbrev pub IsRead : TableRows → Form → List ℕ → Result Meaning Reason → Type 0
+IsRead set form text answer = AfterLong (Means set form) text answer

@@ -24,6 +24,10 @@ use Rattle.gs_translate.specs.declared.reason.Reason.TheVariants as reason
 abbrev pub numbered : List ℕ → ℕ → List ℕ
 numbered word n = word ++ (32 ∷ decimal n)
 
+-- trusted, own: the text of a word and two numbers
+abbrev pub numbered_twice : List ℕ → ℕ → ℕ → List ℕ
+numbered_twice word i j = numbered (numbered word i) j
+
 -- trusted, own: the text of why a text is not a hexadecimal text
 abbrev pub hex_text : HexFault → List ℕ
 hex_text OddDigits = codes "odd"
@@ -40,7 +44,7 @@ epc_text Memory = codes "memory"
 abbrev pub value_text : ℕ → ValueFault → List ℕ
 value_text at Unknown = numbered (codes "unknown") at
 value_text at Length = numbered (codes "length") at
-value_text at (Char place) = numbered (codes "char") at ++ (32 ∷ decimal place)
+value_text at (Char place) = numbered_twice (codes "char") at place
 value_text at Check = numbered (codes "check") at
 value_text at Date = numbered (codes "date") at
 
@@ -100,4 +104,12 @@ reason_text (reason.Extra code) = codes "extra " ++ code
 reason_text (reason.Missing name) = codes "missing " ++ missing_text name
 reason_text reason.NoOption = codes "option"
 reason_text (reason.CannotHold field why) = hold_text field why
+reason_text reason.NoClass = codes "class"
+reason_text reason.MissingElement = codes "missing element"
+reason_text reason.NoWord = codes "word"
+reason_text reason.Extended = codes "extended"
+reason_text reason.Toggle = codes "toggle"
+reason_text (reason.Words said bits) = numbered_twice (codes "words") said bits
+reason_text reason.Line = codes "line"
+reason_text reason.TooLong = codes "too-long"
 reason_text reason.Memory = codes "memory"

@@ -23,8 +23,8 @@ pub record Reworded {A E R : Type 0} (memory : E) (say : E → R) (Answer : Resu
 
 -- trusted, own: holds if the result is `Memory`, or the fact holds
 abbrev pub UnlessMemory : {X : Type 0} → Result X Reason → Type 0 → Type 0
-UnlessMemory (Err Memory) fact = Unit {0}
-UnlessMemory answer fact = fact
+UnlessMemory (Ok x) fact = fact
+UnlessMemory (Err reason) fact = reason ≢ Memory → fact
 
 -- trusted, own: holds if the text that is the answer was appended, or the answer is a rejection and `now` is `before`
 abbrev pub AppendsText : {Done : Type 0} → (Result (List ℕ) Reason → Type 0) → List ℕ → List ℕ → Result Done Reason → Type 0

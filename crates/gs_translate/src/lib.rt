@@ -48,4 +48,4 @@ pub use reader::{Meaning, read};
 pub use reason::Reason;
 pub use reason_texts::{append_ident, append_reason, reason_text};
 pub use translator::{Translator, translate};
-pub use words::{append_number, append_numbered, append_word};
+pub use words::{append_number, append_numbered, append_numbered_twice, append_word};

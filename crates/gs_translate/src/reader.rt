@@ -65,6 +65,7 @@ fn level_meaning<'a>(
 /// reason. For an element string, returns `Element` if and only if an element is invalid, and names the first. For a link,
 /// returns `NotHttp`, `NoKeyPath` and `Element` if and only if it has that error, in this order. For both, returns `Ident` if
 /// and only if there is none of these and the elements have no identity, with the reason.
+#[tactic(auto, using(crate::proofs::StepLaws::after_long))]
 pub fn read<'a>(
     alloc: Global,
     set: &TableSet,

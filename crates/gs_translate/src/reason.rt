@@ -9,7 +9,8 @@ use gs_ident::IdentFault;
 use gs_tables::Field;
 use thiserror::Error;
 
-/// Why a text is rejected.
+/// Why a text is rejected: by a translation, or by an answer of the program to class URIs and to the EPC memory banks of tags.
+/// A translation returns none of the reasons after `CannotHold`, except `Memory`.
 #[derive(Debug, PartialEq, Drop, Error)]
 pub enum Reason {
     /// The text has more than 2,048 bytes.
@@ -45,6 +46,35 @@ pub enum Reason {
     /// No such option holds every field. The last one does not hold this field, for this reason.
     #[error("no option holds every field")]
     CannotHold(Field, Why),
+    /// No class has the key of the identity.
+    #[error("no class has this key")]
+    NoClass,
+    /// No class that has the key has an element that the identity has.
+    #[error("no element makes a class")]
+    MissingElement,
+    /// There are fewer bits than a protocol control word has.
+    #[error("shorter than the control word")]
+    NoWord,
+    /// The bit of the word that says that an extended word follows is 1.
+    #[error("the extended bit is set")]
+    Extended,
+    /// The bit of the word that says that the bank holds no EPC is 1.
+    #[error("the toggle bit is set")]
+    Toggle,
+    /// The number of bits after the word is not that of the words in it.
+    #[error("{said} words of 16 bits are announced, but {bits} bits follow")]
+    Words {
+        /// The number of words that it says.
+        said: u8,
+        /// The number of bits after it.
+        bits: u16,
+    },
+    /// The line does not begin with the user memory bit and the attribute bits.
+    #[error("the line does not begin with the user memory bit and the attribute bits")]
+    Line,
+    /// The encoding has more words than a control word can say.
+    #[error("an encoding of more than 31 words")]
+    TooLong,
     /// Out of memory.
     #[error("out of memory")]
     Memory,

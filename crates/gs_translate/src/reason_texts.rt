@@ -1,10 +1,11 @@
-ghost use Rattle.std.specs.Prelude.{◌≡◌, ◌++◌, IfOk, OnErr, OnOk};
+ghost use Rattle.std.specs.Prelude.{◌≡◌, ◌≢◌, ◌++◌, IfOk, OnErr, OnOk};
 ghost use Rattle.gs_chars.specs.Answers.{BeginsWith};
+ghost use Rattle.gs_translate.specs.declared.reason.Reason.TheVariants.{Memory as OutOfMemory};
 ghost use Rattle.gs_translate.specs.Reasons.{element_text, epc_text, hex_text, ident_text, reason_text, value_text};
 
 use crate::hold_text::{append_hold, append_missing};
 use crate::reason::Reason;
-use crate::words::{append_number, append_numbered, append_word};
+use crate::words::{append_numbered, append_numbered_twice, append_word};
 use gs_ai::{ElementFault, ElementWhy, ValueFault};
 use gs_bits::HexFault;
 use gs_chars::{Memory, Text};
@@ -12,18 +13,21 @@ use gs_epc::EpcFault;
 use gs_ident::IdentFault;
 use std::alloc::Global;
 
-/// Returns the printed text of a reason, without the `no ` before it, and `memory` for `Memory`.
+/// Returns the printed text of a reason, without the `no ` before it. Fails only with `Memory`, as `append_reason` does.
 pub fn reason_text(alloc: Global, reason: &Reason) -> Result<Text, Memory>
-    ensures { IfOk result (λ text. text ≡ reason_text reason.now) }
+    ensures text { IfOk result (λ text. text ≡ reason_text reason.now) }
+    ensures known { OnOk result (reason.now ≢ OutOfMemory) }
 {
     let mut text = Vec::new(alloc);
     append_reason(alloc, &mut text, reason)?;
     Ok(Text::from_vec(text))
 }
 
-/// Appends the printed reason why a text is rejected. Fails only with `Memory`; `out` then begins with its old contents.
+/// Appends the printed reason why a text is rejected. Fails only with `Memory`, if memory runs out or as the reason itself, which
+/// is not printed; `out` then begins with its old contents.
 pub fn append_reason(alloc: Global, out: &mut Vec<u8>, reason: &Reason) -> Result<(), Memory>
     ensures written { OnOk result (out.new.items ≡ out.old.items ++ reason_text reason.now) }
+    ensures known { OnOk result (reason.now ≢ OutOfMemory) }
     ensures begun { OnErr result (BeginsWith out.new.items out.old.items) }
 {
     match reason {
@@ -38,7 +42,17 @@ pub fn append_reason(alloc: Global, out: &mut Vec<u8>, reason: &Reason) -> Resul
         Reason::Missing(name) => append_missing(out, *name),
         Reason::NoOption => append_word(out, b"option"),
         Reason::CannotHold(field, why) => append_hold(out, *field, *why),
-        Reason::Memory => append_word(out, b"memory"),
+        Reason::NoClass => append_word(out, b"class"),
+        Reason::MissingElement => append_word(out, b"missing element"),
+        Reason::NoWord => append_word(out, b"word"),
+        Reason::Extended => append_word(out, b"extended"),
+        Reason::Toggle => append_word(out, b"toggle"),
+        Reason::Words { said, bits } => {
+            append_numbered_twice(alloc, out, b"words", *said as usize, *bits as usize)
+        }
+        Reason::Line => append_word(out, b"line"),
+        Reason::TooLong => append_word(out, b"too-long"),
+        Reason::Memory => Err(Memory),
     }
 }
 
@@ -78,15 +92,6 @@ fn append_element(alloc: Global, out: &mut Vec<u8>, error: ElementFault) -> Resu
     }
 }
 
-/// Appends that a value has a wrong character, the place of its code, and the place of the character in the value.
-fn append_char(alloc: Global, out: &mut Vec<u8>, at: usize, place: usize) -> Result<(), Memory>
-    ensures written { OnOk result (out.new.items ≡ out.old.items ++ value_text at (ValueFault.Char place)) }
-    ensures begun { OnErr result (BeginsWith out.new.items out.old.items) }
-{
-    append_numbered(alloc, out, b"char", at)?;
-    append_number(alloc, out, place)
-}
-
 /// Appends why a value is invalid for its code, and the place of the code.
 fn append_value(
     alloc: Global,
@@ -100,7 +105,7 @@ fn append_value(
     match error {
         ValueFault::Unknown => append_numbered(alloc, out, b"unknown", at),
         ValueFault::Length => append_numbered(alloc, out, b"length", at),
-        ValueFault::Char(place) => append_char(alloc, out, at, place),
+        ValueFault::Char(place) => append_numbered_twice(alloc, out, b"char", at, place),
         ValueFault::Check => append_numbered(alloc, out, b"check", at),
         ValueFault::Date => append_numbered(alloc, out, b"date", at),
     }

@@ -1,6 +1,6 @@
 ghost use Rattle.std.specs.Prelude.{◌≡◌, ◌∷◌, ◌++◌, OnErr, OnOk, decimal};
 ghost use Rattle.gs_chars.specs.Answers.{BeginsWith};
-ghost use Rattle.gs_translate.specs.Reasons.{numbered};
+ghost use Rattle.gs_translate.specs.Reasons.{numbered, numbered_twice};
 
 use gs_chars::Memory;
 use std::alloc::Global;
@@ -34,4 +34,19 @@ pub fn append_numbered(
 {
     append_word(out, word)?;
     append_number(alloc, out, number)
+}
+
+/// Appends a word, and after it two numbers in decimal, each after a blank. Fails as `append_word` does.
+pub fn append_numbered_twice(
+    alloc: Global,
+    out: &mut Vec<u8>,
+    word: &[u8],
+    first: usize,
+    second: usize,
+) -> Result<(), Memory>
+    ensures written { OnOk result (out.new.items ≡ out.old.items ++ numbered_twice word.now first second) }
+    ensures begun { OnErr result (BeginsWith out.new.items out.old.items) }
+{
+    append_numbered(alloc, out, word, first)?;
+    append_number(alloc, out, second)
 }

@@ -16,19 +16,15 @@ use Rattle.gs_ident.specs.Elements.{Elements}
 use Rattle.gs_ident.specs.Links.{canonical_link}
 use Rattle.gs_membank.proofs.OneDump.{SomeKnown}
 use Rattle.gs_translate.specs.declared.form.Form.TheVariants.{Link}
-use Rattle.gs_translate.specs.declared.reason.Reason.TheVariants.{Long}
 use Rattle.gs_translate.specs.Meanings.{IsRead}
 use Rattle.gs_translate.proofs.AnswerLaws.{one_read, some_read}
-use Rattle.gs_translate.proofs.StepLaws.{one_reworded, some_reworded, then_one, then_some}
+use Rattle.gs_translate.proofs.StepLaws.{one_after_long, one_reworded, some_after_long, some_reworded, then_one, then_some}
 use Rattle.gs_translate.specs.Steps.{Reworded, reworded}
-use Rattle.tdl_answers.specs.declared.class_lines.ClassReason.TheVariants.{Common}
 use Rattle.tdl_answers.specs.ClassAnswers.{ClassReading, ClassWriting, IsClassCanonLine, IsClassLink, IsClassText, IsClassUriLine, LinksClass}
-use Rattle.tdl_answers.specs.ClassReasons.{class_text, of_class, of_class_writing}
-use Rattle.tdl_answers.specs.LongTexts.{Restated}
+use Rattle.tdl_answers.specs.Reasons.{class_reason, class_write_reason}
 use Rattle.gs_class.specs.Written.{class_answer}
 use Rattle.tdl_lines.specs.OutputsSupport.{HasAnswers, HasOneAnswer}
 use Rattle.tdl_answers.proofs.LineLemmas.{one_line, some_line}
-use Rattle.tdl_answers.proofs.LongTextLemmas.{one_after_long, one_restated, some_after_long, some_restated}
 
 -- ---- class URIs
 
@@ -62,26 +58,26 @@ module _ (ais : List AiRow) (set : ClassRows) (text : List ℕ) (of : IsOfTable 
   some_class = counted_class (each_counted (item_lists set.level.options) text)
 
 pub one_class_read : (by : ClassReading) → IsClear by.classes → HasOneAnswer (IsClassCanonLine by)
-one_class_read by clear = one_line class_text (IsClassLink by)
-    (one_after_long (Common Long) (LinksClass by) (λ text few. then_one (Reworded reading.Memory of_class (ReadsAs by.ais by.classes text)) (λ identity link. link ≡ Ok (canonical_link identity))
-    (one_reworded reading.Memory of_class (ReadsAs by.ais by.classes text) (one_class by.ais by.classes text clear))
+one_class_read by clear = one_line (IsClassLink by)
+    (λ text. one_after_long (LinksClass by) text (then_one (Reworded reading.Memory class_reason (ReadsAs by.ais by.classes text)) (λ identity link. link ≡ Ok (canonical_link identity))
+    (one_reworded reading.Memory class_reason (ReadsAs by.ais by.classes text) (one_class by.ais by.classes text clear))
     (λ identity one other a b. a ∙ sym b)))
 
 pub some_class_read : (by : ClassReading) → IsOfTable by.ais by.classes → IsClear by.classes → HasAnswers (IsClassCanonLine by)
-some_class_read by of clear = some_line class_text (IsClassLink by)
-    (some_after_long (Common Long) (LinksClass by) (λ text few. then_some (Reworded reading.Memory of_class (ReadsAs by.ais by.classes text)) (λ identity link. link ≡ Ok (canonical_link identity))
-    (some_reworded reading.Memory of_class (ReadsAs by.ais by.classes text) (some_class by.ais by.classes text of clear))
+some_class_read by of clear = some_line (IsClassLink by)
+    (λ text. some_after_long (LinksClass by) text (λ few. then_some (Reworded reading.Memory class_reason (ReadsAs by.ais by.classes text)) (λ identity link. link ≡ Ok (canonical_link identity))
+    (some_reworded reading.Memory class_reason (ReadsAs by.ais by.classes text) (some_class by.ais by.classes text of clear))
     (λ identity is. (Ok (canonical_link identity), refl))))
 
 -- ---- links
 
 module _ (by : ClassWriting) where
   pub one_class_written : HasOneAnswer (IsClassUriLine by)
-  one_class_written = one_line class_text (IsClassText by) (λ text. then_one (Restated Common (IsRead by.tables Link text)) (λ meaning written. written ≡ reworded of_class_writing (class_answer by.tables.ais by.classes by.prefixes by.gcp meaning.identity))
-      (one_restated Common (IsRead by.tables Link text) (one_read by.tables Link text tt))
+  one_class_written = one_line (IsClassText by) (λ text. then_one (IsRead by.tables Link text) (λ meaning written. written ≡ reworded class_write_reason (class_answer by.tables.ais by.classes by.prefixes by.gcp meaning.identity))
+      (one_read by.tables Link text tt)
       (λ meaning one other a b. a ∙ sym b))
 
   pub some_class_written : HasAnswers (IsClassUriLine by)
-  some_class_written = some_line class_text (IsClassText by) (λ text. then_some (Restated Common (IsRead by.tables Link text)) (λ meaning written. written ≡ reworded of_class_writing (class_answer by.tables.ais by.classes by.prefixes by.gcp meaning.identity))
-      (some_restated Common (IsRead by.tables Link text) (some_read by.tables Link text tt))
-      (λ meaning is. (reworded of_class_writing (class_answer by.tables.ais by.classes by.prefixes by.gcp meaning.identity), refl)))
+  some_class_written = some_line (IsClassText by) (λ text. then_some (IsRead by.tables Link text) (λ meaning written. written ≡ reworded class_write_reason (class_answer by.tables.ais by.classes by.prefixes by.gcp meaning.identity))
+      (some_read by.tables Link text tt)
+      (λ meaning is. (reworded class_write_reason (class_answer by.tables.ais by.classes by.prefixes by.gcp meaning.identity), refl)))

@@ -1,7 +1,5 @@
 pub mod LineLemmas
-pub mod LongTextLemmas
-pub mod DumpLemmas
+pub mod StepLemmas
 pub mod DumpAnswerLaws
 pub mod DumpLineLemmas
-pub mod ClassLemmas
 pub mod ClassLineLemmas

@@ -1,8 +1,8 @@
 -- The answer lines of texts.
 use Rattle.std.proofs.Common.{◌≡◌, ℕ, Bool, true, false, List, [], ◌∷◌, ◌++◌, length, take, append_assoc, refl, sym, ◌∙◌, ap}
 use Rattle.std.proofs.Math.Seq.{take-append_seam}
-use Rattle.std.specs.Prelude.{Result, Ok, Err, IfOk, codes}
-use Rattle.tdl_messages.specs.AnswerLines.{AddsLine, HasMemory, IsLineOf, line_of}
+use Rattle.std.specs.Prelude.{◌≢◌, Result, Ok, Err, IfOk, OnOk, codes}
+use Rattle.tdl_messages.specs.AnswerLines.{AddsLine, IsLineOf, line_of}
 use Rattle.tdl_lines.specs.Outputs.{AddsAnswer, accepted, printed, rejected}
 use Rattle.tdl_lines.specs.OutputsSupport.{HasAnswers, HasOneAnswer}
 use Rattle.gs_chars.specs.Answers.{BeginsWith}
@@ -18,31 +18,27 @@ use Rattle.gs_translate.proofs.OneTranslation.{one_translation, some_translation
 use Rattle.gs_translate.proofs.StepLaws.{known_answer}
 use Rattle.tdl_answers.specs.TranslatedAnswers.{IsTranslatedLine}
 
--- ---- lines, by the answers to texts and the texts of reasons
+-- ---- lines, by the answers to texts
 
-module _ {R : Type 0} (show : R → List ℕ) (Answer : List ℕ → Result (List ℕ) R → Type 0) where
+module _ (Answer : List ℕ → Result (List ℕ) Reason → Type 0) where
   -- the line that was added is that of an answer
-  pub adds_line : (text before now : List ℕ) (answer : Result (List ℕ) R) (any : Bool) → Answer text answer
-      → AddsLine show answer before now any → AddsAnswer (λ text line. IsLineOf show (Answer text) line) text before now any
-  adds_line text before now answer any is adds = record {
-    answer = line_of show answer;
-    is = record { answer = answer; is_answer = is; is = refl };
+  pub adds_known : {E : Type 0} (text before now : List ℕ) (answer : Result (List ℕ) Reason) (result : Result Bool E)
+      → UnlessMemory answer (Answer text answer) → OnOk result (answer ≢ Err Memory)
+      → IfOk result (λ any. AddsLine answer before now any)
+      → IfOk result (λ any. AddsAnswer (λ text line. IsLineOf (Answer text) line) text before now any)
+  adds_known text before now answer (Ok any) is enough adds = record {
+    answer = line_of answer;
+    is = record { answer = answer; is_answer = known_answer answer (Answer text answer) enough is; is = refl };
     written = adds.written;
     known = adds.known;
   }
+  adds_known text before now answer (Err e) is enough adds = tt
 
-  pub adds_known : {E : Type 0} (IsMemory : R → Type 0) (text before now : List ℕ) (answer : Result (List ℕ) R) (result : Result Bool E)
-      → (HasMemory IsMemory answer → Answer text answer) → IfOk result (λ _. HasMemory IsMemory answer)
-      → IfOk result (λ any. AddsLine show answer before now any)
-      → IfOk result (λ any. AddsAnswer (λ text line. IsLineOf show (Answer text) line) text before now any)
-  adds_known IsMemory text before now answer (Ok any) is enough adds = adds_line text before now answer any (is enough) adds
-  adds_known IsMemory text before now answer (Err e) is enough adds = tt
+  pub one_line : ((text : List ℕ) → HasOne (Answer text)) → HasOneAnswer (λ text line. IsLineOf (Answer text) line)
+  one_line unique text one other a b = a.is ∙ ap line_of (unique text a.answer b.answer a.is_answer b.is_answer) ∙ sym b.is
 
-  pub one_line : ((text : List ℕ) → HasOne (Answer text)) → HasOneAnswer (λ text line. IsLineOf show (Answer text) line)
-  one_line unique text one other a b = a.is ∙ ap (line_of show) (unique text a.answer b.answer a.is_answer b.is_answer) ∙ sym b.is
-
-  pub some_line : ((text : List ℕ) → HasSome (Answer text)) → HasAnswers (λ text line. IsLineOf show (Answer text) line)
-  some_line some text = let a = some text in (line_of show a.0, record { answer = a.0; is_answer = a.1; is = refl })
+  pub some_line : ((text : List ℕ) → HasSome (Answer text)) → HasAnswers (λ text line. IsLineOf (Answer text) line)
+  some_line some text = let a = some text in (line_of a.0, record { answer = a.0; is_answer = a.1; is = refl })
 
 -- ---- translated lines
 
@@ -57,16 +53,13 @@ adds_accepted t text before marked appended written now mark append is feed = re
   known = refl;
 }
 
-same_reason : (reason : Reason) (given none : Result (Unit {0}) Reason) → given ≡ Err reason → none ≡ Err Memory → given ≡ none → reason ≡ Memory
-same_reason reason given none e f g = cc
-
 -- the translation appended nothing, `ok ` was taken back, and the reason is not a want of memory
 pub adds_rejected : (t : Translating) (text before marked written cut now : List ℕ) (size : ℕ) (reason : Reason) → size ≡ length before
     → marked ≡ before ++ codes "ok " → UnlessMemory {X = Unit {0}} (Err reason)
-    (AppendsText {Done = Unit {0}} (IsTranslated t text) marked written (Err reason)) → cut ≡ take size written → (reason ≡ Memory → ⊥)
+    (AppendsText {Done = Unit {0}} (IsTranslated t text) marked written (Err reason)) → cut ≡ take size written → reason ≢ Memory
     → now ≡ cut ++ printed (rejected (reason_text reason)) → AddsAnswer (IsTranslatedLine t) text before now true
 adds_rejected t text before marked written cut now size reason len mark given back enough line =
-    let known = known_answer {X = Unit {0}} (Err reason) (AppendsText {Done = Unit {0}} (IsTranslated t text) marked written (Err reason)) (λ e. enough (same_reason reason _ _ refl refl e)) given in
+    let known = given enough in
     let whole : cut ≡ before = back ∙ ap (take size) (known.0 ∙ mark) ∙ rw len (take-append_seam before (codes "ok ")) in
     record {
       answer = rejected (reason_text reason);
@@ -83,9 +76,9 @@ begins_cut before marked written cut now size len mark front back more =
     (more.0, more.1 ∙ ap (λ (b : List ℕ). b ++ more.0) whole)
 
 pub one_translated : (t : Translating) → IsLoaded t.set → HasOneAnswer (IsTranslatedLine t)
-one_translated t loaded = one_line reason_text (IsTranslated t)
+one_translated t loaded = one_line (IsTranslated t)
     (λ text. one_translation t.set t.prefixes t.options t.from t.to text (suits_one t.set t.from loaded))
 
 pub some_translated : (t : Translating) → IsLoaded t.set → HasAnswers (IsTranslatedLine t)
-some_translated t loaded = some_line reason_text (IsTranslated t)
+some_translated t loaded = some_line (IsTranslated t)
     (λ text. some_translation t.set t.prefixes t.options t.from t.to text (suits_some t.set t.from loaded))

@@ -9,13 +9,10 @@ use Rattle.gs_ident.specs.Links.{canonical_link}
 use Rattle.gs_prefix.specs.declared.entry.PrefixEntry.{PrefixEntry}
 use Rattle.gs_tables.specs.Tables.{TableRows}
 use Rattle.gs_translate.specs.declared.form.Form.TheVariants.{Link}
-use Rattle.gs_translate.specs.declared.reason.Reason.TheVariants.{Long}
-use Rattle.gs_translate.specs.Meanings.{IsRead}
+use Rattle.gs_translate.specs.declared.reason.Reason.{Reason}
+use Rattle.gs_translate.specs.Meanings.{AfterLong, IsRead}
 use Rattle.gs_translate.specs.Steps.{Reworded, Then, reworded}
-use Rattle.tdl_answers.specs.declared.class_lines.ClassReason.{ClassReason}
-use Rattle.tdl_answers.specs.declared.class_lines.ClassReason.TheVariants.{Common}
-use Rattle.tdl_answers.specs.ClassReasons.{class_text, of_class, of_class_writing}
-use Rattle.tdl_answers.specs.LongTexts.{AfterLong, Restated}
+use Rattle.tdl_answers.specs.Reasons.{class_reason, class_write_reason}
 use Rattle.tdl_messages.specs.AnswerLines.{IsLineOf}
 use Rattle.tdl_lines.specs.Outputs.{LineAnswer}
 
@@ -32,18 +29,18 @@ reading_by ais classes = record { ais = ais; classes = classes }
 
 -- trusted, own: holds if `answer` is the canonical link of the identity that `text`, of any length, is a class URI of, or why
 -- not
-abbrev pub LinksClass : ClassReading → List ℕ → Result (List ℕ) ClassReason → Type 0
+abbrev pub LinksClass : ClassReading → List ℕ → Result (List ℕ) Reason → Type 0
 LinksClass by text answer =
-    Then (Reworded Memory of_class (ReadsAs by.ais by.classes text)) (λ identity link. link ≡ Ok (canonical_link identity)) answer
+    Then (Reworded Memory class_reason (ReadsAs by.ais by.classes text)) (λ identity link. link ≡ Ok (canonical_link identity)) answer
 
 -- trusted, own: Holds if `answer` is the canonical link of the identity that `text` is a class URI of, or why it is not one. A
 -- long text is rejected as long.
-abbrev pub IsClassLink : ClassReading → List ℕ → Result (List ℕ) ClassReason → Type 0
-IsClassLink by text answer = AfterLong (Common Long) (LinksClass by) text answer
+abbrev pub IsClassLink : ClassReading → List ℕ → Result (List ℕ) Reason → Type 0
+IsClassLink by text answer = AfterLong (LinksClass by) text answer
 
 -- trusted, own: holds if `line` is the answer line of `text`, by the canonical link of the identity that it is a class URI of
 abbrev pub IsClassCanonLine : ClassReading → List ℕ → LineAnswer → Type 0
-IsClassCanonLine by text line = IsLineOf class_text (IsClassLink by text) line
+IsClassCanonLine by text line = IsLineOf (IsClassLink by text) line
 
 -- ---- links
 
@@ -61,11 +58,11 @@ writing_by tables prefixes classes gcp = record { tables = tables; prefixes = pr
 
 -- trusted, own: Holds if `answer` is the class URI of the meaning of `text` as a link, or why there is none. A long text is
 -- rejected as long.
-abbrev pub IsClassText : ClassWriting → List ℕ → Result (List ℕ) ClassReason → Type 0
+abbrev pub IsClassText : ClassWriting → List ℕ → Result (List ℕ) Reason → Type 0
 IsClassText by text answer =
-    Then (Restated Common (IsRead by.tables Link text))
-    (λ meaning written. written ≡ reworded of_class_writing (class_answer by.tables.ais by.classes by.prefixes by.gcp meaning.identity)) answer
+    Then (IsRead by.tables Link text)
+    (λ meaning written. written ≡ reworded class_write_reason (class_answer by.tables.ais by.classes by.prefixes by.gcp meaning.identity)) answer
 
 -- trusted, own: holds if `line` is the answer line of `text`, by the class URI of its meaning as a link
 abbrev pub IsClassUriLine : ClassWriting → List ℕ → LineAnswer → Type 0
-IsClassUriLine by text line = IsLineOf class_text (IsClassText by text) line
+IsClassUriLine by text line = IsLineOf (IsClassText by text) line

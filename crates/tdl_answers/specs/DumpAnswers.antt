@@ -5,43 +5,41 @@ use Rattle.gs_membank.specs.declared.error.DumpLineFault.TheVariants.{Memory as 
 use Rattle.gs_membank.specs.declared.error.DumpWriteFault.TheVariants.{Memory as WriteMemory}
 use Rattle.gs_membank.specs.Answers.{ReadsDump, ReadsShown, ShowsDump, WritesDump}
 use Rattle.gs_tables.specs.Tables.{TableRows}
-use Rattle.gs_translate.specs.declared.reason.Reason.TheVariants.{Long}
+use Rattle.gs_translate.specs.declared.reason.Reason.{Reason}
+use Rattle.gs_translate.specs.Meanings.{AfterLong}
 use Rattle.gs_translate.specs.Steps.{Reworded, Then}
-use Rattle.tdl_answers.specs.declared.dump_lines.DumpReason.{DumpReason}
-use Rattle.tdl_answers.specs.declared.dump_lines.DumpReason.TheVariants.{Common}
-use Rattle.tdl_answers.specs.DumpReasons.{dump_text, of_line, of_reading, of_writing}
-use Rattle.tdl_answers.specs.LongTexts.{AfterLong}
+use Rattle.tdl_answers.specs.Reasons.{dump_line_reason, dump_reason, dump_write_reason}
 use Rattle.tdl_messages.specs.AnswerLines.{IsLineOf}
 use Rattle.tdl_lines.specs.Outputs.{LineAnswer}
 
 -- ---- dumps
 
 -- trusted, own: holds if `answer` is the line that shows the dump of `text`, of any length, or why there is none
-abbrev pub ShowsText : TableRows → List ℕ → Result (List ℕ) DumpReason → Type 0
+abbrev pub ShowsText : TableRows → List ℕ → Result (List ℕ) Reason → Type 0
 ShowsText set text answer =
-    Then (Reworded Memory of_reading (ReadsDump set text)) (λ dump. Reworded WriteMemory of_writing (ShowsDump set dump)) answer
+    Then (Reworded Memory dump_reason (ReadsDump set text)) (λ dump. Reworded WriteMemory dump_write_reason (ShowsDump set dump)) answer
 
 -- trusted, own: Holds if `answer` is the line that shows the dump of `text`, or why there is none. A long text is rejected as
 -- long.
-abbrev pub IsDumpShown : TableRows → List ℕ → Result (List ℕ) DumpReason → Type 0
-IsDumpShown set text answer = AfterLong (Common Long) (ShowsText set) text answer
+abbrev pub IsDumpShown : TableRows → List ℕ → Result (List ℕ) Reason → Type 0
+IsDumpShown set text answer = AfterLong (ShowsText set) text answer
 
 -- trusted, own: holds if `line` is the answer line of `text`, by the line that shows the dump that it is
 abbrev pub IsDumpReadLine : TableRows → List ℕ → LineAnswer → Type 0
-IsDumpReadLine set text line = IsLineOf dump_text (IsDumpShown set text) line
+IsDumpReadLine set text line = IsLineOf (IsDumpShown set text) line
 
 -- ---- lines that show dumps
 
 -- trusted, own: holds if `answer` is the text of the dump that `text`, of any length, shows, or why there is none
-abbrev pub WritesText : TableRows → List ℕ → Result (List ℕ) DumpReason → Type 0
+abbrev pub WritesText : TableRows → List ℕ → Result (List ℕ) Reason → Type 0
 WritesText set text answer =
-    Then (Reworded LineMemory of_line (ReadsShown set text)) (λ dump. Reworded WriteMemory of_writing (WritesDump set dump)) answer
+    Then (Reworded LineMemory dump_line_reason (ReadsShown set text)) (λ dump. Reworded WriteMemory dump_write_reason (WritesDump set dump)) answer
 
 -- trusted, own: Holds if `answer` is the text of the dump that `text` shows, or why there is none. A long text is rejected as
 -- long.
-abbrev pub IsDumpWritten : TableRows → List ℕ → Result (List ℕ) DumpReason → Type 0
-IsDumpWritten set text answer = AfterLong (Common Long) (WritesText set) text answer
+abbrev pub IsDumpWritten : TableRows → List ℕ → Result (List ℕ) Reason → Type 0
+IsDumpWritten set text answer = AfterLong (WritesText set) text answer
 
 -- trusted, own: holds if `line` is the answer line of `text`, by the text of the dump that it shows
 abbrev pub IsDumpWriteLine : TableRows → List ℕ → LineAnswer → Type 0
-IsDumpWriteLine set text line = IsLineOf dump_text (IsDumpWritten set text) line
+IsDumpWriteLine set text line = IsLineOf (IsDumpWritten set text) line

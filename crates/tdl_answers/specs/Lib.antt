@@ -1,10 +1,8 @@
+pub mod Reasons
 pub mod TranslatedAnswers
 pub mod LongLines
-pub mod LongTexts
 pub mod LongTextsSupport
-pub mod DumpReasons
 pub mod DumpAnswers
 pub mod LongDumps
-pub mod ClassReasons
 pub mod ClassAnswers
 pub mod LongClasses

@@ -1,23 +1,20 @@
 ghost use Rattle.std.specs.Prelude.{◌≡◌};
 ghost use Rattle.gs_class.specs.Sets.{IsOfTable};
-ghost use Rattle.gs_translate.specs.declared.reason.Reason.TheVariants.{Memory as OutOfMemory};
-ghost use Rattle.tdl_answers.specs.declared.class_lines.ClassReason.TheVariants.{Common};
+ghost use Rattle.gs_translate.specs.Steps.{UnlessMemory};
 ghost use Rattle.tdl_answers.specs.ClassAnswers.{IsClassLink, IsClassText, reading_by, writing_by};
-ghost use Rattle.tdl_messages.specs.AnswerLines.{HasMemory};
 
+use crate::reasons::{class_reason, class_write_reason};
 use gs_ai::AiTable;
 use gs_chars::{LONGEST_TEXT, Memory, Text};
-use gs_class::{ClassFault, ClassSet, ClassWriteFault, read_class, write_class};
-use gs_epc::EpcFault;
+use gs_class::{ClassSet, read_class, write_class};
 use gs_ident::canonical;
 use gs_prefix::PrefixList;
-use gs_tables::{Field, TableSet};
-use gs_translate::{FieldName, Form, Reason, append_reason, append_word, read};
+use gs_tables::TableSet;
+use gs_translate::{Form, Reason, read};
 use std::alloc::Global;
 use std::marker::Model;
 use tdl_lines::Answerer;
-use tdl_messages::{Reasoned, append_line};
-use thiserror::Error;
+use tdl_messages::append_line;
 
 /// Returns the canonical link of the identity that a text is a class URI of.
 fn link_text(
@@ -25,15 +22,14 @@ fn link_text(
     table: &AiTable,
     classes: &ClassSet,
     text: &[u8],
-) -> Result<Text, ClassReason>
+) -> Result<Text, Reason>
     requires { IsOfTable table.now classes.now }
-    ensures { HasMemory (λ reason. reason ≡ Common OutOfMemory) result
-        → IsClassLink (reading_by table.now classes.now) text.now result }
+    ensures { UnlessMemory result (IsClassLink (reading_by table.now classes.now) text.now result) }
 {
     if text.len() > LONGEST_TEXT {
-        return Err(ClassReason::Common(Reason::Long));
+        return Err(Reason::Long);
     }
-    let identity = read_class(alloc, classes, table, text)?;
+    let identity = read_class(alloc, classes, table, text).map_err(class_reason)?;
     Ok(canonical(alloc, &identity)?)
 }
 
@@ -129,20 +125,20 @@ impl<'a> ClassUriLines<'a> {
     }
 
     /// Returns the class URI of the meaning of a text as a link.
-    fn class_text(&self, alloc: Global, text: &[u8]) -> Result<Text, ClassReason>
-        ensures { HasMemory (λ reason. reason ≡ Common OutOfMemory) result
-            → IsClassText self.now text.now result }
+    fn class_text(&self, alloc: Global, text: &[u8]) -> Result<Text, Reason>
+        ensures { UnlessMemory result (IsClassText self.now text.now result) }
     {
         let meaning = read(alloc, self.tables, Form::Link, text)?;
         let table = self.tables.ais();
-        Ok(write_class(
+        write_class(
             alloc,
             self.classes,
             table,
             self.prefixes,
             self.gcp,
             &meaning.identity,
-        )?)
+        )
+        .map_err(class_write_reason)
     }
 }
 
@@ -157,96 +153,4 @@ impl Answerer for ClassUriLines<'_> {
     }
 
     ghost long_alike = { λ s. long_classes_written s };
-}
-
-/// Why a class URI names nothing, or why the identity of a link is not written as a class URI.
-#[derive(Debug, PartialEq, Drop, Error)]
-pub enum ClassReason {
-    /// A reason that translations have too: the text is long or has no reading, is not a link, or its identity is not written.
-    #[error("{0}")]
-    Common(Reason),
-    /// No class has the key of the identity.
-    #[error("no class has this key")]
-    NoClass,
-    /// No class that has the key has an element that the identity has.
-    #[error("no element makes a class")]
-    MissingElement,
-}
-
-impl From<Reason> for ClassReason {
-    ghost use Rattle.std.specs.Prelude.{◌≡◌};
-    ghost use Rattle.tdl_answers.specs.declared.class_lines.ClassReason.TheVariants.{Common};
-
-    ghost from_gives = { λ error reason. reason ≡ Common error };
-
-    fn from(error: Reason) -> ClassReason {
-        ClassReason::Common(error)
-    }
-}
-
-impl From<Memory> for ClassReason {
-    ghost use Rattle.std.specs.Prelude.{◌≡◌};
-    ghost use Rattle.gs_translate.specs.declared.reason.Reason.TheVariants.{Memory as OutOfMemory};
-    ghost use Rattle.tdl_answers.specs.declared.class_lines.ClassReason.TheVariants.{Common};
-
-    ghost from_gives = { λ _ reason. reason ≡ Common OutOfMemory };
-
-    fn from(_rejected: Memory) -> ClassReason {
-        ClassReason::Common(Reason::Memory)
-    }
-}
-
-impl From<ClassFault> for ClassReason {
-    ghost use Rattle.std.specs.Prelude.{◌≡◌};
-    ghost use Rattle.tdl_answers.specs.ClassReasons.{of_class};
-
-    ghost from_gives = { λ error reason. reason ≡ of_class error };
-
-    fn from(error: ClassFault) -> ClassReason {
-        match error {
-            ClassFault::NoReading => ClassReason::Common(Reason::Epc(EpcFault::NoReading)),
-            ClassFault::Memory => ClassReason::Common(Reason::Memory),
-        }
-    }
-}
-
-impl From<ClassWriteFault> for ClassReason {
-    ghost use Rattle.std.specs.Prelude.{◌≡◌};
-    ghost use Rattle.tdl_answers.specs.ClassReasons.{of_class_writing};
-
-    ghost from_gives = { λ error reason. reason ≡ of_class_writing error };
-
-    fn from(error: ClassWriteFault) -> ClassReason {
-        match error {
-            ClassWriteFault::NoClass => ClassReason::NoClass,
-            ClassWriteFault::MissingElement => ClassReason::MissingElement,
-            ClassWriteFault::Extra(code) => ClassReason::Common(Reason::Extra(code)),
-            ClassWriteFault::MissingGcp => ClassReason::Common(Reason::Missing(FieldName::Gcp)),
-            ClassWriteFault::NoOption => ClassReason::Common(Reason::NoOption),
-            ClassWriteFault::CannotHold(why) => {
-                ClassReason::Common(Reason::CannotHold(Field::Serial, why))
-            }
-            ClassWriteFault::Memory => ClassReason::Common(Reason::Memory),
-        }
-    }
-}
-
-impl Reasoned for ClassReason {
-    ghost use Rattle.std.specs.Prelude.{◌≡◌};
-    ghost use Rattle.gs_translate.specs.declared.reason.Reason.TheVariants.{Memory as OutOfMemory};
-    ghost use Rattle.tdl_answers.specs.declared.class_lines.ClassReason.TheVariants.{Common};
-    ghost use Rattle.tdl_answers.specs.ClassReasons.{class_text};
-
-    ghost text = { λ reason. class_text reason };
-
-    ghost is_memory = { λ reason. reason ≡ Common OutOfMemory };
-
-    fn append(&self, alloc: Global, out: &mut Vec<u8>) -> Result<(), Memory> {
-        match self {
-            ClassReason::Common(Reason::Memory) => Err(Memory),
-            ClassReason::Common(reason) => append_reason(alloc, out, reason),
-            ClassReason::NoClass => append_word(out, b"class"),
-            ClassReason::MissingElement => append_word(out, b"missing element"),
-        }
-    }
 }

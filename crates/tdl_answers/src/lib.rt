@@ -19,8 +19,9 @@
 
 mod class_lines;
 mod dump_lines;
+mod reasons;
 mod translated_lines;
 
-pub use class_lines::{ClassCanonLines, ClassReason, ClassUriLines};
-pub use dump_lines::{DumpReadLines, DumpReason, DumpWriteLines};
+pub use class_lines::{ClassCanonLines, ClassUriLines};
+pub use dump_lines::{DumpReadLines, DumpWriteLines};
 pub use translated_lines::{TranslatedLines, answer_lines};

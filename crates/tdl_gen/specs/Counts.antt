@@ -10,7 +10,6 @@ use Rattle.gs_translate.specs.declared.form.Options.{Options}
 use Rattle.gs_translate.specs.declared.reason.Reason.{Reason}
 use Rattle.gs_translate.specs.declared.form.Target.{Target}
 use Rattle.gs_translate.specs.declared.form.Target.TheVariants as target
-use Rattle.gs_translate.specs.Reasons.{reason_text}
 use Rattle.gs_translate.specs.Steps.{Then}
 use Rattle.gs_translate.specs.Translations.{IsTranslation}
 use Rattle.tdl_gen.specs.Generator.{generated_line}
@@ -36,7 +35,7 @@ pub data AnswersFirst (set : TableRows) : ℕ → List (Result (List ℕ) Reason
 
 -- trusted, own: the bytes of the line of an answer, with its line feed
 abbrev pub answer_bytes : Result (List ℕ) Reason → List ℕ
-answer_bytes answer = printed (line_of reason_text answer)
+answer_bytes answer = printed (line_of answer)
 
 -- trusted, own: the number of answers that are texts
 abbrev pub ok_answers : List (Result (List ℕ) Reason) → ℕ

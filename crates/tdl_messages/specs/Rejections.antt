@@ -25,7 +25,7 @@ use Rattle.gs_template.specs.declared.error.PlaceFault.{PlaceFault}
 use Rattle.gs_template.specs.declared.error.PlaceFault.TheVariants.{Brace, Code}
 use Rattle.gs_translate.specs.declared.reason.Reason.TheVariants.{Ident}
 use Rattle.gs_translate.specs.Meanings.{link_reason}
-use Rattle.gs_translate.specs.Reasons.{numbered, reason_text}
+use Rattle.gs_translate.specs.Reasons.{numbered, numbered_twice, reason_text}
 use Rattle.tdl_messages.specs.declared.file_kind.FileKind.{FileKind}
 use Rattle.tdl_messages.specs.declared.file_kind.FileKind.TheVariants as kind
 use Rattle.tdl_messages.specs.declared.rejection.Rejection.{Rejection}
@@ -79,10 +79,6 @@ abbrev pub level_text : LevelName → List ℕ
 level_text Binary = codes "binary"
 level_text Tag = codes "tag"
 level_text Pure = codes "pure"
-
--- trusted, own: the text of a word and two numbers
-abbrev pub numbered_twice : List ℕ → ℕ → ℕ → List ℕ
-numbered_twice word i j = numbered (numbered word i) j
 
 -- trusted, own: the text of a word and a level
 abbrev pub of_level : List ℕ → LevelName → List ℕ

@@ -1,9 +1,8 @@
 //! The lines that the program prints of answers to texts, and of files that are rejected.
 //!
-//! - `append_line` appends the line of an answer, `ok TEXT` or `no REASON`, whatever the reasons are (`Reasoned`); `append_accepted`
-//!   and `append_rejected` append either.
+//! - `append_line` appends the line of an answer, `ok TEXT` or `no REASON`; `append_accepted` and `append_rejected` append either.
 //! - `rejected_line` is the printed line of a rejected file. docs/TABLES.md has the text of each error in 'Why tables are
-//!   rejected' and similar sections. The texts of the reasons of translations are in gs_translate.
+//!   rejected' and similar sections. The texts of the reasons of lines are in gs_translate.
 //! - `fault_text` is the reason of such a line alone.
 //! - `FileKind` has the word of each kind of file, and the most bytes that such a file may have.
 //!
@@ -28,7 +27,7 @@ mod link_rejections;
 mod rejection;
 mod rejections;
 
-pub use answer_lines::{Reasoned, append_accepted, append_line, append_rejected};
+pub use answer_lines::{append_accepted, append_line, append_rejected};
 pub use file_kind::FileKind;
 pub use rejection::{FileFault, Rejection};
 pub use rejections::{fault_text, rejected_line};

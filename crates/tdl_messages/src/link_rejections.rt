@@ -3,7 +3,7 @@ ghost use Rattle.tdl_messages.specs.Rejections.{anchor_text, link_text_text, num
 ghost use Rattle.tdl_messages.specs.Rejections.{place_text, store_text, classes_text};
 ghost use Rattle.gs_translate.specs.Reasons.{numbered};
 
-use crate::answer_lines::{append_numbered_twice, append_words};
+use crate::answer_lines::append_words;
 use crate::rejections::append_form;
 use gs_chars::Memory;
 use gs_class::ClassLoadFault;
@@ -11,7 +11,8 @@ use gs_links::{AnchorWhy, StoreFault};
 use gs_linktext_grammar::LinkTextFault;
 use gs_template::PlaceFault;
 use gs_translate::{
-    Reason, append_ident, append_number, append_numbered, append_reason, append_word,
+    Reason, append_ident, append_number, append_numbered, append_numbered_twice, append_reason,
+    append_word,
 };
 use std::alloc::Global;
 

@@ -3,7 +3,7 @@ ghost use Rattle.tdl_messages.specs.Rejections.{ai_text, error_text, json_text, 
 ghost use Rattle.gs_translate.specs.Reasons.{numbered};
 ghost use Rattle.gs_chars.specs.Characters.{is_visible};
 
-use crate::answer_lines::{append_numbered_twice, append_words};
+use crate::answer_lines::append_words;
 use crate::link_rejections::{append_classes, append_link_text, append_place_of, append_store};
 use crate::rejection::{FileFault, Rejection};
 use gs_ai::AiFault;
@@ -11,7 +11,7 @@ use gs_chars::{CharSet, Memory};
 use gs_json::JsonFault;
 use gs_prefix::PrefixFault;
 use gs_tables_document::{LevelName, LimitName, LoadFault};
-use gs_translate::{append_number, append_numbered, append_word};
+use gs_translate::{append_number, append_numbered, append_numbered_twice, append_word};
 use std::alloc::Global;
 
 /// Returns the printed byte of a place: a question mark if the byte is not a visible character.

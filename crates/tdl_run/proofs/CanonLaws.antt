@@ -40,7 +40,7 @@ canon_lines loaded form text line = (
 accepted_answer : (set : TableRows) (form : Form) (text link : List ℕ) → IsCanonLine set form text (accepted link) → IsAnswer set form text (Ok link)
 accepted_answer set form text link l = by l.answer l.is_answer l.is
   where
-    by : (answer : Result (List ℕ) Reason) → IsAnswer set form text answer → accepted link ≡ line_of reason_text answer → IsAnswer set form text (Ok link)
+    by : (answer : Result (List ℕ) Reason) → IsAnswer set form text answer → accepted link ≡ line_of answer → IsAnswer set form text (Ok link)
     by (Ok found) a e = let same : link ≡ found = cc in rw same a
     by (Err reason) a e = absurd (let f : accepted link ≡ rejected (reason_text reason) = e in cc)
 
@@ -72,7 +72,7 @@ linked loaded values form text link l = by l.answer l.is_answer l.is
         record { meaning = meaning; read = read; is = cc }
 
     by : (answer : Result (List ℕ) Reason) → IsTranslation loaded.tables loaded.prefixes (options_of values) form Canon text answer
-        → accepted link ≡ line_of reason_text answer → Linked loaded.tables values.keys_only form text link
+        → accepted link ≡ line_of answer → Linked loaded.tables values.keys_only form text link
     by (Ok found) a e = of_link found (cc) a
     by (Err reason) a e = absurd (let f : accepted link ≡ rejected (reason_text reason) = e in cc)
 

@@ -180,7 +180,6 @@ fn put_answer(alloc: Global, answer: Result<Text, Reason>, out: &mut [u8], len: 
 {
     match answer {
         Ok(text) => put_bytes(OK, text.as_bytes(), out, len),
-        Err(Reason::Memory) => nothing(MEMORY, len),
         Err(reason) => match reason_text(alloc, &reason) {
             Ok(text) => put_bytes(NO, text.as_bytes(), out, len),
             Err(_) => nothing(MEMORY, len),

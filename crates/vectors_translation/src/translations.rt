@@ -171,9 +171,6 @@ fn add_translated(alloc: Global, line: &mut Line, answer: Result<Text, Reason>) 
 
 /// Writes a reason, as one word.
 fn add_reason(alloc: Global, line: &mut Line, reason: &Reason) -> Done {
-    if let Reason::Memory = reason {
-        return Err(Rejection::Memory);
-    }
     line.text(reason_text(alloc, reason)?);
     Ok(())
 }

@@ -8,7 +8,7 @@ pub append_reading-requires-clause-given : goal.append_reading-requires-clause-g
 append_reading-requires-clause-given c = fits_at c.args.set.now c.args.from c.args.text.now _ c.ais.ensures.shaped c.in_ok-reading.ensures.answer
 
 pub returns-then-text-gt-LONGEST_TEXT-clause-written : goal.returns-then-text-gt-LONGEST_TEXT-clause-written
-returns-then-text-gt-LONGEST_TEXT-clause-written c = λ prefixes. (refl, long_rejected c.args.set.now prefixes c.args.options.now c.args.from c.args.to c.args.text.now (omega arith))
+returns-then-text-gt-LONGEST_TEXT-clause-written c = λ prefixes known. (refl, long_rejected c.args.set.now prefixes c.args.options.now c.args.from c.args.to c.args.text.now (omega arith))
 
 pub returns-in_err-reading-clause-written : goal.returns-in_err-reading-clause-written
 returns-in_err-reading-clause-written c = λ prefixes.

@@ -1,25 +1,23 @@
-use Rattle.std.proofs.Common.{◌≡◌, ap}
-use Rattle.std.specs.Prelude.{Ok, Err}
+use Rattle.std.proofs.Common.{refl}
 use Rattle.std.proofs.lemmas.Result.{err_from_is_err_and}
-use Rattle.gs_membank.specs.declared.error.DumpLineFault.TheVariants as line
-use Rattle.gs_membank.specs.declared.error.DumpWriteFault.TheVariants as writing
+use Rattle.gs_membank.specs.declared.error.DumpLineFault.TheVariants.{Memory}
+use Rattle.gs_membank.specs.declared.error.DumpWriteFault.TheVariants as dump_write
 use Rattle.gs_membank.specs.Answers.{ReadsShown, WritesDump}
-use Rattle.tdl_answers.specs.DumpReasons.{of_line, of_writing}
-use Rattle.tdl_answers.proofs.DumpLemmas.{first_rejects, second_answers}
+use Rattle.gs_translate.specs.Meanings.{short}
+use Rattle.gs_translate.specs.Steps.{goes_on, rejects}
+use Rattle.gs_translate.proofs.StepLaws.{unless_map}
+use Rattle.tdl_answers.specs.Reasons.{dump_line_reason, dump_write_reason}
+use Rattle.tdl_answers.proofs.StepLemmas.{step_answers}
 use Rattle.tdl_answers.proofs.dump_lines.written_text.Goals as goal
 
 pub returns-in_err-dump : goal.returns-in_err-dump
 returns-in_err-dump c =
     let p = err_from_is_err_and c.from_residual.result c.from_residual.ensures.1 in
-    rw (p.1, p.2) (λ enough. first_rejects line.Memory of_line writing.Memory of_writing (ReadsShown c.args.set.now) (WritesDump c.args.set.now) c.args.text.now c.in_err-dump.field-0.0 c.if-text-gt-LONGEST_TEXT.false c.in_err-dump.ensures.answer (λ memory. enough (ap of_line memory)))
-
-pub returns-in_err-write_dump : goal.returns-in_err-write_dump
-returns-in_err-write_dump c =
-    let p = err_from_is_err_and c.from_residual-in_err-write_dump.result c.from_residual-in_err-write_dump.ensures.1 in
-    rw (p.1, p.2) (λ enough. second_answers line.Memory of_line writing.Memory of_writing (ReadsShown c.args.set.now) (WritesDump c.args.set.now) c.args.text.now c.in_ok-dump.dump (Err c.in_err-write_dump.field-0.0) c.if-text-gt-LONGEST_TEXT.false c.in_ok-dump.ensures.answer
-    (λ memory. enough (let is : c.in_err-write_dump.field-0.0 ≡ writing.Memory = cc in ap of_writing is)) c.in_err-write_dump.ensures)
+    let first = step_answers Memory dump_line_reason refl (ReadsShown c.args.set.now c.args.text.now) c.read_shown.result _ c.in_err-dump.ensures.cases c.read_shown.ensures.answer in
+    rw (p.1, p.2) (λ known. short c.if-text-gt-LONGEST_TEXT.false (rejects c.in_err-dump.field-0.0 (first known) refl))
 
 pub returns : goal.returns
-returns c = λ _. second_answers line.Memory of_line writing.Memory of_writing (ReadsShown c.args.set.now)
-    (WritesDump c.args.set.now) c.args.text.now c.in_ok-dump.dump
-    (Ok c.in_ok-write_dump.field-0) c.if-text-gt-LONGEST_TEXT.false c.in_ok-dump.ensures.answer (λ memory. cc) c.in_ok-write_dump.ensures
+returns c =
+    let first = step_answers Memory dump_line_reason refl (ReadsShown c.args.set.now c.args.text.now) c.read_shown.result _ c.in_ok-dump.ensures.cases c.read_shown.ensures.answer in
+    let second = step_answers dump_write.Memory dump_write_reason refl (WritesDump c.args.set.now c.in_ok-dump.dump) c.write_dump.result c.map_err-2.result c.map_err-2.ensures.cases c.write_dump.ensures in
+    unless_map c.map_err-2.result (λ said. short c.if-text-gt-LONGEST_TEXT.false (goes_on c.in_ok-dump.dump first said)) second

@@ -11,7 +11,7 @@ use Rattle.gs_translate.proofs.StepLaws.{then_appended, unless_rejected}
 use Rattle.gs_translate.proofs.translator.Translator.append_named.Goals as goal
 
 pub returns-then-text-gt-LONGEST_TEXT-clause-written : goal.returns-then-text-gt-LONGEST_TEXT-clause-written
-returns-then-text-gt-LONGEST_TEXT-clause-written c = rw (← c.self.view_is) (refl, rejects Long (too_long (omega arith) refl) refl)
+returns-then-text-gt-LONGEST_TEXT-clause-written c = rw (← c.self.view_is) (λ known. (refl, rejects Long (too_long (omega arith) refl) refl))
 
 pub returns-in_err-named-clause-written : goal.returns-in_err-named-clause-written
 returns-in_err-named-clause-written c =

@@ -1,12 +1,7 @@
-use Rattle.std.proofs.Common.{◌≡◌}
-use Rattle.gs_translate.specs.declared.reason.Reason.TheVariants.{Memory}
-use Rattle.tdl_answers.specs.declared.dump_lines.DumpReason.TheVariants.{Common}
 use Rattle.tdl_answers.specs.DumpAnswers.{IsDumpWritten}
-use Rattle.tdl_answers.specs.DumpReasons.{dump_text}
 use Rattle.tdl_answers.proofs.LineLemmas.{adds_known}
 use Rattle.tdl_answers.proofs.dump_lines.DumpWriteLinesAnswerer.append_answer.Goals as goal
 
 pub returns-clause-line : goal.returns-clause-line
 returns-clause-line c =
-    adds_known dump_text (IsDumpWritten c.args.self.now.set.now)
-    (λ reason. reason ≡ Common Memory) c.args.text.now c.args.out.now.items c.append_line.new.out.items c.written_text.result c.append_line.result c.written_text.ensures c.append_line.ensures.known c.append_line.ensures.line
+    adds_known (IsDumpWritten c.args.self.now.set.now) c.args.text.now c.args.out.now.items c.append_line.new.out.items c.written_text.result c.append_line.result c.written_text.ensures c.append_line.ensures.known c.append_line.ensures.line
