@@ -7,9 +7,10 @@ use Rattle.std.proofs.lemmas.Bool.Decides.{nat_tests}
 use Rattle.std.proofs.lemmas.List.{get_or-drop, take_all}
 use Rattle.memchr.specs.Find.{IsLastByte, NoneAfter, Nowhere, Passes}
 use Rattle.gs_chars.proofs.TruthsAndLists.{or_second, true_or_false, equal_number}
-use Rattle.gs_dlink.specs.Uris.{authority_end, authority_from, ends_authority, is_slash, scheme_end, part_pairs, pieces_behind, query_pairs, query_parts, segments, separates_parts, Written}
+use Rattle.gs_dlink.specs.Uris.{authority_end, authority_from, ends_authority, scheme_end, part_pairs, pieces_behind, query_pairs, query_parts, segments, separates_parts, Written}
 use Rattle.gs_dlink.specs.UrisSupport.{LastSlash, NoSlash}
 use Rattle.std.proofs.lemmas.Bool.{false_from_ne_true}
+use Rattle.gs_chars.specs.Characters.{is_byte}
 
 -- ---- the results of the searches of `memchr`
 
@@ -17,19 +18,19 @@ none_any : (test : ℕ → Bool) (text : List ℕ) → ((k : ℕ) → k < length
 none_any test [] none = refl
 none_any test (c ∷ text) none = rw (none zero (omega arith), none_any test text (λ k low. none (suc k) (omega arith))) refl
 
-pub no_slash : (text : List ℕ) → Nowhere (Passes is_slash text) 0 (length text) → NoSlash text
-no_slash text h = none_any is_slash text (λ k low. false_from_ne_true _ (h k (omega arith) low))
+pub no_slash : (text : List ℕ) → Nowhere (Passes (is_byte 47) text) 0 (length text) → NoSlash text
+no_slash text h = none_any (is_byte 47) text (λ k low. false_from_ne_true _ (h k (omega arith) low))
 
 cut_at : (text : List ℕ) (k : ℕ) → k < length text → get_or text k 0 ≡ 47 → text ≡ take k text ++ 47 ∷ drop (k + 1) text
 cut_at text k within h =
     let e : drop k text ≡ 47 ∷ drop (k + 1) text = rw (add-one) (drop-cons text k 0 within ∙ ap (λ c. c ∷ drop (suc k) text) h) in
     sym (take-append-drop k text) ∙ ap (λ rest. take k text ++ rest) e
 
-pub last_at : (text : List ℕ) (k : ℕ) → NoneAfter (Passes is_slash text) 0 (length text) k → is_slash (get_or text k 0) ≡ true → LastSlash text k
+pub last_at : (text : List ℕ) (k : ℕ) → NoneAfter (Passes (is_byte 47) text) 0 (length text) k → (is_byte 47) (get_or text k 0) ≡ true → LastSlash text k
 last_at text k none h = record {
   within = none.high;
   cut = cut_at text k none.high (equal_number (get_or text k 0) 47 h);
-  last = none_any is_slash (drop (k + 1) text) (λ j low.
+  last = none_any (is_byte 47) (drop (k + 1) text) (λ j low.
       let at = get_or-drop (k + 1) text j 0 in
       let inside : k + 1 + j < length text = below text k j none.high low in
       rw at (false_from_ne_true _ (none.after (k + 1 + j) (omega arith) inside)));
@@ -44,7 +45,7 @@ last_at text k none h = record {
         omega (arith, below text k j (omega arith) low')
 
 -- the last slash, if there is one
-pub slash_answer : (text : List ℕ) (r : Option ℕ) → IsLastByte is_slash text r → MatchOption r (NoSlash text) (LastSlash text)
+pub slash_answer : (text : List ℕ) (r : Option ℕ) → IsLastByte (is_byte 47) text r → MatchOption r (NoSlash text) (LastSlash text)
 slash_answer text None h = no_slash text h
 slash_answer text (Some k) h = last_at text k h.0 h.1
 
@@ -122,13 +123,13 @@ pub segments_last : (at : ℕ) (path : List ℕ) (k : ℕ) → LastSlash path k
     → segments at path ≡ segments at (take k path) ++ (record { at = at + length (take k path) + 1; text = drop (k + 1) path }) ∷ []
 unfolding segments
 segments_last at path k h =
-    ap (λ text. pieces_behind is_slash at text) h.cut
-    ∙ pieces_seam is_slash at (take k path) (drop (k + 1) path) 47 refl
-    ∙ rw (before_none is_slash (drop (k + 1) path) h.last, no_pieces is_slash (at + length (take k path) + 1) (drop (k + 1) path) h.last) refl
+    ap (λ text. pieces_behind (is_byte 47) at text) h.cut
+    ∙ pieces_seam (is_byte 47) at (take k path) (drop (k + 1) path) 47 refl
+    ∙ rw (before_none (is_byte 47) (drop (k + 1) path) h.last, no_pieces (is_byte 47) (at + length (take k path) + 1) (drop (k + 1) path) h.last) refl
 
 pub no_segments : (at : ℕ) (path : List ℕ) → NoSlash path → segments at path ≡ []
 unfolding segments
-no_segments at path h = no_pieces is_slash at path h
+no_segments at path h = no_pieces (is_byte 47) at path h
 
 -- ---- lengths
 

@@ -21,7 +21,7 @@ use Rattle.gs_ident.proofs.PairLemmas.{Each, find_by_cases, found_each, found_pa
 use Rattle.gs_ident.proofs.ValueEscapes.{IsByte}
 use Rattle.gs_dlink.specs.Answers.{written_answer}
 use Rattle.gs_dlink.specs.Paths.{paired}
-use Rattle.gs_dlink.specs.Uris.{Written, is_slash, part_pairs, pieces_behind, query_parts, separates_parts}
+use Rattle.gs_dlink.specs.Uris.{Written, part_pairs, pieces_behind, query_parts, separates_parts}
 use Rattle.gs_dlink.specs.Values.{is_short_gtin, padded, pair_answer}
 use Rattle.gs_dlink.proofs.CutLemmas.{after_seam, any_append, before_none, before_seam, no_pieces, pieces_seam}
 use Rattle.gs_dlink.proofs.FreeBytes.{are_free, decoded_again, digits_free, encoded_escapes, encoded_free, is_free, no_byte, none_in, set82_bytes}
@@ -148,11 +148,11 @@ steps ps = flat_map path_step ps
 -- nothing, or a text that begins with a slash
 abbrev pub is_cut : List ℕ → Bool
 is_cut [] = true
-is_cut (c ∷ _) = is_slash c
+is_cut (c ∷ _) = is_byte 47 c
 
-before_cut : (a b : List ℕ) → list_any is_slash a ≡ false → is_cut b ≡ true → before_first is_slash (a ++ b) ≡ a
-before_cut a [] none cut = ap (before_first is_slash) (append-nil a) ∙ before_none is_slash a none
-before_cut a (c ∷ b) none cut = before_seam is_slash a b c cut ∙ before_none is_slash a none
+before_cut : (a b : List ℕ) → list_any (is_byte 47) a ≡ false → is_cut b ≡ true → before_first (is_byte 47) (a ++ b) ≡ a
+before_cut a [] none cut = ap (before_first (is_byte 47)) (append-nil a) ∙ before_none (is_byte 47) a none
+before_cut a (c ∷ b) none cut = before_seam (is_byte 47) a b c cut ∙ before_none (is_byte 47) a none
 
 pieces_skip : (test : ℕ → Bool) (at : ℕ) (a b : List ℕ) → list_any test a ≡ false → pieces_behind test at (a ++ b) ≡ pieces_behind test (at + length a) b
 pieces_skip test at [] b none = let e : at + 0 ≡ at = omega arith in rw e refl
@@ -162,19 +162,19 @@ pieces_skip test at (c ∷ a) b none = elim (true_or_false (test c)) [
 ]
 
 -- the two segments of a step
-step_pieces : (at : ℕ) (code value b : List ℕ) → list_any is_slash code ≡ false → list_any is_slash value ≡ false → is_cut b ≡ true
-    → (m : ℕ) × ((n : ℕ) × (pieces_behind is_slash at (47 ∷ ((code ++ 47 ∷ value) ++ b)) ≡ record { at = at + 1; text = code } ∷ (record { at = m; text = value } ∷ pieces_behind is_slash n b)))
+step_pieces : (at : ℕ) (code value b : List ℕ) → list_any (is_byte 47) code ≡ false → list_any (is_byte 47) value ≡ false → is_cut b ≡ true
+    → (m : ℕ) × ((n : ℕ) × (pieces_behind (is_byte 47) at (47 ∷ ((code ++ 47 ∷ value) ++ b)) ≡ record { at = at + 1; text = code } ∷ (record { at = m; text = value } ∷ pieces_behind (is_byte 47) n b)))
 step_pieces at code value b none_code none_value cut =
     let whole : (code ++ 47 ∷ value) ++ b ≡ code ++ 47 ∷ (value ++ b) = append_assoc code (47 ∷ value) b in
-    let first : before_first is_slash (code ++ 47 ∷ (value ++ b)) ≡ code = before_seam is_slash code (value ++ b) 47 refl ∙ before_none is_slash code none_code in
+    let first : before_first (is_byte 47) (code ++ 47 ∷ (value ++ b)) ≡ code = before_seam (is_byte 47) code (value ++ b) 47 refl ∙ before_none (is_byte 47) code none_code in
     let place : ℕ = at + 1 + length code + 1 in
-    let behind : pieces_behind is_slash (at + 1) (code ++ 47 ∷ (value ++ b)) ≡ record { at = place; text = value } ∷ pieces_behind is_slash (place + length value) b =
-    pieces_seam is_slash (at + 1) code (value ++ b) 47 refl
-    ∙ rw (no_pieces is_slash (at + 1) code none_code, before_cut value b none_value cut, pieces_skip is_slash place value b none_value) refl in
+    let behind : pieces_behind (is_byte 47) (at + 1) (code ++ 47 ∷ (value ++ b)) ≡ record { at = place; text = value } ∷ pieces_behind (is_byte 47) (place + length value) b =
+    pieces_seam (is_byte 47) (at + 1) code (value ++ b) 47 refl
+    ∙ rw (no_pieces (is_byte 47) (at + 1) code none_code, before_cut value b none_value cut, pieces_skip (is_byte 47) place value b none_value) refl in
     (place, (place + length value, rw (whole, first, behind) refl))
 
 module _ (table : List AiRow) where
-  no_slash_in : (text : List ℕ) → are_free text ≡ true → list_any is_slash text ≡ false
+  no_slash_in : (text : List ℕ) → are_free text ≡ true → list_any (is_byte 47) text ≡ false
   no_slash_in text h = no_byte 47 refl text h
 
   steps_cut : (ps : List Pair) → is_cut (steps ps) ≡ true
@@ -182,7 +182,7 @@ module _ (table : List AiRow) where
   steps_cut (p ∷ ps) = refl
 
   pub steps_read : (at : ℕ) (ps : List Pair) → Each (IsOfTable table) ps
-      → (ws : List Written) × (paired (pieces_behind is_slash at (steps ps)) ≡ Some ws) × AllSpelled ws ps
+      → (ws : List Written) × (paired (pieces_behind (is_byte 47) at (steps ps)) ≡ Some ws) × AllSpelled ws ps
   steps_read at [] each = ([], refl, tt)
   steps_read at (p ∷ ps) each =
       let of = each zero p refl in

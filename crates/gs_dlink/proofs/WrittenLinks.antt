@@ -18,7 +18,7 @@ use Rattle.gs_dlink.specs.Answers.{is_rooted, link_answer, target_answer}
 use Rattle.gs_dlink.specs.Paths.{codes_of, is_in_order, key_path, listed_of, paired}
 use Rattle.gs_dlink.specs.Stems.{are_stem_bytes, begins_authority, goes_on, is_stem_byte, stem_ok}
 use Rattle.gs_chars.specs.Characters.{is_byte}
-use Rattle.gs_dlink.specs.Uris.{Written, authority_end, ends_authority, is_slash, path_of, pieces_behind, query_of as link_query_of, query_pairs, segments}
+use Rattle.gs_dlink.specs.Uris.{Written, authority_end, ends_authority, path_of, pieces_behind, query_of as link_query_of, query_pairs, segments}
 use Rattle.gs_dlink.proofs.CutLemmas.{after_none, after_seam, any_append, any_drop, before_none, before_seam, pieces_seam, place_seam, place_within}
 use Rattle.gs_dlink.proofs.FreeBytes.{is_free, no_byte}
 use Rattle.gs_dlink.proofs.KeyPaths.{lists_no_key, none_in_order, ordered_path, path_from_key}
@@ -133,16 +133,16 @@ module _ (table : List AiRow) (rules : KeepsRules table) (identity : Elements) (
   unfolding segments
   path_read at p0 = by (steps_read table (at + length p0) path_pairs path_of_table)
     where
-      by : ((ws : List Written) × (paired (pieces_behind is_slash (at + length p0) (steps path_pairs)) ≡ Some ws) × AllSpelled ws path_pairs)
-          → (ws : List Written) × (key_path table (pieces_behind is_slash at (p0 ++ steps path_pairs)) ≡ Some ws) × AllSpelled ws path_pairs
+      by : ((ws : List Written) × (paired (pieces_behind (is_byte 47) (at + length p0) (steps path_pairs)) ≡ Some ws) × AllSpelled ws path_pairs)
+          → (ws : List Written) × (key_path table (pieces_behind (is_byte 47) at (p0 ++ steps path_pairs)) ≡ Some ws) × AllSpelled ws path_pairs
       by ([], h, spelled) = absurd spelled
       by (s ∷ d, h, spelled) =
           let ordered : is_in_order (listed_of table s.code) (codes_of d) ≡ true = rw (spelled.0.code, spelled_codes d identity.qualifiers spelled.1) (qualifiers_ordered table identity is_made) in
           let key : is_key_of table s.code ≡ true = rw spelled.0.code (key_code table identity is_made) in
           let none = none_in_order (λ code. is_key_of table code) (listed_of table s.code) (codes_of d) (lists_no_key table rules s.code) ordered in (
             s ∷ d,
-            ap (key_path table) (pieces_seam is_slash at p0 _ 47 refl)
-                ∙ path_from_key table rules (pieces_behind is_slash at p0) (pieces_behind is_slash (at + length p0) (steps path_pairs)) s d h key none
+            ap (key_path table) (pieces_seam (is_byte 47) at p0 _ 47 refl)
+                ∙ path_from_key table rules (pieces_behind (is_byte 47) at p0) (pieces_behind (is_byte 47) (at + length p0) (steps path_pairs)) s d h key none
                 ∙ sym (ordered_path table s d key ordered),
             spelled,
           )
@@ -208,7 +208,7 @@ stem_rooted (c ∷ r) z no_question no_hash = elim (true_or_false (is_byte 63 c)
     | inr h ↦
         let question = rw q at no_question in
         let hash = rw h at no_hash in
-        elim (true_or_false (is_slash c)) [
+        elim (true_or_false (is_byte 47 c)) [
           | inl t ↦ rw t t
           | inr t ↦ let e : 1 + position_or_len ends_authority r ≡ suc (position_or_len ends_authority r) = grind arith in rw (t, q, h, e)
               (stem_rooted r z question hash)
@@ -228,7 +228,7 @@ record Behind (r : List ℕ) : Type 0 where
   first : ℕ
   others : List ℕ
   is : r ≡ first ∷ others
-  no_slash : is_slash first ≡ false
+  no_slash : (is_byte 47) first ≡ false
   bytes : are_stem_bytes r ≡ true
 
 behind_http : (r : List ℕ) → goes_on (codes "http://" ++ r) 7 ≡ true → are_stem_bytes (codes "http://" ++ r) ≡ true → Behind r
@@ -273,7 +273,7 @@ https_end y h = rw h refl
 authority_there : (r : List ℕ) → Behind r → (position_or_len ends_authority r == 0) ≡ false
 authority_there r b = rw b.is (by b.first b.no_slash (stem_free 63 refl (b.first ∷ b.others) (rw b.is at b.bytes)) (stem_free 35 refl (b.first ∷ b.others) (rw b.is at b.bytes)))
   where
-    by : (c : ℕ) → is_slash c ≡ false → list_any (is_byte 63) (c ∷ b.others) ≡ false → list_any (is_byte 35) (c ∷ b.others) ≡ false
+    by : (c : ℕ) → is_byte 47 c ≡ false → list_any (is_byte 63) (c ∷ b.others) ≡ false → list_any (is_byte 35) (c ∷ b.others) ≡ false
         → (position_or_len ends_authority (c ∷ b.others) == 0) ≡ false
     by c slash question hash = elim (true_or_false (is_byte 63 c)) [
       | inl q ↦ absurd (let g = rw q at question in true≢false g)

@@ -5,9 +5,10 @@ use Rattle.gs_ai.specs.declared.row.AiRow.{AiRow}
 use Rattle.gs_dlink.specs.declared.error.LinkFault.{LinkFault}
 use Rattle.gs_dlink.specs.declared.error.LinkFault.TheVariants.{NotHttp, NoKeyPath}
 use Rattle.gs_dlink.specs.Paths.{key_path}
-use Rattle.gs_dlink.specs.Uris.{authority_end, is_slash, path_of, query_of, query_pairs, segments, Written}
+use Rattle.gs_dlink.specs.Uris.{authority_end, path_of, query_of, query_pairs, segments, Written}
 use Rattle.gs_dlink.specs.Values.{pair_answer}
 use Rattle.std.specs.Result.{result_err}
+use Rattle.gs_chars.specs.Characters.{is_byte}
 
 -- trusted, own: the pair before those of the others, or the first error
 abbrev pub then_pairs : Result Pair LinkFault → Result (List Pair) LinkFault → Result (List Pair) LinkFault
@@ -23,7 +24,7 @@ written_answer table (pair ∷ written) = then_pairs (pair_answer table pair) (w
 -- trusted, own: holds if the path is empty or begins with a slash
 abbrev pub is_rooted : List ℕ → Bool
 is_rooted [] = true
-is_rooted (c ∷ _) = is_slash c
+is_rooted (c ∷ _) = is_byte 47 c
 
 -- trusted, own: the answer by the key path, to a path and a query at their places
 abbrev pub by_key_path : List AiRow → List Written → Option (List Written) → Result (List Pair) LinkFault

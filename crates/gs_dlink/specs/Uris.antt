@@ -7,10 +7,6 @@ use Rattle.gs_ai.specs.Tables.{is_empty}
 
 -- ---- the bytes that separate
 
--- trusted, own: holds if the byte `c` is `/`
-abbrev pub is_slash : ℕ → Bool
-is_slash c = is_byte 47 c
-
 -- trusted, own: holds if the byte `c` ends an authority: `/`, `?` or `#` (section 3.2)
 abbrev pub ends_authority : ℕ → Bool
 ends_authority c = c == 47 || c == 63 || c == 35
@@ -70,7 +66,7 @@ pieces_behind separates at (c ∷ text) =
 
 -- trusted, RFC 3986, section 3.3: the segments of a path, each after its slash (section 3.3)
 unfoldable pub segments : ℕ → List ℕ → List Piece
-segments at path = pieces_behind is_slash at path
+segments at path = pieces_behind (is_byte 47) at path
 
 -- trusted, own: the parts of a query
 abbrev pub query_parts : ℕ → List ℕ → List Piece
