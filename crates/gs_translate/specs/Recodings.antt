@@ -9,7 +9,7 @@ use Rattle.gs_epc.specs.declared.epc.Epc.{Epc}
 use Rattle.gs_epc.specs.declared.error.EpcWriteFault.TheVariants as write
 use Rattle.gs_epc.specs.Writes.{WritesAs}
 use Rattle.gs_ident.specs.Elements.{Elements, pairs_of}
-use Rattle.gs_ident.specs.Links.{canonical_link, spelled}
+use Rattle.gs_ident.specs.Links.{canonical_link, canonical_stem, spelled}
 use Rattle.gs_tables.specs.Tables.{TableRows}
 use Rattle.gs_translate.specs.declared.form.Form.{Form}
 use Rattle.gs_translate.specs.declared.form.Form.TheVariants as form
@@ -56,6 +56,17 @@ pairs_text options pairs.Raw identity = raw_text (pairs_of identity)
 pairs_text options pairs.Bracketed identity = bracketed_text (pairs_of identity)
 pairs_text options pairs.Link identity = spelled options.stem identity
 pairs_text options pairs.Canon identity = canonical_link identity
+
+-- holds if the target is a link
+abbrev pub IsLink : Target → Type 0
+IsLink target.Link = Unit {0}
+IsLink target.Canon = Unit {0}
+IsLink _ = ⊥
+
+-- the stem of a link that is the target
+abbrev pub stem_of : Options → Target → List ℕ
+stem_of options target.Link = options.stem
+stem_of options _ = canonical_stem
 
 -- Holds if `answer` is the text of an EPC, or the first reason against it. The filter value and the encoding are those of the
 -- options, or its own.

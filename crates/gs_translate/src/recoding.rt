@@ -1,11 +1,13 @@
-ghost use Rattle.std.specs.Prelude.{◌≡◌, ◌++◌, IfOk, List, OnErr};
+ghost use Rattle.std.specs.Prelude.{◌≡◌, ◌≤◌, ◌++◌, IfOk, IfSome, List, Ok, OnErr, length};
 ghost use Rattle.gs_chars.specs.Answers.{BeginsWith};
+ghost use Rattle.gs_chars.specs.Limits.{longest_text};
 ghost use Rattle.gs_epc.specs.Epcs.{IsOfSet};
 ghost use Rattle.gs_epc.specs.Layout.{IsLaidOut};
+ghost use Rattle.gs_epc.specs.Writes.{ReadsText};
 ghost use Rattle.gs_ident.specs.Elements.{Elements};
 ghost use Rattle.gs_prefix.specs.declared.entry.PrefixEntry.{PrefixEntry};
 ghost use Rattle.gs_translate.specs.Meanings.{epc_meaning};
-ghost use Rattle.gs_translate.specs.Recodings.{IsRecoded, form_at, pairs_text, written_target};
+ghost use Rattle.gs_translate.specs.Recodings.{IsLink, IsRecoded, form_at, pairs_text, stem_of, written_target};
 ghost use Rattle.gs_translate.specs.Steps.{AppendsText, UnlessMemory};
 ghost use Rattle.gs_translate.specs.Targets.{FitsFilter};
 ghost use Rattle.gs_translate.specs.Translations.{AreInOrder, IsSpelling, IsTranslation, form_of};
@@ -16,7 +18,7 @@ use crate::spelling::{append_epc, written_as};
 use crate::tag_fields::retagged;
 use gs_chars::{LONGEST_TEXT, Memory};
 use gs_element::{append_bracketed_pairs, append_raw_pairs};
-use gs_epc::{EpcReading, reading_of};
+use gs_epc::{EpcReading, EpcWords, reading_of, words_of};
 use gs_grammar::MOST_SYMBOLS;
 use gs_ident::CANONICAL_STEM;
 use gs_tables::{LevelName, TableSet};
@@ -112,8 +114,65 @@ fn append_reading(
     }
 }
 
+/// Returns the stem of a link that is the target.
+fn stem_of(options: &Options, to: Target) -> &[u8]
+    ensures { result.now ≡ stem_of options.now to }
+{
+    match to {
+        Target::Link => options.stem.as_bytes(),
+        _ => CANONICAL_STEM.as_bytes(),
+    }
+}
+
+/// Finds the words of an EPC URI that is to be written as a link. `None` says nothing: `append_read` decides then.
+fn link_words<'a>(
+    set: &'a TableSet,
+    from: LevelName,
+    to: Target,
+    text: &'a [u8],
+) -> Option<EpcWords<'a>>
+    ensures link { IfSome result (λ _. IsLink to) }
+    ensures answer { IfSome result (λ epc. ReadsText set.now from text.now (Ok epc)) }
+    ensures of_set { IfSome result (IsOfSet set.now) }
+{
+    match to {
+        Target::Link | Target::Canon => match from {
+            LevelName::Binary => None,
+            LevelName::Tag => words_of(set, LevelName::Tag, text),
+            LevelName::Pure => words_of(set, LevelName::Pure, text),
+        },
+        _ => None,
+    }
+}
+
+/// Appends the translation of a text of a level as `append_of_level` does, by its reading. The text is not too long.
+#[inline(never)]
+fn append_read(
+    alloc: Global,
+    set: &TableSet,
+    options: &Options,
+    from: LevelName,
+    to: Target,
+    text: &[u8],
+    out: &mut Vec<u8>,
+) -> Result<(), Reason>
+    requires options { AreInOrder options.now }
+    requires short { length text.now ≤ longest_text }
+    ensures written { (prefixes : List PrefixEntry) → UnlessMemory result (AppendsText
+        (IsTranslation set.now prefixes options.now (form_at from) to text.now)
+        out.old.items out.new.items result) }
+    ensures begun { OnErr result (BeginsWith out.new.items out.old.items) }
+{
+    // only for the proof: the rows satisfy the rules of tables
+    let _ = set.ais();
+    let mut room = [0; MOST_SYMBOLS];
+    let reading = reading_of(alloc, set, from, text, &mut room)?;
+    append_reading(alloc, set, options, to, &reading, out)
+}
+
 /// Appends the translation of a text of a level, or returns the first reason why it is rejected. The identity of an EPC has
-/// only a key and its serial, so keeping only keys does not change it.
+/// only a key and its serial, so keeping only keys does not change it. A link of an EPC URI is written of its words, if each spells
+/// its value.
 pub(crate) fn append_of_level(
     alloc: Global,
     set: &TableSet,
@@ -134,7 +193,8 @@ pub(crate) fn append_of_level(
     if text.len() > LONGEST_TEXT {
         return Err(Reason::Long);
     }
-    let mut room = [0; MOST_SYMBOLS];
-    let reading = reading_of(alloc, set, from, text, &mut room)?;
-    append_reading(alloc, set, options, to, &reading, out)
+    match link_words(set, from, to, text) {
+        Some(words) => Ok(words.append_link(set, stem_of(options, to), out)?),
+        None => append_read(alloc, set, options, from, to, text, out),
+    }
 }
