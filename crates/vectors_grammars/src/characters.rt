@@ -4,12 +4,11 @@
 //! - `are_digits TEXT`: whether all bytes are digits. `check_digit DIGITS`: the digit.
 //! - `read_escape TEXT`: the character and the number of bytes, or `None`.
 //! - `write_escape C`: the number of bytes, and the three bytes of the buffer, which held `...` before.
-//! - `rows K K K KEY`: the index of the key, or `None`; `refused` if the keys are not rows.
 //! - `text TEXT`, `copy TEXT`: its bytes. `compare A B`: the order of two texts. `list BYTES`: the items, and those given back.
 
-use gs_chars::{CharSet, List, Rows, Text, are_digits, check_digit, read_escape, write_escape};
+use gs_chars::{CharSet, List, Text, are_digits, check_digit, read_escape, write_escape};
 use std::alloc::Global;
-use vectors_cases::{Done, Line, Rejection, bytes_at, named, number_in};
+use vectors_cases::{Done, Line, Rejection, bytes_at, named};
 
 #[derive(Clone, Copy)]
 enum Call {
@@ -20,12 +19,11 @@ enum Call {
     Holds,
     List,
     ReadEscape,
-    Rows,
     Text,
     WriteEscape,
 }
 
-const CALLS: [(&str, Call); 10] = [
+const CALLS: [(&str, Call); 9] = [
     ("are_digits", Call::AreDigits),
     ("check_digit", Call::CheckDigit),
     ("compare", Call::Compare),
@@ -33,7 +31,6 @@ const CALLS: [(&str, Call); 10] = [
     ("holds", Call::Holds),
     ("list", Call::List),
     ("read_escape", Call::ReadEscape),
-    ("rows", Call::Rows),
     ("text", Call::Text),
     ("write_escape", Call::WriteEscape),
 ];
@@ -52,7 +49,6 @@ pub fn answer(alloc: Global, line: &mut Line, call: &[u8], args: &[Text]) -> Don
         Some(Call::Holds) => holds(line, text, bytes_at(args, 1)),
         Some(Call::List) => list(alloc, line, text),
         Some(Call::ReadEscape) => escape_read(line, text),
-        Some(Call::Rows) => rows(line, args),
         Some(Call::Text) => {
             line.text_made(Text::from_bytes(alloc, text));
             Ok(())
@@ -105,30 +101,6 @@ fn escape_written(line: &mut Line, characters: &[u8]) -> Done {
     let count = write_escape(*c, &mut buffer);
     line.debug(count);
     line.bytes(&buffer);
-    Ok(())
-}
-
-/// Returns the key at a place, if there is one.
-fn key(args: &[Text], i: usize) -> Option<u32> {
-    match number_in(bytes_at(args, i)) {
-        Some(number) => u32::try_from(number).ok(),
-        None => None,
-    }
-}
-
-fn rows(line: &mut Line, args: &[Text]) -> Done {
-    let (Some(a), Some(b), Some(c), Some(key)) = (
-        key(args, 0),
-        key(args, 1),
-        key(args, 2),
-        key(args, 3),
-    ) else {
-        return Err(Rejection::NoCase);
-    };
-    match Rows::new([a, b, c]) {
-        Some(rows) => line.debug(rows.find(key)),
-        None => line.plain("refused"),
-    }
     Ok(())
 }
 
