@@ -1,7 +1,7 @@
 ghost use Rattle.std.specs.Prelude.{◌≡◌, ◌++◌, OnOk, codes, ◌∷◌};
-ghost use Rattle.tdl_messages.specs.Rejections.{anchor_text, link_text_text, numbered_twice};
+ghost use Rattle.tdl_messages.specs.Rejections.{anchor_text, link_text_text};
 ghost use Rattle.tdl_messages.specs.Rejections.{place_text, store_text, classes_text};
-ghost use Rattle.gs_translate.specs.Reasons.{numbered};
+ghost use Rattle.gs_translate.specs.Reasons.{numbered, numbered_twice};
 
 use crate::answer_lines::append_words;
 use crate::rejections::append_form;
