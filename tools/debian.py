@@ -20,6 +20,7 @@ PACKAGES = {
     "curl": "curl",
     "dpkg-deb": "dpkg",
     "fish": "fish",
+    "flake8": "flake8",
     "haproxy": "haproxy",
     "ip": "iproute2",
     "javac": "default-jdk-headless",

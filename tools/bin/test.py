@@ -4,6 +4,7 @@ If the proved program is no older than its sources, checks/acceptance and the ch
 hour. Otherwise nothing is proved, and the sources run without proofs by `rt try`, with every check at run time on: some runs of tdl over
 the cases of checks/cases, those with the same words joined, and up to 25 vectors of each public call of the libraries, with answers of the
 standards. It takes as much of that as should end within five minutes here, all of it with --whole, and never a case that is marked heavy.
+Beside them checks/python runs mypy and flake8 over the tools, the module and tdl-shard.
 
 The first line says how long it will take. What is left out is named, 'left out: slow here', and so is a run that had not ended after
 an hour; a run that takes a quarter of an hour of processor time has failed. It prints each run that differs, and a last line 'N passed,
@@ -225,6 +226,8 @@ def test_unproved(is_whole: bool) -> int:
     runs, pairs = chosen(is_whole)
     with ExitStack() as opened:
         room = opened.enter_context(temporary("tdl-test-"))
+        # (what no program is needed for goes on beside)
+        beside = opened.enter_context(ending(begun(TOP / "checks" / "python", **BOTH)))
         both = [opened.enter_context(ending(begin(runs, room)))]
         both += [opened.enter_context(ending(begin_vectors(pairs, room)))] if pairs else []
         for crate, running in zip(("tdl", "vectors"), both):
@@ -232,6 +235,8 @@ def test_unproved(is_whole: bool) -> int:
             some = count(runs, said) if crate == "tdl" else count_vectors(pairs, printed, said)
             passed, failed, slow = passed + some[0], failed + some[1], slow + some[2]
             print(f"{crate}: {some[0]} passed, {some[1]} failed, after {monotonic() - start:.0f} s", flush=True)
+        print(beside.communicate()[0], end="", flush=True)
+        passed, failed = passed + (not beside.returncode), failed + bool(beside.returncode)
     print("nothing was proved; bin/build proves and builds the program, and bin/test then tries that")
     print(f"{passed} passed, {failed} failed" + (f", {slow} left out: slow here" if slow else ""))
     return 1 if failed or not passed else 0

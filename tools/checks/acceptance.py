@@ -27,7 +27,7 @@ Ended = tuple[Union[int, str], bytes, bytes]
 
 # the other checks: of the sources, with their flags, and of the program
 OF_SOURCES = [["tables/make", "--check"], ["checks/definitions", "--check"]]
-OF_SOURCES += [[f"checks/{name}"] for name in ("crates", "pages", "limits", "sets", "wrong_bodies")]
+OF_SOURCES += [[f"checks/{name}"] for name in ("crates", "pages", "limits", "sets", "wrong_bodies", "python")]
 OF_PROGRAM = ["messages", "traced", "alike", "library", "documents", "serving", "launcher", "packages", "image", "embedding", "columns", "inspector"]
 OF_PROGRAM += ["postgres", "sqlite", "labels", "shards", "links", "epcis"]
 # how many lines of a check that failed are printed again at the end
