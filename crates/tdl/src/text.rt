@@ -1,4 +1,4 @@
-// The text of the help and of the version. bin/tdl prints it too, and reads it here (scripts/texts.py), so each text is one
+// The text of the help and of the version. bin/tdl prints it too, and reads it here (tools/texts.py), so each text is one
 // literal without escapes.
 
 pub(crate) const VERSION: &str = "tdl 1.0.0

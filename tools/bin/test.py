@@ -1,0 +1,256 @@
+"""test [--whole]: tries the program over cases whose answers are known.
+
+If the proved program is no older than its sources, checks/acceptance and the checks that it calls run over it, in about a quarter of an
+hour. Otherwise nothing is proved, and the sources run without proofs by `rt try`, with every check at run time on: some runs of tdl over
+the cases of checks/cases, those with the same words joined, and up to 25 vectors of each public call of the libraries, with answers of the
+standards. It takes as much of that as should end within five minutes here, all of it with --whole, and never a case that is marked heavy.
+Beside them checks/python runs mypy and flake8 over the tools, the module and tdl-shard.
+
+The first line says how long it will take. What is left out is named, 'left out: slow here', and so is a run that had not ended after
+an hour; a run that takes a quarter of an hour of processor time has failed. It prints each run that differs, and a last line 'N passed,
+M failed', which counts cases and vectors, with those left out. The status is 1 if one failed, 2 for other arguments, and 70 if the tests
+cannot run.
+"""
+import json
+import re
+import resource
+import signal
+import subprocess
+import sys
+import tempfile
+from contextlib import ExitStack
+from dataclasses import dataclass, field
+from pathlib import Path
+from time import monotonic
+from typing import Any, Iterator, Optional
+
+from tools import costs, pace, repository, vectors
+from tools.cases import Case, bytes_of, content_of, joined, subjects
+from tools.common import BOTH, PIPES, Process, Word, begun, ending, parser, temporary
+from tools.repository import CRATES, GIGABYTE, TOP
+
+Pairs = list[tuple[str, str]]
+
+
+CANNOT = 70
+# how many runs of tdl are taken, how many vectors of each call, and the most lines of `gen`
+RUNS, VECTORS_A_CALL, MOST_LINES = 60, 25, 10_000
+# the seconds that all may take, that a run may take by the clock, and of processor time
+ALL, CLOCK, PROCESSOR = 300, 3_600, 900
+# the costs (tools/pace.py) of a run of tdl, and of a thousand vectors
+RUN, THOUSAND = 1.2, 10
+# what `rt try` cannot give a program, or does not tell of it, and what takes more than a fifth of PROCESSOR on a slow machine
+BEYOND = {"turns", "sparse", "folders", "stdin", "stdout", "pattern", "heavy"}
+MOST_OUTPUT = 1 << 20
+# the file of vectors, and what the program of vectors prints of it last
+SOME, COUNTS = "some.txt", re.compile(r"some.txt: (\d+) answers, (\d+) differ")
+TOO_LATE = re.compile(r"no-answer: .* within the time limit")
+# how many runs are taken on the slowest machines, and how many lines of a run that failed are printed
+FEW, LINES = 20, 20
+
+
+@dataclass
+class Run:
+    """A run of a program: its arguments, files, input, output and status, and the cases that it stands for."""
+
+    words: list[Any]
+    files: dict[str, bytes]
+    given: bytes = b""
+    wanted: bytes = b""
+    status: int = 0
+    names: list[str] = field(default_factory=list)
+
+
+def is_within(case: Case) -> bool:
+    """Whether `rt try` can run a case: words are handed on as lines of text."""
+    words = [bytes_of(word) for word in case["words"]]
+    is_text = all(word.isascii() and b"\n" not in word and b"{}" not in word for word in words)
+    is_long = words[:1] == [b"gen"] and words[1:] and words[1].isdigit() and int(words[1]) > MOST_LINES
+    return is_text and not is_long and words[:1] != [b"serve"] and not case.keys() & BEYOND
+
+
+def files_of(case: Case) -> dict[str, bytes]:
+    """The files of a case, by their names there."""
+    files = {name: content_of(file) for name, file in case.get("files", {}).items()}
+    files.update({name: (TOP / path).read_bytes() for name, path in case.get("lent", {}).items()})
+    return files
+
+
+def runs_of(subject: str, cases: list[Case]) -> list[Run]:
+    """The runs of a file of cases, those of lines with the same words and files joined; those that stand for the most come first."""
+    found: dict[str, Run] = {}
+    for case in filter(is_within, cases):
+        is_joined = "lines" in case and case["status"] < 2
+        apart = None if is_joined else case["name"]
+        key = json.dumps([case["words"], case.get("files"), case.get("lent"), apart], sort_keys=True)
+        run = found.setdefault(key, Run(case["words"], files_of(case)))
+        run.given += joined(case, "input", 0)
+        run.wanted += joined(case, "output", 1)
+        run.status = max(run.status, case["status"])
+        run.names.append(f"{subject}: {case['name']}")
+    taken = (run for run in found.values() if len(run.wanted) <= MOST_OUTPUT)
+    return sorted(taken, key=lambda run: (-len(run.names), -len(run.given)))
+
+
+def program_runs() -> list[Run]:
+    """The runs of tdl that are taken: of each file of cases the first, then of each the second, and so on."""
+    every = [runs_of(subject, cases) for subject, cases in subjects()]
+    rounds = [[runs[number] for runs in every if number < len(runs)] for number in range(max(map(len, every)))]
+    return [run for one_round in rounds for run in one_round][:RUNS]
+
+
+def some_vectors() -> Pairs:
+    """Some of the vectors of each call, each a case with its wanted answer."""
+    by_call: dict[str, Pairs] = {}
+    for case, answer in vectors.cases():
+        # (calls at the limits take minutes where each check at run time is on)
+        if not case.split()[0].endswith(("many", "_each")):
+            by_call.setdefault(case.split()[0], []).append((case, answer))
+    return [pair for some in by_call.values() for pair in some[::-(-len(some) // VECTORS_A_CALL)]]
+
+
+def begin(runs: list[Run], folder: Path) -> Process:
+    """Writes the runs of tdl to a folder, and starts them."""
+    data: list[Word] = []
+    for number, run in enumerate(runs):
+        names = {name: f"file-{number}-{place}" for place, name in enumerate(run.files)}
+        for name, given in names.items():
+            (folder / given).write_bytes(run.files[name])
+            data += ["--data", f"{given}={folder / given}"]
+        of_run = folder / "runs" / f"{number:03}"
+        of_run.parent.mkdir(exist_ok=True)
+        of_run.write_bytes(run.given)
+        Path(f"{of_run}.stdout").write_bytes(run.wanted)
+        if run.words:
+            words = [names.get(word, word) if isinstance(word, str) else word for word in run.words]
+            Path(f"{of_run}.args").write_bytes(b"".join(bytes_of(word) + b"\n" for word in words))
+    return started("tdl", *data, "--cases", folder / "runs")
+
+
+def begin_vectors(pairs: Pairs, folder: Path) -> Process:
+    """Writes vectors to a file in a folder, and starts the program that compares their answers."""
+    text = "".join(f"{case}\n{vectors.ANSWER}{answer}\n" for case, answer in pairs)
+    (folder / SOME).write_text(text, "latin-1")
+    return started("vectors", "--data", f"{SOME}={folder / SOME}")
+
+
+def started(crate: str, *words: Word) -> Process:
+    """Starts `rt try` in a crate; each process that it starts may use PROCESSOR seconds."""
+    how: dict[str, Any] = {**PIPES, "stdin": subprocess.DEVNULL, "text": True, "errors": "replace"}
+    how["preexec_fn"] = lambda: resource.setrlimit(resource.RLIMIT_CPU, (PROCESSOR, PROCESSOR))
+    return begun("rt", "try", "--steps", 1, "--seconds", CLOCK, *words, cwd=CRATES / crate, **how)
+
+
+def reports(said: str) -> Iterator[tuple[int, tuple[str, str], str]]:
+    """Yields what `rt try` says of each run: its number, its status and its output, and the lines before that."""
+    before = []
+    for line in said.splitlines():
+        before.append(line)
+        if line.startswith("case="):
+            told = dict(word.split("=", 1) for word in line.split() if "=" in word)
+            yield int(told["case"]), (told.get("status", "none"), told.get("output", "none")), "\n".join(before)
+            before = []
+
+
+def count(runs: list[Run], said: str) -> tuple[int, int, int]:
+    """Returns how many cases passed, failed and were too slow, by what `rt try` said; prints those that did not pass."""
+    ended = {number: (got, lines) for number, got, lines in reports(said)}
+    passed = failed = slow = 0
+    for number, run in enumerate(runs):
+        (status, output), lines = ended.get(number, (("none", "none"), ""))
+        what = run.names[0] + (f", or one of {len(run.names) - 1} cases behind it" if len(run.names) > 1 else "")
+        if (status, output) == (str(run.status), "expected"):
+            passed += len(run.names)
+        elif TOO_LATE.search(lines):
+            slow += len(run.names)
+            print(f"left out: slow here: {what}")
+        else:
+            failed += len(run.names)
+            print(f"failed: {what}\n  status wanted {run.status}, got {status}; output {output}", *(lines or said).splitlines()[-LINES:], sep="\n  ")
+    return passed, failed, slow
+
+
+def count_vectors(pairs: Pairs, printed: str, said: str) -> tuple[int, int, int]:
+    """Returns how many vectors passed, failed and were too slow, by what the program printed and `rt try` said; prints those that failed.
+    Without counts all failed."""
+    *differ, last = printed.splitlines() or [""]
+    print(*(f"vectors: {line}" for line in differ), sep="\n", end="\n" if differ else "")
+    found = COUNTS.fullmatch(last)
+    if found and int(found[1]) == len(pairs):
+        return len(pairs) - int(found[2]), int(found[2]), 0
+    if TOO_LATE.search(said):
+        print(f"left out: slow here: {len(pairs):,} vectors")
+        return 0, 0, len(pairs)
+    print("failed: the vectors", *said.splitlines()[-LINES:], sep="\n  ")
+    return 0, len(pairs), 0
+
+
+def cost(runs: list[Run], pairs: Pairs, processors: int) -> float:
+    """Returns the cost of runs and vectors side by side, on so many processors."""
+    apart = [costs.TRY + RUN * len(runs)] * bool(runs) + [costs.TRY + THOUSAND * len(pairs) / 1000] * bool(pairs)
+    return max(*apart, (sum(apart) + costs.BESIDE * len(apart)) / processors)
+
+
+def chosen(is_whole: bool) -> tuple[list[Run], Pairs]:
+    """Returns the runs and the vectors that are taken here, and prints how long they take and what is left out."""
+    runs, pairs, processors = program_runs(), some_vectors(), pace.processors()
+    rate = pace.clock(processors)
+    choices: list[tuple[list[Run], Pairs]] = [(runs, pairs), (runs, []), (runs[:FEW], [])]
+    taken = next((it for it in choices if is_whole or cost(it[0], it[1], processors) * rate <= ALL), choices[-1])
+    low, high = (cost(taken[0], taken[1], processors) * rate * factor for factor in costs.RANGE)
+    what = f"{len(taken[0])} runs of tdl and {len(taken[1]):,} vectors of its libraries"
+    print(f"bin/test: nothing is proved here, so the sources run without proofs: {what}, in {pace.between(low, high)} here", file=sys.stderr, flush=True)
+    left_out = len(runs) - len(taken[0]), len(pairs) - len(taken[1])
+    if any(left_out):
+        print(f"left out: slow here: {left_out[0]} runs of tdl and {left_out[1]:,} vectors; bin/test --whole takes them", flush=True)
+    return taken
+
+
+def lack() -> Optional[str]:
+    """Why the tests cannot run, in a line, or nothing."""
+    kit = repository.lack_of_kit()
+    if kit and kit[1]:
+        return kit[0]
+    if kit:
+        print(f"bin/test: {kit[0]}", file=sys.stderr)
+    return repository.lack_of_room(tempfile.gettempdir(), GIGABYTE, 3 * GIGABYTE)
+
+
+def test_unproved(is_whole: bool) -> int:
+    """Runs the sources without proofs, and returns the status."""
+    why = lack()
+    if why:
+        print(f"bin/test: {why}", file=sys.stderr)
+        return CANNOT
+    start, passed, failed, slow = monotonic(), 0, 0, 0
+    runs, pairs = chosen(is_whole)
+    with ExitStack() as opened:
+        room = opened.enter_context(temporary("tdl-test-"))
+        # (what no program is needed for goes on beside)
+        beside = opened.enter_context(ending(begun(TOP / "checks" / "python", **BOTH)))
+        both = [opened.enter_context(ending(begin(runs, room)))]
+        both += [opened.enter_context(ending(begin_vectors(pairs, room)))] if pairs else []
+        for crate, running in zip(("tdl", "vectors"), both):
+            printed, said = running.communicate()
+            some = count(runs, said) if crate == "tdl" else count_vectors(pairs, printed, said)
+            passed, failed, slow = passed + some[0], failed + some[1], slow + some[2]
+            print(f"{crate}: {some[0]} passed, {some[1]} failed, after {monotonic() - start:.0f} s", flush=True)
+        print(beside.communicate()[0], end="", flush=True)
+        passed, failed = passed + (not beside.returncode), failed + bool(beside.returncode)
+    print("nothing was proved; bin/build proves and builds the program, and bin/test then tries that")
+    print(f"{passed} passed, {failed} failed" + (f", {slow} left out: slow here" if slow else ""))
+    return 1 if failed or not passed else 0
+
+
+def main() -> int:
+    """Returns the status."""
+    asked = parser(__doc__)
+    asked.add_argument("--whole", action="store_true", help="without proofs, take all runs and vectors, however long that takes")
+    is_whole = asked.parse_args().whole
+    if repository.is_current():
+        return subprocess.run([TOP / "checks" / "acceptance"]).returncode
+    signal.signal(signal.SIGTERM, signal.default_int_handler)
+    try:
+        return test_unproved(is_whole)
+    except KeyboardInterrupt:
+        return 130
