@@ -1,5 +1,5 @@
 -- The escapes of `percent_encoding` at the set of this crate are those of a link.
-use Rattle.std.proofs.Common.{◌≡◌, ℕ, ◌<◌, ◌/◌, ◌%◌, not, Bool, true, false, List, [], ◌∷◌, All, refl, arith, if◌then◌else◌}
+use Rattle.std.proofs.Common.{◌≡◌, ℕ, ◌<◌, ◌/◌, ◌%◌, not, Bool, true, false, eqb, get_or, List, [], ◌∷◌, All, refl, arith, if◌then◌else◌}
 use Rattle.std.specs.Prelude.{◌==◌, ◌||◌, codes}
 use Rattle.std.specs.List.{list_all, list_any}
 use Rattle.gs_chars.specs.Characters.{are_digits, is_digit}
@@ -7,7 +7,7 @@ use Rattle.std.proofs.lemmas.Bool.{agree_below, agree_below_at, and_from, and_pa
 use Rattle.std.proofs.lemmas.List.Elements.{All-head, All-tail}
 use Rattle.percent_encoding.specs.AsciiSet.{should_percent_encode}
 use Rattle.percent_encoding.specs.Percent.{percent_encode, percent_encode_byte, encode_byte}
-use Rattle.gs_ident.specs.declared.spelling.TheConstants.{ESCAPED}
+use Rattle.gs_ident.specs.declared.spelling.TheConstants.{ESCAPED, UNESCAPED}
 use Rattle.gs_ident.specs.Links.{is_letter, is_unescaped, escaped_byte, percent_encoded}
 use Rattle.gs_chars.specs.Escapes.{hex_digit}
 
@@ -42,6 +42,18 @@ digits_unescaped [] h = refl
 digits_unescaped (c ∷ cs) h =
     let both = and_parts (is_digit c) (list_all is_digit cs) h in
     and_from (is_unescaped c) (list_all is_unescaped cs) (digit_unescaped c both.0) (digits_unescaped cs both.1)
+
+-- the table of bytes that stand for themselves
+
+abbrev in_table : ℕ → Bool
+in_table c = eqb (get_or UNESCAPED c 0) 1
+
+all_rows : agree_below in_table is_unescaped 256 ≡ true
+unfolding is_unescaped
+all_rows = refl
+
+pub unescaped_at : (c : ℕ) → c < 256 → eqb (get_or UNESCAPED c 0) 1 ≡ is_unescaped c
+unescaped_at c h = agree_below_at in_table is_unescaped 256 c all_rows h
 
 -- a value without a byte that is escaped
 pub plain_text : (value : List ℕ) → list_all is_unescaped value ≡ true → percent_encoded value ≡ value

@@ -7,7 +7,7 @@ ghost use Rattle.gs_ident.specs.Links.{canonical_link, is_unescaped, percent_enc
 
 use crate::identity::Identity;
 use gs_ai::{AiTable, Pair};
-use gs_chars::{Memory, Text, are_digits};
+use gs_chars::{Memory, Text};
 use percent_encoding::{AsciiSet, NON_ALPHANUMERIC, percent_encode};
 use std::alloc::Global;
 
@@ -16,22 +16,29 @@ const ESCAPED: AsciiSet = percent_encoding::ascii_set!(
     NON_ALPHANUMERIC.remove(b'-').remove(b'.').remove(b'_')
 );
 
+/// For each byte, 1 if it stands for itself in a value, and 0 if not.
+static UNESCAPED: [u8; 256] = [
+    0, 0, 0, 0, 0, 0, 0, 0, 0, 0, 0, 0, 0, 0, 0, 0, 0, 0, 0, 0, 0, 0, 0, 0, 0, 0, 0, 0, 0, 0, 0, 0,
+    0, 0, 0, 0, 0, 0, 0, 0, 0, 0, 0, 0, 0, 1, 1, 0, 1, 1, 1, 1, 1, 1, 1, 1, 1, 1, 0, 0, 0, 0, 0, 0,
+    0, 1, 1, 1, 1, 1, 1, 1, 1, 1, 1, 1, 1, 1, 1, 1, 1, 1, 1, 1, 1, 1, 1, 1, 1, 1, 1, 0, 0, 0, 0, 1,
+    0, 1, 1, 1, 1, 1, 1, 1, 1, 1, 1, 1, 1, 1, 1, 1, 1, 1, 1, 1, 1, 1, 1, 1, 1, 1, 1, 0, 0, 0, 0, 0,
+    0, 0, 0, 0, 0, 0, 0, 0, 0, 0, 0, 0, 0, 0, 0, 0, 0, 0, 0, 0, 0, 0, 0, 0, 0, 0, 0, 0, 0, 0, 0, 0,
+    0, 0, 0, 0, 0, 0, 0, 0, 0, 0, 0, 0, 0, 0, 0, 0, 0, 0, 0, 0, 0, 0, 0, 0, 0, 0, 0, 0, 0, 0, 0, 0,
+    0, 0, 0, 0, 0, 0, 0, 0, 0, 0, 0, 0, 0, 0, 0, 0, 0, 0, 0, 0, 0, 0, 0, 0, 0, 0, 0, 0, 0, 0, 0, 0,
+    0, 0, 0, 0, 0, 0, 0, 0, 0, 0, 0, 0, 0, 0, 0, 0, 0, 0, 0, 0, 0, 0, 0, 0, 0, 0, 0, 0, 0, 0, 0, 0,
+];
+
 /// Returns whether the byte stands for itself in a value: letters, digits, `-`, `.` and `_`.
-#[tactic(auto, unfolding(crate::specs::Links::is_unescaped))]
 fn is_unescaped(c: u8) -> bool
     ensures { result ≡ is_unescaped c }
 {
-    c.is_ascii_digit() || c.is_ascii_alphabetic() || c == b'-' || c == b'.' || c == b'_'
+    UNESCAPED[usize::from(c)] == 1
 }
 
 /// Returns whether no byte of the value is escaped.
 fn is_plain(value: &[u8]) -> bool
     ensures { result ≡ list_all is_unescaped value.now }
 {
-    // most values are only digits, which take one comparison a byte
-    if are_digits(value) {
-        return true;
-    }
     value.iter().all(|c| is_unescaped(*c))
 }
 
