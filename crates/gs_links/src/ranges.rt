@@ -79,7 +79,8 @@ impl Numbers {
     /// Returns at most the number of a range that is `*`, or that one of the tags is in.
     pub(crate) fn least_of_tags(&self, tags: &[Text]) -> usize
         ensures any { result ≤ number_at self.now (codes "*") }
-        ensures tags { (t : ℕ) (tag : List ℕ) → slice_get tags.now t ≡ Some tag → IsLeast self.now tag result }
+        ensures tags { (t : ℕ) (tag : List ℕ) → slice_get tags.now t ≡ Some tag
+            → IsLeast self.now tag result }
     {
         let mut least = self.at(b"*");
         for t in 0..tags.len() {

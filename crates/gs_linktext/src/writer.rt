@@ -301,7 +301,8 @@ fn links_of_context<'a>(
     alloc: Global,
     context: &ContextRef<'a>,
 ) -> Result<Vec<LentLink<'a>>, Memory>
-    ensures { IfOk result (λ links. map seen links.items ≡ links_of_document (context_lent context.now ∷ [])) }
+    ensures { IfOk result (λ links.
+        map seen links.items ≡ links_of_document (context_lent context.now ∷ [])) }
 {
     let anchor = context.anchor.as_bytes();
     let mut links = Vec::new(alloc);

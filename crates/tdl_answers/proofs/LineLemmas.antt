@@ -68,13 +68,6 @@ adds_rejected t text before marked written cut now size reason len mark given ba
       known = refl;
     }
 
--- after out of memory while the reason was appended, the text begins with its old contents
-pub begins_cut : (before marked written cut now : List ℕ) (size : ℕ) → size ≡ length before → marked ≡ before ++ codes "ok "
-    → BeginsWith written marked → cut ≡ take size written → BeginsWith now cut → BeginsWith now before
-begins_cut before marked written cut now size len mark front back more =
-    let whole : cut ≡ before = back ∙ ap (take size) (front.1 ∙ ap (λ (b : List ℕ). b ++ front.0) mark ∙ append_assoc before (codes "ok ") front.0) ∙ rw len (take-append_seam before (codes "ok " ++ front.0)) in
-    (more.0, more.1 ∙ ap (λ (b : List ℕ). b ++ more.0) whole)
-
 pub one_translated : (t : Translating) → IsLoaded t.set → HasOneAnswer (IsTranslatedLine t)
 one_translated t loaded = one_line (IsTranslated t)
     (λ text. one_translation t.set t.prefixes t.options t.from t.to text (suits_one t.set t.from loaded))

@@ -73,7 +73,8 @@ pub fn answer_lines<S: Source, K: Sink>(
     requires limit { limit < 2 ^ 63 }
 
     // The output: all answers with their status, whatever count rose, or those before an error.
-    ensures written { Writes (is_status result Status.WriteFault) (K.state output.old) (K.state output.new) (λ out.
+    ensures written { Writes (is_status result Status.WriteFault)
+        (K.state output.old) (K.state output.new) (λ out.
         WritesAnswers (IsTranslatedLine (translating_by set.now prefixes.now options.now from to)) limit
         (S.state input.old).left (S.state input.new).left out result) }
     ensures no_usage { result ≢ Status.Usage }

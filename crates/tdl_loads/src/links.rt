@@ -241,10 +241,7 @@ fn judge_other(
         voc,
         templates: false,
     };
-    match judge_json(alloc, judging, bytes) {
-        Ok(store) => Ok(Some(store)),
-        Err(unloaded) => Err(unloaded),
-    }
+    Ok(Some(judge_json(alloc, judging, bytes)?))
 }
 
 /// Loads the links of the named file of a kind, in JSON, which are merged with others. Loads none if none is named.

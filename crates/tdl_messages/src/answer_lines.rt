@@ -22,7 +22,8 @@ pub fn append_accepted(out: &mut Vec<u8>, text: &[u8]) -> Result<(), Memory>
 /// Appends `no REASON` and a line feed. A reason that memory ran out has no line: it is the result. Fails only with `Memory`;
 /// `out` then begins with its old contents.
 pub fn append_rejected(alloc: Global, out: &mut Vec<u8>, reason: &Reason) -> Result<(), Memory>
-    ensures line { OnOk result (out.new.items ≡ out.old.items ++ printed (rejected (reason_text reason.now))) }
+    ensures line { OnOk result (out.new.items
+        ≡ out.old.items ++ printed (rejected (reason_text reason.now))) }
     ensures known { OnOk result (reason.now ≢ OutOfMemory) }
     ensures begun { OnErr result (BeginsWith out.new.items out.old.items) }
 {
