@@ -71,8 +71,8 @@ impl<const N: usize> BitBuf<N> {
         self.len
     }
 
-    /// Returns the number of the n bits from a place on, the highest first.
-    fn number_at(&self, from: usize, n: u32) -> u64
+    /// Returns the number of the n bits from a place on, the highest first. n is at most 64.
+    pub fn number_at(&self, from: usize, n: u32) -> u64
         requires width { n ≤ 64 }
         requires within { from + n ≤ length self.now }
         ensures { result ≡ number_of (take n (drop from self.now)) }
