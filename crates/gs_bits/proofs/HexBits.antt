@@ -132,7 +132,7 @@ digit_at : (d : ℕ) → d < 16 → slice_index DIGITS d ≡ hex_digit d
 digit_at d h = eqb-true (slice_index DIGITS d) (hex_digit d)
     (agree_below_at (λ d. eqb (slice_index DIGITS d) (hex_digit d)) (λ _. true) 16 d digit_table h)
 
-hex_of_four : (v : ℕ) (bits : List ℕ) → hex_of_bits (bits_of 4 v ++ bits) ≡ hex_digit (v % 16) ∷ hex_of_bits bits
+pub hex_of_four : (v : ℕ) (bits : List ℕ) → hex_of_bits (bits_of 4 v ++ bits) ≡ hex_digit (v % 16) ∷ hex_of_bits bits
 unfolding bits_of
 hex_of_four v bits = ap (λ k. hex_digit k ∷ hex_of_bits bits) (number_of-bits_of 4 v)
 
