@@ -1,18 +1,19 @@
 -- Hexadecimal texts by the words of the crate `hex`.
-use Rattle.std.proofs.Common.{◌≡◌, ℕ, suc, ◌+◌, ◌*◌, ◌/◌, ◌%◌, ◌<◌, inl, inr, true, false, List, [], ◌∷◌, ◌++◌, length, take, slice_index, get_or, Option, Some, None, is_some, unwrap_or, Result, Ok, Err, refl, sym, ap, ap₂, ◌∙◌, arith, eqb, append_assoc}
+use Rattle.std.proofs.Common.{◌≡◌, ℕ, ◌+◌, ◌*◌, ◌/◌, ◌%◌, ◌<◌, ◌≤◌, inl, inr, true, false, List, [], ◌∷◌, ◌++◌, length, take, slice_index, slice_set, get_or, Option, Some, None, is_some, unwrap_or, Result, Ok, Err, refl, sym, ap, ap₂, ◌∙◌, arith, eqb, append_assoc, length-set}
 use Rattle.std.specs.Prelude.{MatchResult}
 use Rattle.std.specs.List.{AllPass}
 use Rattle.std.proofs.lemmas.Bool.{agree_below, agree_below_at, cases_lt, eqb-true}
-use Rattle.std.proofs.lemmas.List.{get_or-take, length-take-le}
+use Rattle.std.proofs.lemmas.List.{get_or-take, length-take-le, take_more, take_more_set}
 use Rattle.std.proofs.lemmas.List.Elements.{All-head, All-tail}
 use Rattle.std.proofs.lemmas.Nat.{shr_high}
 use Rattle.gs_chars.proofs.TruthsAndLists.{no_value}
 use Rattle.gs_chars.specs.Escapes.{hex_value, hex_digit}
-use Rattle.hex.specs.Hex.{decode_pairs, decode_sized, encode_with, encode_upper, hex_digit_value, pair_value, upper_digits, IsBytes}
+use Rattle.hex.specs.Hex.{decode_pairs, decode_sized, hex_digit_value, pair_value}
 use Rattle.hex.specs.declared.error.FromHexError.{FromHexError}
 use Rattle.hex.specs.declared.error.FromHexError.TheVariants.{InvalidHexCharacter}
 use Rattle.hex.proofs.HexLemmas.{decode_pairs-ok, decode_pairs-err}
 use Rattle.hex.proofs.Pairs.{cons_byte, decode_pairs-ok_pair, decode_sized-pairs}
+use Rattle.gs_bits.specs.declared.hex_text.TheConstants.{DIGITS}
 use Rattle.gs_bits.specs.Bits.{bits_of}
 use Rattle.gs_bits.specs.BitLaws.{bits_of-append, bits_of-low, number_of-bits_of}
 use Rattle.gs_bits.specs.HexText.{is_hex_digit, bits_of_hex, hex_of_bits, FirstBadDigit}
@@ -124,28 +125,62 @@ first_bad_same text p q a b =
 
 -- ---- writing
 
-digit_table : agree_below (λ d. eqb (slice_index upper_digits d) (hex_digit d)) (λ _. true) 16 ≡ true
+digit_table : agree_below (λ d. eqb (slice_index DIGITS d) (hex_digit d)) (λ _. true) 16 ≡ true
 digit_table = refl
 
-upper_digit : (d : ℕ) → d < 16 → slice_index upper_digits d ≡ hex_digit d
-upper_digit d h = eqb-true (slice_index upper_digits d) (hex_digit d)
-    (agree_below_at (λ d. eqb (slice_index upper_digits d) (hex_digit d)) (λ _. true) 16 d digit_table h)
+digit_at : (d : ℕ) → d < 16 → slice_index DIGITS d ≡ hex_digit d
+digit_at d h = eqb-true (slice_index DIGITS d) (hex_digit d)
+    (agree_below_at (λ d. eqb (slice_index DIGITS d) (hex_digit d)) (λ _. true) 16 d digit_table h)
 
 pub hex_of_four : (v : ℕ) (bits : List ℕ) → hex_of_bits (bits_of 4 v ++ bits) ≡ hex_digit (v % 16) ∷ hex_of_bits bits
 unfolding bits_of
 hex_of_four v bits = ap (λ k. hex_digit k ∷ hex_of_bits bits) (number_of-bits_of 4 v)
 
-pub encoded : (bytes : List ℕ) → IsBytes bytes → hex_of_bits (bits_of_bytes bytes) ≡ encode_upper bytes
-unfolding bits_of_bytes encode_with
-encoded [] h = refl
-encoded (byte ∷ bytes) h =
-    let small : byte < 256 = h 0 in
-    let digits : bits_of 8 byte ++ bits_of_bytes bytes ≡ bits_of 4 (byte / 16) ++ (bits_of 4 byte ++ bits_of_bytes bytes) =
-    ap (λ w. w ++ bits_of_bytes bytes) (bits_of-append 4 4 byte) ∙ append_assoc (bits_of 4 (byte / 16)) (bits_of 4 byte) (bits_of_bytes bytes) in
-    let high : byte / 16 % 16 ≡ byte / 16 = omega arith in
-    let first = hex_of_four (byte / 16) (bits_of 4 byte ++ bits_of_bytes bytes) in
-    let second = hex_of_four byte (bits_of_bytes bytes) in
-    let rest = encoded bytes (λ i. h (suc i)) in
-    let one = upper_digit (byte / 16) (omega arith) in
-    let two = upper_digit (byte % 16) (omega arith) in
-    rw (digits, first, high, second, rest, one, two) refl
+hex_of_byte : (byte : ℕ) (bits : List ℕ)
+    → hex_of_bits (bits_of 8 byte ++ bits) ≡ hex_digit (byte / 16 % 16) ∷ hex_digit (byte % 16) ∷ hex_of_bits bits
+hex_of_byte byte bits =
+    let digits : bits_of 8 byte ++ bits ≡ bits_of 4 (byte / 16) ++ (bits_of 4 byte ++ bits) =
+    ap (λ w. w ++ bits) (bits_of-append 4 4 byte) ∙ append_assoc (bits_of 4 (byte / 16)) (bits_of 4 byte) bits in
+    ap hex_of_bits digits ∙ hex_of_four (byte / 16) (bits_of 4 byte ++ bits)
+    ∙ ap (λ w. hex_digit (byte / 16 % 16) ∷ w) (hex_of_four byte bits)
+
+hex_more : (bytes : List ℕ) (byte : ℕ)
+    → hex_of_bits (bits_of_bytes (bytes ++ byte ∷ []))
+    ≡ hex_of_bits (bits_of_bytes bytes) ++ hex_digit (byte / 16 % 16) ∷ hex_digit (byte % 16) ∷ []
+unfolding bits_of_bytes
+hex_more [] byte = hex_of_byte byte []
+hex_more (first ∷ bytes) byte =
+    let two = hex_digit (byte / 16 % 16) ∷ hex_digit (byte % 16) ∷ [] in
+    hex_of_byte first (bits_of_bytes (bytes ++ byte ∷ []))
+    ∙ ap (λ w. hex_digit (first / 16 % 16) ∷ hex_digit (first % 16) ∷ w) (hex_more bytes byte)
+    ∙ ap (λ w. w ++ two) (sym (hex_of_byte first (bits_of_bytes bytes)))
+
+pub digits_none : [] ≡ hex_of_bits (bits_of_bytes [])
+unfolding bits_of_bytes
+digits_none = refl
+
+-- the digits of one byte more, written after those before
+pub digits_step : (place byte high low : ℕ) (bytes out : List ℕ) → place < length bytes → 2 * length bytes ≤ length out
+    → byte < 256 → byte ≡ slice_index bytes place → high ≡ byte / 16 → low ≡ byte % 16
+    → take (2 * place) out ≡ hex_of_bits (bits_of_bytes (take place bytes))
+    → (length (slice_set (slice_set out (2 * place) (slice_index DIGITS high)) (2 * place + 1) (slice_index DIGITS low)) ≡ length out)
+    × (take (2 * (place + 1)) (slice_set (slice_set out (2 * place) (slice_index DIGITS high)) (2 * place + 1) (slice_index DIGITS low))
+    ≡ hex_of_bits (bits_of_bytes (take (place + 1) bytes)))
+digits_step place byte high low bytes out l room small is h k before =
+    let a = slice_index DIGITS high in
+    let b = slice_index DIGITS low in
+    let one = slice_set out (2 * place) a in
+    let first : a ≡ hex_digit (byte / 16 % 16) = digit_at high (omega arith) ∙ ap hex_digit (h ∙ omega arith) in
+    let second : b ≡ hex_digit (byte % 16) = digit_at low (omega arith) ∙ ap hex_digit k in
+    let count : 2 * (place + 1) ≡ 2 * place + 1 + 1 = omega arith in
+    let size : length one ≡ length out = length-set out (2 * place) a in
+    let more : take (place + 1) bytes ≡ take place bytes ++ byte ∷ [] =
+    take_more bytes place 0 l ∙ ap (λ v. take place bytes ++ v ∷ []) (sym is) in
+    let both : take (2 * place + 1 + 1) (slice_set one (2 * place + 1) b) ≡ take (2 * place) out ++ a ∷ b ∷ [] =
+    take_more_set one (2 * place + 1) b (omega arith) ∙ ap (λ w. w ++ b ∷ []) (take_more_set out (2 * place) a (omega arith))
+    ∙ append_assoc (take (2 * place) out) (a ∷ []) (b ∷ []) in (
+      length-set one (2 * place + 1) b ∙ size,
+      ap (λ n. take n (slice_set one (2 * place + 1) b)) count ∙ both
+          ∙ ap₂ (λ w (two : List ℕ). w ++ two) before (ap₂ (λ x y. x ∷ y ∷ []) first second)
+          ∙ sym (ap (λ w. hex_of_bits (bits_of_bytes w)) more ∙ hex_more (take place bytes) byte),
+    )

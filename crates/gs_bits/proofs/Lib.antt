@@ -1,2 +1,4 @@
 pub mod PackedBits
 pub mod HexBits
+pub mod ByteBits
+pub mod EightBytes

@@ -1,7 +1,7 @@
 -- Bits in bytes: the place of a number of bits, and the bits that a write changes.
 use Rattle.std.proofs.Common.{◌≡◌, ℕ, zero, suc, ◌+◌, ◌-◌, ◌*◌, ◌/◌, ◌%◌, ◌^◌, ◌<◌, ◌≤◌, List, [], ◌∷◌, ◌++◌, length, take, drop, slice_index, slice_set, refl, sym, ap, ap₂, ◌∙◌, arith, length-append, length-take-le}
 use Rattle.std.proofs.Math.Seq.{take-append-add, drop-append-add, take-add}
-use Rattle.std.proofs.lemmas.List.{append_assoc, append-nil, drop-drop, drop-take, drop_at, length-drop, length-take, take_all, take_at, take_more, take-take}
+use Rattle.std.proofs.lemmas.List.{append_assoc, append-nil, drop_all, drop-drop, drop-take, drop_at, length-drop, length-take, take_all, take_at, take_more, take-take}
 use Rattle.std.proofs.lemmas.Slice.{take-put_mid}
 use borrow.Rule.Slice.PartMut.{put_mid}
 use Rattle.std.proofs.lemmas.Nat.{shr-shr, shr_high, shr_below, shr_split, shl_below, shl_whole, pow-add, pow_pos, mod_below, mul-add-lt}
@@ -126,7 +126,7 @@ with_piece_below d step number piece small p =
     omega arith
 
 -- the bits of a number are those of its rest modulo 2 to their count
-bits_of-mod : (n number : ℕ) → bits_of n (number % 2 ^ n) ≡ bits_of n number
+pub bits_of-mod : (n number : ℕ) → bits_of n (number % 2 ^ n) ≡ bits_of n number
 bits_of-mod n number =
     sym (bits_of-low (number / 2 ^ n) n (number % 2 ^ n) n (omega arith)) ∙ ap (bits_of n) (shr_split number n)
 
@@ -203,6 +203,16 @@ bits_of_front (suc q) (byte ∷ bytes) =
     let more : 8 * suc q ≡ 8 + 8 * q = omega arith in
     let past = take_past 8 (8 * q) (bits_of 8 byte) (bits_of_bytes bytes) (length-bits_of 8 byte) in
     rw (more, past) (ap (λ w. bits_of 8 byte ++ w) (bits_of_front q bytes))
+
+-- the bits after whole bytes
+pub bits_of_back : (q : ℕ) (bytes : List ℕ) → bits_of_bytes (drop q bytes) ≡ drop (8 * q) (bits_of_bytes bytes)
+unfolding bits_of_bytes
+bits_of_back zero bytes = refl
+bits_of_back (suc q) [] = sym (drop_all (8 * suc q) [] (omega arith))
+bits_of_back (suc q) (byte ∷ bytes) =
+    let more : 8 * suc q ≡ 8 + 8 * q = omega arith in
+    let past = drop_past 8 (8 * q) (bits_of 8 byte) (bits_of_bytes bytes) (length-bits_of 8 byte) in
+    rw (more, past) (bits_of_back q bytes)
 
 pub bits_of_bytes-append : (xs ys : List ℕ) → bits_of_bytes (xs ++ ys) ≡ bits_of_bytes xs ++ bits_of_bytes ys
 unfolding bits_of_bytes

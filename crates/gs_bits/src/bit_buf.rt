@@ -1,11 +1,12 @@
 ghost use Rattle.std.specs.Prelude.{◌≡◌, ℕ, ◌+◌, ◌*◌, ◌%◌, ◌^◌, ◌≤◌, ◌<◌, ◌↔◌, List, [], ◌++◌, length, take, drop, slice_index, IsTrue, IsOk, IsErr, IfOk, OnOk, OnErr, Ok, Err};
 ghost use Rattle.std.specs.List.{AllPass};
+ghost use Rattle.gs_chars.specs.Answers.{BeginsWith};
 ghost use Rattle.gs_bits.specs.Bits.{AreBits, bits_of, number_of};
 ghost use Rattle.gs_bits.specs.HexText.{HasBadDigitWithin, NeedsMoreThan, bits_of_hex, hex_of_bits, is_hex_digit};
 
 use crate::cursor::Cursor;
 use crate::errors::{Full, HexFault};
-use crate::hex_text::{decode, encode};
+use crate::hex_text::{decode, write_digits};
 use crate::packed_bits::{number_in, write_behind};
 use crate::spread::spread;
 use gs_chars::{Memory, Text};
@@ -71,8 +72,8 @@ impl<const N: usize> BitBuf<N> {
         self.len
     }
 
-    /// Returns the number of the n bits from a place on, the highest first.
-    fn number_at(&self, from: usize, n: u32) -> u64
+    /// Returns the number of the n bits from a place on, the highest first. n is at most 64.
+    pub fn number_at(&self, from: usize, n: u32) -> u64
         requires width { n ≤ 64 }
         requires within { from + n ≤ length self.now }
         ensures { result ≡ number_of (take n (drop from self.now)) }
@@ -130,12 +131,26 @@ impl<const N: usize> BitBuf<N> {
         })
     }
 
+    /// Appends the upper-case hexadecimal digits of the bits, four to a digit. Fails only with `Memory`; `out` then begins
+    /// with its old contents. The bits make whole bytes.
+    pub fn append_hex(&self, out: &mut Vec<u8>) -> Result<(), Memory>
+        requires { length self.now % 8 ≡ 0 }
+        ensures written { IfOk result (λ _. out.new.items ≡ out.old.items ++ hex_of_bits self.now) }
+        ensures begun { OnErr result (BeginsWith out.new.items out.old.items) }
+    {
+        let mut digits = [0; 128];
+        write_digits(&self.bytes[..self.len / 8], &mut digits);
+        Ok(out.extend_from_slice(&digits[..self.len / 4])?)
+    }
+
     /// Returns the upper-case hexadecimal digits of the bits, four to a digit. Fails only with `Memory`. The bits make whole
     /// bytes.
     pub fn to_hex(&self, alloc: Global) -> Result<Text, Memory>
         requires { length self.now % 8 ≡ 0 }
         ensures { IfOk result (λ text. text ≡ hex_of_bits self.now) }
     {
-        encode(alloc, &self.bytes[..self.len / 8])
+        let mut digits = Vec::new(alloc);
+        self.append_hex(&mut digits)?;
+        Ok(Text::from_vec(digits))
     }
 }

@@ -2,8 +2,24 @@ ghost use Rattle.std.specs.Prelude.{◌≡◌, ◌+◌, ◌-◌, ◌*◌, ◌/�
 ghost use Rattle.gs_bits.specs.Bits.{bits_of, number_of};
 ghost use Rattle.gs_bits.specs.PackedBits.{bits_of_bytes, packed_bits};
 
-/// Returns the number of the n bits from a place on in some bytes, taken a byte at a time.
+/// Returns the number of the n bits from a place on in some bytes. Eight bytes that hold them are read at once.
 pub(crate) fn number_in(bytes: &[u8], from: usize, n: u32) -> u64
+    requires width { n ≤ 64 }
+    requires small { length bytes.now ≤ 64 }
+    requires within { from + n ≤ 8 * length bytes.now }
+    ensures { result ≡ number_of (take n (drop from (bits_of_bytes bytes.now))) }
+{
+    let before = (from % 8) as u32;
+    if 0 < n && before + n <= 64 {
+        if let Some(eight) = bytes[from / 8..].first_chunk::<8>() {
+            return u64::from_be_bytes(*eight) << before >> (64 - n);
+        }
+    }
+    number_by_bytes(bytes, from, n)
+}
+
+/// Returns the number of the n bits from a place on in some bytes, taken a byte at a time.
+fn number_by_bytes(bytes: &[u8], from: usize, n: u32) -> u64
     requires width { n ≤ 64 }
     requires small { length bytes.now ≤ 64 }
     requires within { from + n ≤ 8 * length bytes.now }

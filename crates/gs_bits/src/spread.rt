@@ -2,21 +2,13 @@ ghost use Rattle.std.specs.Prelude.{◌≡◌, ◌*◌, ◌≤◌, length, take}
 ghost use Rattle.gs_bits.specs.Bits.{bits_of};
 ghost use Rattle.gs_bits.specs.PackedBits.{bits_of_bytes};
 
-/// Returns the bits of a byte, from the highest.
-#[tactic(auto, unfolding(crate::specs::Bits::bits_of))]
+/// Returns the bits of a byte, from the highest. The product has eight copies of the byte, 9 places apart: the top bit of its
+/// byte j, from the lowest, is bit 7 - j of the byte.
 fn bits_of_byte(byte: u8) -> [u8; 8]
     ensures { result ≡ bits_of 8 byte }
 {
-    [
-        byte / 128 % 2,
-        byte / 64 % 2,
-        byte / 32 % 2,
-        byte / 16 % 2,
-        byte / 8 % 2,
-        byte / 4 % 2,
-        byte / 2 % 2,
-        byte % 2,
-    ]
+    let copies = u64::from(byte).wrapping_mul(0x8040_2010_0804_0201);
+    ((copies >> 7) & 0x0101_0101_0101_0101).to_le_bytes()
 }
 
 /// Writes the bits of some bytes to the start of the symbols, byte by byte.

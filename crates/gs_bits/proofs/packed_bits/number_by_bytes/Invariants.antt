@@ -1,7 +1,7 @@
 use Rattle.std.proofs.Common.{◌≡◌, ◌+◌, ◌-◌, ◌≤◌, ◌<◌, ◌^◌, take, drop}
 use Rattle.gs_bits.specs.Bits.{number_of}
 use Rattle.gs_bits.specs.PackedBits.{bits_of_bytes}
-use Rattle.gs_bits.proofs.packed_bits.number_in.Given as goal
+use Rattle.gs_bits.proofs.packed_bits.number_by_bytes.Given as goal
 
 abbrev pub invariant-loop-left : goal.invariant-loop-left
 invariant-loop-left l = record {
