@@ -17,3 +17,5 @@ pub mod CountLemmas
 pub mod DecidedWords
 pub mod DecidedShares
 pub mod OwnWords
+pub mod NumberWords
+pub mod PowersOfTen

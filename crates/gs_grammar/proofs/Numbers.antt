@@ -1,9 +1,9 @@
 -- Decimal digits and the numbers that they write.
-use Rattle.std.proofs.Common.{◌≡◌, ℕ, ◌<◌, ◌≤◌, ◌+◌, ◌-◌, ◌*◌, ◌/◌, ◌%◌, ◌^◌, ◌&&◌, inl, inr, zero, suc, Bool, true, false, Option, Some, None, SomeIff, IfSome, IfNone, List, [], ◌∷◌, ◌++◌, length, drop, take, refl, sym, ◌∙◌, ap, set, arith, add-one, leb, eqb, rules, decimal, get_or, length-append}
-use Rattle.std.proofs.Math.Nat.{pow-le-pow_right, pow-suc, pow-succ', div-eq_of_lt, div-div-eq-div-mul, mul_assoc, add-mul, le-mul_of_pos_right, mul_comm}
+use Rattle.std.proofs.Common.{◌≡◌, ℕ, ◌<◌, ◌≤◌, ◌+◌, ◌-◌, ◌*◌, ◌/◌, ◌%◌, ◌^◌, ◌&&◌, inl, inr, zero, suc, Bool, true, false, Option, Some, None, SomeIff, IfSome, IfNone, List, [], ◌∷◌, ◌++◌, length, drop, refl, sym, ◌∙◌, ap, arith, add-one, leb, eqb, rules, decimal, get_or, length-append}
+use Rattle.std.proofs.Math.Nat.{pow-le-pow_right, pow-suc, pow-succ', div-eq_of_lt, div-div-eq-div-mul}
 use Rattle.std.proofs.lemmas.Bool.{cases_eq}
 use Rattle.std.proofs.lemmas.Bool.Decides.{nat_tests, leb_tells}
-use Rattle.std.proofs.lemmas.List.{drop_all, drop_more, drop-set, take_at}
+use Rattle.std.proofs.lemmas.List.{drop_all, drop_more}
 use Rattle.std.proofs.lemmas.List.Folds.{list_all-append}
 use Rattle.std.proofs.lemmas.Str.Parse.{IsNumeralModel, numerals_by_weight, digits_value_short}
 use Rattle.std.proofs.lemmas.Fmt.{digits_value-decimal, digits_decimal, decimal-digits_value, length-decimal-le, decimal_nonempty, first_decimal, decimal_digit}
@@ -188,62 +188,6 @@ padded_from n number (suc place) digits p = padded_from n number place (digits +
 -- there are n digits of each number below 10 to the n
 pub some_padded : (n number : ℕ) → number < 10 ^ n → (digits : List ℕ) × IsPadded n number digits
 some_padded n number h = let r = padded_from n number n [] (pads_start n number h) in (r.0, pads_end n number r.0 r.1)
-
--- the last digits of a number, written after a place of a list, and the number before them
-pub record Fills (n number place left : ℕ) (digits : List ℕ) : Type 0 where
-  pub back : List ℕ
-  pub behind : List ℕ
-  pub shape : drop place digits ≡ back ++ behind
-  pub count : length back + place ≡ n
-  pub all_digits : are_digits back ≡ true
-  pub value : left * 10 ^ length back + decimal_value back ≡ number
-
-fills_value : (left power behind number : ℕ) → left * power + behind ≡ number → left / 10 * (10 * power) + (left % 10 * power + behind) ≡ number
-fills_value left power behind number h =
-    let whole : left ≡ left / 10 * 10 + left % 10 = omega arith in
-    let split : left * power ≡ left / 10 * 10 * power + left % 10 * power = ap (λ (k : ℕ). k * power) whole ∙ add-mul (left / 10 * 10) (left % 10) power in
-    let around : left / 10 * 10 * power ≡ left / 10 * (10 * power) = mul_assoc (left / 10) 10 power in
-    omega arith
-
-pub fills_step : (n number place left : ℕ) (digits : List ℕ) → place < length digits → Fills n number (place + 1) left digits
-    → Fills n number place (left / 10) (set digits place (48 + left % 10))
-fills_step n number place left digits low f =
-    let digit = 48 + left % 10 in
-    record {
-      back = digit ∷ f.back;
-      behind = f.behind;
-      shape = drop-set digits place digit low ∙ ap (λ c. digit ∷ c) f.shape;
-      count = let c = f.count in omega arith;
-      all_digits =
-          let one : is_digit digit ≡ true = grind (arith, nat_tests) in
-          let d = f.all_digits in
-          rw (one, d) refl;
-      value =
-          let power : 10 ^ suc (length f.back) ≡ 10 * 10 ^ length f.back = pow-succ' 10 (length f.back) in
-          let plain : digit - 48 ≡ left % 10 = omega arith in
-          rw (power, plain) (fills_value left (10 ^ length f.back) (decimal_value f.back) number f.value);
-    }
-
--- the whole number, if nothing of it is left
-pub fills_end : (n number : ℕ) (digits : List ℕ) → Fills n number 0 0 digits → IsPadded n number (take n digits)
-fills_end n number digits f =
-    let long : length f.back ≡ n = let c = f.count in omega arith in
-    let front : take n digits ≡ f.back = rw f.shape (take_at f.back f.behind n long) in
-    rw front (record { count = long; all_digits = f.all_digits; value = let v = f.value in omega arith })
-
--- a number has more digits if something of it is left
-pub fills_more : (n number left : ℕ) (digits : List ℕ) → Fills n number 0 left digits → 0 < left → 10 ^ n ≤ number
-fills_more n number left digits f some =
-    let long : length f.back ≡ n = let c = f.count in omega arith in
-    let value : left * 10 ^ n + decimal_value f.back ≡ number = rw long at f.value in
-    let more : 10 ^ n ≤ 10 ^ n * left = le-mul_of_pos_right (10 ^ n) some in
-    let turn = mul_comm (10 ^ n) left in
-    omega arith
-
--- the digits of a number that has no more
-pub fills_whole : (n number left : ℕ) (digits : List ℕ) → Fills n number 0 left digits → number < 10 ^ n → IsPadded n number (take n digits)
-fills_whole n number zero digits f small = fills_end n number digits f
-fills_whole n number (suc left) digits f small = absurd (let more = fills_more n number (suc left) digits f (omega arith) in omega arith)
 
 -- the digits of a number, as many as its decimal text has, are that text
 

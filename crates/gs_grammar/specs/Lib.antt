@@ -13,4 +13,5 @@ pub mod Ambiguity
 pub mod Counts
 pub mod Searches
 pub mod WrittenWords
+pub mod NumberWords
 pub mod Laws

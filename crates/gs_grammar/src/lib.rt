@@ -26,6 +26,7 @@ mod bit_writer;
 mod error;
 mod item;
 mod laws;
+mod number_words;
 mod numerals;
 mod opt;
 mod own_words;
@@ -44,6 +45,7 @@ pub use laws::{
     unambiguous_levels_read_alone, what_is_written_is_derived, what_is_written_is_read,
     word_fixes_its_value, word_writes_its_value, words_without_values,
 };
+pub use number_words::{is_number_word, number_value};
 pub use numerals::digits_behind;
 pub use opt::{MOST_SYMBOLS, Opt};
 pub use own_words::is_own_word;

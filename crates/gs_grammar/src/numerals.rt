@@ -1,5 +1,6 @@
 ghost use Rattle.std.specs.Prelude.{◌≡◌, ◌↔◌, ◌^◌, ◌*◌, ◌+◌, ℕ, ◌<◌, ◌≤◌, IsTrue, IfSome, IfNone, IfOk, SomeIff, length, decimal, nat_lt};
 ghost use Rattle.gs_grammar.specs.Numerals.{NoNumeral};
+ghost use Rattle.gs_grammar.specs.NumberWords.{digits_of};
 ghost use Rattle.gs_grammar.specs.NumeralsSupport.{IsPadded, WritesSmall, number_behind};
 ghost use Rattle.gs_grammar.specs.Languages.{IsOneBehind};
 ghost use Rattle.gs_grammar.specs.WrittenWords.{has_leading_zero};
@@ -7,6 +8,38 @@ ghost use Rattle.gs_grammar.specs.WrittenWords.{has_leading_zero};
 use crate::bit_words::WideNumber;
 use gs_chars::{CharSet, Memory, Text};
 use std::alloc::Global;
+
+/// The powers of ten below 2 to the 64.
+static POWERS_OF_TEN: [u64; 20] = [
+    1,
+    10,
+    100,
+    1_000,
+    10_000,
+    100_000,
+    1_000_000,
+    10_000_000,
+    100_000_000,
+    1_000_000_000,
+    10_000_000_000,
+    100_000_000_000,
+    1_000_000_000_000,
+    10_000_000_000_000,
+    100_000_000_000_000,
+    1_000_000_000_000_000,
+    10_000_000_000_000_000,
+    100_000_000_000_000_000,
+    1_000_000_000_000_000_000,
+    10_000_000_000_000_000_000,
+];
+
+/// Returns 10 to the n. n is at most 19.
+fn power_of_ten(n: usize) -> u64
+    requires { n ≤ 19 }
+    ensures { result ≡ 10 ^ n }
+{
+    POWERS_OF_TEN[n]
+}
 
 /// Returns the number of decimal digits of a number after the first.
 pub fn digits_behind(number: u64) -> u32
@@ -34,7 +67,7 @@ pub fn has_at_most_digits(number: u64, n: u8) -> bool
     requires { n ≤ 18 }
     ensures { IsTrue result ↔ (number < 10 ^ n) }
 {
-    number < 10u64.pow(u32::from(n))
+    number < power_of_ten(usize::from(n))
 }
 
 /// Returns whether there is a leading zero before other digits.
@@ -57,7 +90,7 @@ pub fn digits_behind_one(number: u64, most: u8) -> Option<u8>
     if count == 0 || count > u32::from(most) {
         return None;
     }
-    if number >= 2 * 10u64.pow(count) {
+    if number >= 2 * power_of_ten(count as usize) {
         return None;
     }
     Some(count as u8)
@@ -116,21 +149,29 @@ pub fn numeral(symbols: &[u8]) -> Option<u64>
     number_of_digits(0, symbols)
 }
 
+/// Writes the lowest digits of a number, the highest first, one to each place.
+pub fn write_digits(number: u64, places: &mut [u8])
+    ensures { places.new ≡ digits_of (length places.old) number }
+{
+    let mut place = places.len();
+    let mut left = number;
+    while place > 0 {
+        place -= 1;
+        places[place] = b'0' + (left % 10) as u8;
+        left /= 10;
+    }
+}
+
 /// Returns the n digits of a number, leading zeros. n is at most 18, and the number has no more digits.
 pub fn padded(alloc: Global, number: u64, n: u8) -> Result<Text, Memory>
     requires few { n ≤ 18 }
     requires fits { number < 10 ^ n }
     ensures { IfOk result (λ digits. IsPadded n number digits) }
 {
-    let mut digits = [b'0'; 18];
-    let mut place = usize::from(n);
-    let mut left = number;
-    while place > 0 {
-        place -= 1;
-        digits[place] = b'0' + (left % 10) as u8;
-        left /= 10;
-    }
-    let text = Text::from_bytes(alloc, &digits[..usize::from(n)])?;
+    let mut room = [0; 18];
+    let digits = &mut room[..usize::from(n)];
+    write_digits(number, digits);
+    let text = Text::from_bytes(alloc, digits)?;
     Ok(text)
 }
 

@@ -10,4 +10,4 @@ below_power : (number n power : ℕ) → power ≡ 10 ^ n → (ltb number power 
 below_power number n power e = rw e (ltb-true number (10 ^ n), is_below number (10 ^ n))
 
 pub returns : goal.returns
-returns c = below_power c.args.number c.args.n c.pow.result (rw c.from.ensures at c.pow.ensures)
+returns c = below_power c.args.number c.args.n c.power_of_ten.result (rw c.from.ensures at c.power_of_ten.ensures)
