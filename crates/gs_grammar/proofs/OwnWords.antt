@@ -1,25 +1,11 @@
 -- Words that are their own values.
 use Rattle.std.proofs.Common.{◌≡◌, ℕ, ◌<◌, Bool, true, IsTrue, List, [], ◌∷◌, length, get_or, refl, sym, ◌∙◌, inl, eqb, leb}
 use Rattle.std.specs.List.{list_all}
-use Rattle.std.proofs.lemmas.Bool.{agree_below, agree_below_at, and_parts, leb-true}
-use Rattle.gs_chars.specs.Characters.{is_in_set82}
-use Rattle.gs_chars.specs.Escapes.{is_plain, is_escaped}
-use Rattle.gs_grammar.specs.declared.own_words.TheConstants.{PLAIN}
+use Rattle.std.proofs.lemmas.Bool.{and_parts, leb-true}
+use Rattle.gs_chars.specs.Escapes.{is_plain}
 use Rattle.gs_grammar.specs.declared.item.Item.TheVariants.{Esc}
 use Rattle.gs_grammar.specs.Items.{is_between}
 use Rattle.gs_grammar.specs.Words.{Word, SpellsEach, no_more, one_more}
-
--- the table of plain bytes
-
-abbrev in_table : ℕ → Bool
-in_table c = eqb (get_or PLAIN c 0) 1
-
-table : agree_below in_table is_plain 256 ≡ true
-unfolding is_in_set82 is_escaped
-table = refl
-
-pub plain_at : (c : ℕ) → c < 256 → eqb (get_or PLAIN c 0) 1 ≡ is_plain c
-plain_at c h = agree_below_at in_table is_plain 256 c table h
 
 -- characters that are spelled as themselves
 

@@ -5,31 +5,13 @@ ghost use Rattle.gs_grammar.specs.Words.{Word, own_value};
 
 use crate::item::{Item, is_within};
 use crate::word_tests::{are_digits_within, are_n_digits, is_integer};
-
-/// For each byte, 1 if an EPC URI spells it as itself, and 0 if not.
-static PLAIN: [u8; 256] = [
-    0, 0, 0, 0, 0, 0, 0, 0, 0, 0, 0, 0, 0, 0, 0, 0, 0, 0, 0, 0, 0, 0, 0, 0, 0, 0, 0, 0, 0, 0, 0, 0,
-    0, 1, 0, 0, 0, 0, 0, 1, 1, 1, 1, 1, 1, 1, 1, 0, 1, 1, 1, 1, 1, 1, 1, 1, 1, 1, 1, 1, 0, 1, 0, 0,
-    0, 1, 1, 1, 1, 1, 1, 1, 1, 1, 1, 1, 1, 1, 1, 1, 1, 1, 1, 1, 1, 1, 1, 1, 1, 1, 1, 0, 0, 0, 0, 1,
-    0, 1, 1, 1, 1, 1, 1, 1, 1, 1, 1, 1, 1, 1, 1, 1, 1, 1, 1, 1, 1, 1, 1, 1, 1, 1, 1, 0, 0, 0, 0, 0,
-    0, 0, 0, 0, 0, 0, 0, 0, 0, 0, 0, 0, 0, 0, 0, 0, 0, 0, 0, 0, 0, 0, 0, 0, 0, 0, 0, 0, 0, 0, 0, 0,
-    0, 0, 0, 0, 0, 0, 0, 0, 0, 0, 0, 0, 0, 0, 0, 0, 0, 0, 0, 0, 0, 0, 0, 0, 0, 0, 0, 0, 0, 0, 0, 0,
-    0, 0, 0, 0, 0, 0, 0, 0, 0, 0, 0, 0, 0, 0, 0, 0, 0, 0, 0, 0, 0, 0, 0, 0, 0, 0, 0, 0, 0, 0, 0, 0,
-    0, 0, 0, 0, 0, 0, 0, 0, 0, 0, 0, 0, 0, 0, 0, 0, 0, 0, 0, 0, 0, 0, 0, 0, 0, 0, 0, 0, 0, 0, 0, 0,
-];
-
-/// Returns whether an EPC URI spells the byte as itself.
-fn is_plain(c: u8) -> bool
-    ensures { result ≡ is_plain c }
-{
-    PLAIN[usize::from(c)] == 1
-}
+use gs_chars::is_plain_in_uri;
 
 /// Returns whether an EPC URI spells each byte as itself.
 fn are_plain(symbols: &[u8]) -> bool
     ensures { result ≡ list_all is_plain symbols.now }
 {
-    symbols.iter().all(|c| is_plain(*c))
+    symbols.iter().all(|c| is_plain_in_uri(*c))
 }
 
 /// Returns `true` only if the symbols are a word of an item of a text level whose value is empty for a literal, and otherwise the
