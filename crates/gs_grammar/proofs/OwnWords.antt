@@ -1,5 +1,5 @@
 -- Words that are their own values.
-use Rattle.std.proofs.Common.{◌≡◌, ℕ, ◌<◌, Bool, true, IsTrue, List, [], ◌∷◌, length, get_or, refl, sym, ◌∙◌, inl, eqb, leb}
+use Rattle.std.proofs.Common.{◌≡◌, ℕ, Bool, true, IsTrue, List, [], ◌∷◌, length, refl, sym, ◌∙◌, inl, leb}
 use Rattle.std.specs.List.{list_all}
 use Rattle.std.proofs.lemmas.Bool.{and_parts, leb-true}
 use Rattle.gs_chars.specs.Escapes.{is_plain}
