@@ -82,8 +82,6 @@ pub fn write_text(alloc: Global, option: &Opt, values: &[CowText<'_>]) -> Result
     ensures rejected { IfErr result (λ error. IsWriteFault option.now.items values.now error) }
 {
     let mut text = Vec::new(alloc);
-    match append_text(option, values, &mut text) {
-        Ok(()) => Ok(Text::from_vec(text)),
-        Err(error) => Err(error),
-    }
+    append_text(option, values, &mut text)?;
+    Ok(Text::from_vec(text))
 }
