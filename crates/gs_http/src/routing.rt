@@ -61,7 +61,7 @@ fn describe(settings: &Settings) -> Answer<'_>
 }
 
 /// Returns whether only one link is chosen.
-fn is_single(chosen: &[u32]) -> bool
+fn has_one_link(chosen: &[u32]) -> bool
     ensures { result ≡ (length chosen.now == 1) }
 {
     chosen.len() == 1
@@ -228,7 +228,7 @@ impl<'q, 'a, 't> Lookup<'q, 'a, 't> {
         ensures { IfOk result (λ answer. said answer ≡ by_relation self.now.resolver.now.settings.templates
             self.now.identity.now (linked self.now.resolver.now.links chosen.now)) }
     {
-        if is_single(chosen) {
+        if has_one_link(chosen) {
             let link = self.resolver.store().link(chosen[0] as usize);
             return self.redirect_to(alloc, link);
         }

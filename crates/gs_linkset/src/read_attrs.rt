@@ -106,7 +106,7 @@ impl ReadEntry for (Text, Text) {
 
 /// Reads the value of an attribute. Returns `None` if it is not of the kind that the name has.
 #[tactic(auto, unfolding(crate::specs::Attributes::value_of))]
-fn read_value(alloc: Global, name: &[u8], part: &Value) -> Result<Option<AttrValue>, Memory>
+fn read_attr(alloc: Global, name: &[u8], part: &Value) -> Result<Option<AttrValue>, Memory>
     ensures value { IfOk result (λ value. value ≡ value_of name.now (view part.now)) }
     ensures shape { IfOk result (λ value. IfSome value (λ value. is_value name.now value ≡ true)) }
 {
@@ -142,7 +142,7 @@ fn attr_at(alloc: Global, member: &Value, name: &str) -> Result<Option<Attr>, Me
     ensures attr { IfOk result (λ attr. attr ≡ attr_named name.now (view member.now)) }
     ensures shape { IfOk result (λ attr. IfSome attr (λ attr. is_attr attr ≡ true)) }
 {
-    let Some(value) = read_value(alloc, name.as_bytes(), member)? else {
+    let Some(value) = read_attr(alloc, name.as_bytes(), member)? else {
         return Ok(None);
     };
     Ok(Some(Attr {

@@ -145,7 +145,7 @@ fn write_types(out: &mut Vec<u8>, relation: &[u8], anchor: &[u8]) -> Result<(), 
 }
 
 /// Appends a link.
-fn write_link(out: &mut Vec<u8>, link: &LentLink<'_>) -> Result<(), Memory>
+fn write_lent_link(out: &mut Vec<u8>, link: &LentLink<'_>) -> Result<(), Memory>
     ensures { IfOk result (λ _. out.new.items ≡ out.old.items ++ spelled_link (seen link.now)) }
 {
     out.push(b'<')?;
@@ -161,7 +161,7 @@ fn write_behind(out: &mut Vec<u8>, links: &[LentLink<'_>]) -> Result<(), Memory>
 {
     for link in links {
         out.extend_from_slice(b",\n")?;
-        write_link(out, link)?;
+        write_lent_link(out, link)?;
     }
     Ok(())
 }
@@ -173,7 +173,7 @@ fn write_links(out: &mut Vec<u8>, links: &[LentLink<'_>]) -> Result<(), Memory>
     let Some((first, behind)) = links.split_first() else {
         return Ok(());
     };
-    write_link(out, first)?;
+    write_lent_link(out, first)?;
     write_behind(out, behind)
 }
 

@@ -126,7 +126,7 @@ fn word_digits(alloc: Global, word: ControlWord) -> Result<Text, Memory>
 }
 
 /// Returns the control word at the start of a dump. The bits after it are as many as it says.
-fn read_word(text: &[u8]) -> Result<ControlWord, DumpFault>
+fn read_control_word(text: &[u8]) -> Result<ControlWord, DumpFault>
     ensures word { IfOk result (IsHeadOf text.now) }
     ensures rejected { IfErr result (RejectsHead text.now) }
 {
@@ -158,7 +158,7 @@ pub fn read_dump(alloc: Global, set: &TableSet, text: &[u8]) -> Result<Dump, Dum
     ensures of_set { IfOk result (λ dump. IsOfSet set.now dump.epc) }
     ensures filter { IfOk result (λ dump. HasFilter dump.epc.filter) }
 {
-    let word = read_word(text)?;
+    let word = read_control_word(text)?;
     // only for the proof: the options satisfy the rules
     let _ = set.kinds();
     let (_, encoding) = text.split_at(4);

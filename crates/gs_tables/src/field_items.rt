@@ -23,7 +23,7 @@ enum Found<'a> {
 }
 
 /// Returns the items of the field: none, the only one, or several.
-fn items_of<'a>(field: Field, items: &'a [Option<FieldItem>]) -> Found<'a>
+fn items_of_field<'a>(field: Field, items: &'a [Option<FieldItem>]) -> Found<'a>
     ensures { IsFound (items_of_field field (present items.now)) result }
 {
     let mut found = Found::None;
@@ -127,7 +127,7 @@ pub fn keeps_gcp(form: KeyForm, lead: u64, n: u64, items: &[Option<FieldItem>]) 
             return false;
         }
     }
-    match items_of(Field::Gcp, items) {
+    match items_of_field(Field::Gcp, items) {
         Found::One(item) => is_digits(n, item),
         Found::None | Found::More => false,
     }
@@ -138,7 +138,7 @@ pub fn keeps_gcp(form: KeyForm, lead: u64, n: u64, items: &[Option<FieldItem>]) 
 pub fn keeps_rest(form: KeyForm, n: u64, items: &[Option<FieldItem>]) -> bool
     ensures { result ≡ keeps_rest form n (items_of_field Field.Rest (present items.now)) }
 {
-    match (form, items_of(Field::Rest, items)) {
+    match (form, items_of_field(Field::Rest, items)) {
         (KeyForm::Digits(digits, _), Found::None) => u64::from(digits) <= n,
         (KeyForm::Digits(digits, _), Found::One(item)) => {
             u64::from(digits) > n && is_digits(u64::from(digits) - n, item)
@@ -155,7 +155,7 @@ pub fn keeps_rest(form: KeyForm, n: u64, items: &[Option<FieldItem>]) -> bool
 pub fn keeps_serial(room: Option<Room>, items: &[Option<FieldItem>]) -> bool
     ensures { result ≡ keeps_serial room (items_of_field Field.Serial (present items.now)) }
 {
-    match (room, items_of(Field::Serial, items)) {
+    match (room, items_of_field(Field::Serial, items)) {
         (None, Found::None) => true,
         (Some(Room::Characters(most)), Found::One(item)) => has_room(usize::from(most), item),
         (Some(Room::Digits(most)), Found::One(item)) => is_number(usize::from(most), item),
@@ -167,7 +167,7 @@ pub fn keeps_serial(room: Option<Room>, items: &[Option<FieldItem>]) -> bool
 fn has_digits(field: Field, n: u8, items: &[Option<FieldItem>]) -> bool
     ensures { result ≡ is_one (is_digits n) (items_of_field field (present items.now)) }
 {
-    match items_of(field, items) {
+    match items_of_field(field, items) {
         Found::One(item) => is_digits(u64::from(n), item),
         Found::None | Found::More => false,
     }
@@ -177,7 +177,7 @@ fn has_digits(field: Field, n: u8, items: &[Option<FieldItem>]) -> bool
 fn has_none(field: Field, items: &[Option<FieldItem>]) -> bool
     ensures { result ≡ is_empty (items_of_field field (present items.now)) }
 {
-    match items_of(field, items) {
+    match items_of_field(field, items) {
         Found::None => true,
         Found::One(_) | Found::More => false,
     }
@@ -228,7 +228,7 @@ pub(crate) fn keeps_level(
     ensures { result ≡ keeps_level level encoding.now (present items.now) }
 {
     let named = !encoding.is_empty();
-    match (level, items_of(Field::Filter, items)) {
+    match (level, items_of_field(Field::Filter, items)) {
         (LevelName::Binary, Found::One(item)) => { named && is_filter(item) && size % 16 == 0 }
         (LevelName::Tag, Found::One(item)) => named && is_filter(item),
         (LevelName::Pure, Found::None) => !named,

@@ -12,10 +12,10 @@ pub link-link-requires : goal.link-link-requires
 link-link-requires c =
     rw c.store.ensures (document_within c.args.self.now.resolver.now.links c.args.self.now.identity.now c.args.chosen.now c.requires.chosen 0 0 c.requires.some)
 
-pub returns-then-is_single : goal.returns-then-is_single
-returns-then-is_single c =
+pub returns-then-has_one_link : goal.returns-then-has_one_link
+returns-then-has_one_link c =
     let site = c.args.self.now.resolver.now in
-    let one = eqb-true (length c.args.chosen.now) 1 (sym c.is_single.ensures ∙ c.if-is_single.true) in
+    let one = eqb-true (length c.args.chosen.now) 1 (sym c.has_one_link.ensures ∙ c.if-has_one_link.true) in
     subst (λ (answer : Answer). IfOk c.redirect_to.result (λ made. said made ≡ answer))
     (one_link site.settings.templates c.args.self.now.identity.now site.links c.args.chosen.now c.link-link.result.now one (rw c.store.ensures at c.link-link.ensures.link))
     c.redirect_to.ensures
@@ -24,6 +24,6 @@ pub returns : goal.returns
 returns c =
     let site = c.args.self.now.resolver.now in
     let within = document_within site.links c.args.self.now.identity.now c.args.chosen.now c.requires.chosen in
-    let more = eqb-false (length c.args.chosen.now) 1 (sym c.is_single.ensures ∙ c.if-is_single.false) in
+    let more = eqb-false (length c.args.chosen.now) 1 (sym c.has_one_link.ensures ∙ c.if-has_one_link.false) in
     ap choices (ap (λ (sent : Rendered). sent.text) c.in_ok-sent.ensures)
     ∙ sym (more_links site.settings.templates c.args.self.now.identity.now site.links c.args.chosen.now within c.requires.some more)

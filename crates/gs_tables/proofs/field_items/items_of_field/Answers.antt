@@ -1,6 +1,6 @@
 use Rattle.std.proofs.Common.{◌≡◌, Some, rules, inl, inr}
 use Rattle.gs_tables.proofs.FoundItems.{found_one, found_more}
-use Rattle.gs_tables.proofs.field_items.items_of.Goals as goal
+use Rattle.gs_tables.proofs.field_items.items_of_field.Goals as goal
 
 pub returns-in-One : goal.returns-in-One
 returns-in-One c =

@@ -4,7 +4,7 @@ use Rattle.gs_bits.specs.HexText.{bits_of_hex}
 use Rattle.gs_epc.proofs.ReadingFacts.{is_hex}
 use Rattle.gs_membank.specs.Banks.{BeginsWith}
 use Rattle.gs_membank.proofs.HeadLemmas.{word_rejected}
-use Rattle.gs_membank.proofs.dump.read_word.Goals as goal
+use Rattle.gs_membank.proofs.dump.read_control_word.Goals as goal
 
 pub returns-in_err-check_word-clause-rejected : goal.returns-in_err-check_word-clause-rejected
 returns-in_err-check_word-clause-rejected c =

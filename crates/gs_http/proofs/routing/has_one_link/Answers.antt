@@ -1,5 +1,5 @@
 use Rattle.std.proofs.Common.{refl}
-use Rattle.gs_http.proofs.routing.is_single.Goals as goal
+use Rattle.gs_http.proofs.routing.has_one_link.Goals as goal
 
 pub returns : goal.returns
 returns c = refl
