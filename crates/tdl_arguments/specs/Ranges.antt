@@ -1,8 +1,6 @@
 -- The values that names may have which name no files, and the numbers that they write.
 use Rattle.std.specs.Prelude.{ℕ, ◌&&◌, nat_le, nat_lt, not, Bool, if◌then◌else◌, List, length, Option, Some, None}
-use Rattle.std.specs.Char.{is_ascii_graphic}
-use Rattle.std.specs.List.{list_all}
-use Rattle.gs_chars.specs.Characters.{are_digits}
+use Rattle.gs_chars.specs.Characters.{are_digits, are_visible}
 use Rattle.gs_grammar.specs.Words.{decimal_value}
 use Rattle.gs_grammar.specs.WrittenWords.{has_leading_zero}
 
@@ -37,4 +35,4 @@ lines_of word = number_within 0 most_lines word
 
 -- trusted, own: holds if `value` is an expansion of `gs1:` in relations: 1 to 256 bytes from 33 to 126
 abbrev pub is_vocabulary : List ℕ → Bool
-is_vocabulary value = nat_le 1 (length value) && (nat_le (length value) 256 && list_all is_ascii_graphic value)
+is_vocabulary value = nat_le 1 (length value) && (nat_le (length value) 256 && are_visible value)

@@ -3,8 +3,6 @@ ghost use Rattle.tdl_arguments.specs.Names.{OfPairs, look_up, name_word};
 ghost use Rattle.tdl_arguments.specs.Requests.{known_files, known_links, links_by, number_named};
 ghost use Rattle.tdl_arguments.specs.Requests.{known_values, known_words, named_files, named_values};
 ghost use Rattle.tdl_arguments.specs.Requests.{value_or};
-ghost use Rattle.std.specs.Char.{is_ascii_graphic};
-ghost use Rattle.std.specs.List.{list_all};
 ghost use Rattle.gs_grammar.specs.Words.{decimal_value};
 ghost use Rattle.gs_grammar.specs.WrittenWords.{has_leading_zero};
 ghost use Rattle.tdl_arguments.specs.Ranges.{count_of, filter_of, gcp_of, is_numeral, is_vocabulary, lines_of};
@@ -14,7 +12,7 @@ ghost use Rattle.tdl_arguments.specs.declared.name.Name.TheVariants.{Count, Filt
 use crate::name::Name;
 use crate::pairs::look_up;
 use crate::request::{LinksFile, NamedFiles, NamedValues};
-use gs_chars::are_digits;
+use gs_chars::{are_digits, are_visible};
 use gs_ident::CANONICAL_STEM;
 
 /// The default expansion of `gs1:` in relations.
@@ -172,13 +170,6 @@ pub fn lines_of(word: &str) -> Option<u32>
     ensures most { IfSome result (λ lines. lines ≤ most_lines) }
 {
     number_within(word, 0, 100_000)
-}
-
-/// Returns whether each byte is a visible character of ISO 646.
-fn are_visible(bytes: &[u8]) -> bool
-    ensures { result ≡ list_all is_ascii_graphic bytes.now }
-{
-    bytes.iter().all(|c| c.is_ascii_graphic())
 }
 
 /// Returns whether the value may stand for `gs1:` in relations: 1 to 256 bytes from 33 to 126.
