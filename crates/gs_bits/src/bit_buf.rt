@@ -72,7 +72,7 @@ impl<const N: usize> BitBuf<N> {
     }
 
     /// Returns the number of the n bits from a place on, the highest first.
-    fn number_at(&self, from: usize, n: u32) -> u64
+    pub fn number_at(&self, from: usize, n: u32) -> u64
         requires width { n ≤ 64 }
         requires within { from + n ≤ length self.now }
         ensures { result ≡ number_of (take n (drop from self.now)) }
