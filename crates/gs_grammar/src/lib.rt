@@ -52,4 +52,5 @@ pub use own_words::is_own_word;
 pub use tally::read_option;
 pub use text_writer::{append_text, write_text};
 pub use value_test::holds;
+pub use word_tests::is_filling;
 pub use words::{read_word, value_of};

@@ -19,3 +19,4 @@ pub mod BoundedWords
 pub mod DecidedShares
 pub mod SomeAnswer
 pub mod OwnWords
+mod NumbersInBits

@@ -1,7 +1,8 @@
 -- The way in which the texts of each option of a level are cut.
-use Rattle.std.specs.Prelude.{◌≡◌, ℕ, ◌+◌, List, [], ◌∷◌}
+use Rattle.std.specs.Prelude.{◌≡◌, ℕ, ◌+◌, List, [], ◌∷◌, All, Some, slice_get}
 use Rattle.gs_grammar.specs.declared.item.Item.{Item}
-use Rattle.gs_grammar.specs.Items.{size_of}
+use Rattle.gs_grammar.specs.Derivations.{IsDerived}
+use Rattle.gs_grammar.specs.Items.{IsItem, size_of}
 use Rattle.gs_grammar.specs.Levels.{OptionForm}
 use Rattle.gs_grammar_level.specs.declared.cuttings.Cutting.{Cutting}
 use Rattle.gs_grammar_level.specs.declared.cuttings.Cutting.TheVariants.{Widths, Machine}
@@ -28,3 +29,19 @@ IsCuttingOf Machine option = Unit {0}
 -- holds if there is one way for each option, in the same order, and each is right for its option
 abbrev pub AreCuttingsOf : List Cutting → List OptionForm → Type 0
 AreCuttingsOf cuttings options = FitEach IsCuttingOf cuttings options
+
+-- holds if these are the items of the option of this number, and the places at which their words begin in each of its texts
+pub record IsFixedCut (options : List OptionForm) (number : ℕ) (items : List Item) (places : List ℕ) : Type 0 where
+  pub option : OptionForm
+  pub at : slice_get options number ≡ Some option
+  pub items_are : items ≡ option.items
+  pub each : All IsItem items
+  pub fixed : CutsAreFixed items
+  pub places_are : places ≡ starts_of 0 items
+
+-- holds if the items derive the list by words that begin at these places
+pub record IsCutAt (items : List Item) (places w : List ℕ) : Type 0 where
+  pub each : All IsItem items
+  pub fixed : CutsAreFixed items
+  pub places_are : places ≡ starts_of 0 items
+  pub derived : IsDerived items w

@@ -9,6 +9,8 @@
 //!   `read_bits_within` reads bits into room of the caller's, from which the values are lent.
 //! - `find_words` lends the words of a text that are their own values, and makes no list of them. `None` leaves the text to
 //!   `read_text`.
+//! - `find_bits` finds the words of bits that are literals, numbers and zeros, and `BitWords::value` writes the value of one to
+//!   an array. `None` leaves the bits to `read_bits_within`.
 //! - `Level::first_share` gives the first two options of the level that share a list of symbols, and a text that shows it. It gives
 //!   `None` if and only if no list of symbols has two readings by the level.
 //!
@@ -29,6 +31,8 @@
 //!   `Level::first_share` decides it of all texts and bits, once, when tables are loaded.
 #![tactic(auto)]
 
+mod bit_words;
+mod choice;
 mod cuttings;
 mod finder;
 mod fronts;
@@ -40,6 +44,7 @@ mod read;
 mod share;
 mod trail;
 
+pub use bit_words::{BitWords, find_bits};
 pub use laws::{
     ambiguous_exactly_where_options_share, each_level_has_an_answer, no_list_has_two_readings,
 };

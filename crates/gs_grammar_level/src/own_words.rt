@@ -1,16 +1,13 @@
-ghost use Rattle.std.specs.Prelude.{◌≡◌, ◌<◌, ◌≤◌, IsTrue, IfSome, [], length, take, drop};
+ghost use Rattle.std.specs.Prelude.{◌≡◌, IsTrue, IfSome, [], take, drop, length, ◌<◌};
 ghost use Rattle.std.specs.List.{slice_index_or};
 ghost use Rattle.gs_grammar.specs.Levels.{item_lists};
 ghost use Rattle.gs_grammar.specs.Ambiguity.{IsUnambiguous};
 ghost use Rattle.gs_grammar.specs.DerivationsSupport.{HasValues};
 ghost use Rattle.gs_grammar_level.specs.Cuttings.{starts_of};
-ghost use Rattle.gs_grammar_level.specs.OwnWords.{own_values, word_at};
-ghost use Rattle.gs_grammar_level.specs.Readings.{Reads};
-ghost use Rattle.gs_grammar_level.specs.declared.read.Reading.TheVariants.{One};
+ghost use Rattle.gs_grammar_level.specs.OwnWords.{FindsWords, own_values, word_at};
 
-use crate::cuttings::{Cutting, width_by};
-use crate::finder::begins_at;
-use crate::fronts::Group;
+use crate::choice::{fixed_cut, likely_option, skip_first, take_first};
+use crate::cuttings::width_by;
 use crate::level::Level;
 use gs_grammar::{Item, is_own_word};
 use std::marker::Model;
@@ -32,26 +29,6 @@ impl<'a> Model for Words<'a> {
     ghost view = { λ t. record { option = t.option; values = own_values t.items.now t.places.now t.symbols.now } };
 }
 
-/// Returns the symbols after the first `n`.
-fn skip(symbols: &[u8], n: usize) -> &[u8]
-    ensures { result.now ≡ drop n symbols.now }
-{
-    match symbols.get(n..) {
-        Some(rest) => rest,
-        None => &[],
-    }
-}
-
-/// Returns the first `n` symbols.
-fn first(symbols: &[u8], n: usize) -> &[u8]
-    ensures { result.now ≡ take n symbols.now }
-{
-    match symbols.get(..n) {
-        Some(front) => front,
-        None => symbols,
-    }
-}
-
 /// Returns the part of the symbols from the first place up to the second, and to the end if there is no second.
 fn word_at<'a>(places: &[usize], symbols: &'a [u8]) -> &'a [u8]
     ensures { result.now ≡ word_at places.now symbols.now }
@@ -59,9 +36,9 @@ fn word_at<'a>(places: &[usize], symbols: &'a [u8]) -> &'a [u8]
     let Some((from, others)) = places.split_first() else {
         return &[];
     };
-    let rest = skip(symbols, *from);
+    let rest = skip_first(symbols, *from);
     match others.first() {
-        Some(to) => first(rest, to.saturating_sub(*from)),
+        Some(to) => take_first(rest, to.saturating_sub(*from)),
         None => rest,
     }
 }
@@ -120,13 +97,9 @@ fn are_own_words(items: &[Item], places: &[usize], symbols: &[u8]) -> bool
 fn words_by<'a>(level: &'a Level, option: usize, symbols: &'a [u8]) -> Option<Words<'a>>
     requires within { option < length level.now.options }
     requires unambiguous { IsUnambiguous (item_lists level.now.options) }
-    ensures { IfSome result (λ words. Reads (item_lists level.now.options) symbols.now (One words.option words.values)) }
+    ensures { IfSome result (λ words. FindsWords level.now.options symbols.now words) }
 {
-    let Cutting::Widths(places) = &level.cuttings()[option] else {
-        return None;
-    };
-    let items = level.options()[option].items();
-    let places = places.items();
+    let (items, places) = fixed_cut(level, option)?;
     if !are_own_words(items, places, symbols) {
         return None;
     }
@@ -138,57 +111,11 @@ fn words_by<'a>(level: &'a Level, option: usize, symbols: &'a [u8]) -> Option<Wo
     })
 }
 
-/// Returns whether the probe of an option begins in the symbols. The option derives them only if it does.
-fn is_begun(level: &Level, option: usize, symbols: &[u8]) -> bool
-    requires { option < length level.now.options }
-{
-    let probe = &level.probes()[option];
-    begins_at(symbols, probe.place, probe.literal.as_bytes())
-}
-
-/// Returns the words of the symbols by the first option of the group whose probe begins in them. The group has the options from
-/// this number on.
-fn words_by_group<'a>(
-    level: &'a Level,
-    from: usize,
-    group: &Group,
-    symbols: &'a [u8],
-) -> Option<Words<'a>>
-    requires within { group.now.end ≤ length level.now.options }
-    requires unambiguous { IsUnambiguous (item_lists level.now.options) }
-    ensures { IfSome result (λ words. Reads (item_lists level.now.options) symbols.now (One words.option words.values)) }
-{
-    for option in from..group.end {
-        if is_begun(level, option, symbols) {
-            return words_by(level, option, symbols);
-        }
-    }
-    None
-}
-
-/// Returns whether the symbols have the last bytes of a group's literal at its place. These distinguish the groups;
-/// `are_own_words` compares the whole literal.
-fn is_told(group: &Group, symbols: &[u8]) -> bool {
-    let literal = group.literal.as_bytes();
-    match symbols.get(..literal.len()) {
-        Some(front) => front.last_chunk::<8>() == literal.last_chunk::<8>(),
-        None => false,
-    }
-}
-
 /// Finds the option that cuts a text of a level that is not ambiguous at fixed places into words that are their own values. Only
-/// the first group and option that the text seems to have is tried. `None` says nothing: `read_text` decides then. Does not
-/// allocate.
+/// the option that the text seems to have is tried. `None` says nothing: `read_text` decides then. Does not allocate.
 pub fn find_words<'a>(level: &'a Level, text: &'a [u8]) -> Option<Words<'a>>
     requires { IsUnambiguous (item_lists level.now.options) }
-    ensures { IfSome result (λ words. Reads (item_lists level.now.options) text.now (One words.option words.values)) }
+    ensures { IfSome result (λ words. FindsWords level.now.options text.now words) }
 {
-    let mut from = 0;
-    for group in level.groups() {
-        if is_told(group, text) {
-            return words_by_group(level, from, group, text);
-        }
-        from = group.end;
-    }
-    None
+    words_by(level, likely_option(level, text)?, text)
 }

@@ -2,12 +2,13 @@ use Rattle.std.proofs.Common.{arith, sym}
 use Rattle.std.proofs.lemmas.Grind.{common_steps}
 use Rattle.std.proofs.lemmas.List.{drop_all}
 use Rattle.gs_chars.proofs.TruthsAndLists.{read_at}
+use Rattle.gs_grammar.specs.Words.{own_value}
 use Rattle.gs_grammar_level.proofs.OwnWords.{no_value_at, literal_at, other_at}
 use Rattle.gs_grammar_level.proofs.own_words.Words.value.Goals as goal
 
 pub returns-in_default : goal.returns-in_default
 returns-in_default c = rw (← c.self.view_is)
-    (sym (no_value_at c.self.inside.items.now c.self.inside.places.now c.self.inside.symbols.now c.args.number c.in_default.ensures.lookup.3))
+    (sym (no_value_at own_value c.self.inside.items.now c.self.inside.places.now c.self.inside.symbols.now c.args.number c.in_default.ensures.lookup.3))
 
 pub returns-in-Lit : goal.returns-in-Lit
 returns-in-Lit c =
