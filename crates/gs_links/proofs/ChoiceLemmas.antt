@@ -1,7 +1,7 @@
 -- Prefixes, depths, and the numbers of the chosen links.
 use Rattle.std.proofs.Common.{◌≡◌, ◌≤◌, ◌<◌, ℕ, zero, suc, ◌+◌, ◌&&◌, ◌==◌, Bool, true, false, if◌then◌else◌, List, [], ◌∷◌, ◌++◌, length, take, map, filter, get_or, Some, None, slice_get, refl, sym, ap, ◌∙◌, arith}
 use Rattle.std.specs.Prelude.{bytes_eq}
-use Rattle.std.specs.List.{enumerate_from}
+use Rattle.std.specs.List.{enumerate_from, list_all, zip}
 use Rattle.std.proofs.Math.Nat.{le-max_left, le-max_right, max-le}
 use Rattle.std.proofs.lemmas.Bool.{eq-eqb, eqb-true, and_from}
 use Rattle.std.proofs.lemmas.List.{length-append, length-take-le}
@@ -25,36 +25,11 @@ too_few (a ∷ first) (b ∷ pairs) h = none (is_same_pair a b) (are_first first
     none true t e = e
     none false t e = refl
 
-pub first_more : (first pairs : List Pair) (i : ℕ) (a b : Pair) → slice_get first i ≡ Some a → slice_get pairs i ≡ Some b
-    → is_same_pair a b ≡ true → are_first (take i first) pairs ≡ true → are_first (take (i + 1) first) pairs ≡ true
-first_more first pairs i a b at other same so_far = let next : i + 1 ≡ suc i = omega arith in rw next (more first pairs i a b at other same so_far)
-  where
-    more : (first pairs : List Pair) (i : ℕ) (a b : Pair) → slice_get first i ≡ Some a → slice_get pairs i ≡ Some b
-        → is_same_pair a b ≡ true → are_first (take i first) pairs ≡ true → are_first (take (suc i) first) pairs ≡ true
-    more [] pairs i a b at other same so_far = absurd (let g : None ≡ Some a = at in cc)
-    more (x ∷ first) [] i a b at other same so_far = absurd (let g : None ≡ Some b = other in cc)
-    more (x ∷ first) (y ∷ pairs) zero a b at other same so_far =
-        let one : x ≡ a = cc in
-        let two : y ≡ b = cc in
-        rw (one, two, same) refl
-    more (x ∷ first) (y ∷ pairs) (suc i) a b at other same so_far =
-        let here = and_first (is_same_pair x y) (are_first (take i first) pairs) so_far in
-        rw here (more first pairs i a b at other same (and_second (is_same_pair x y) (are_first (take i first) pairs) so_far))
-
-pub first_stops : (first pairs : List Pair) (i : ℕ) (a b : Pair) → slice_get first i ≡ Some a → slice_get pairs i ≡ Some b
-    → is_same_pair a b ≡ false → false ≡ are_first first pairs
-first_stops [] pairs i a b at other differ = absurd (let g : None ≡ Some a = at in cc)
-first_stops (x ∷ first) [] i a b at other differ = refl
-first_stops (x ∷ first) (y ∷ pairs) zero a b at other differ =
-    let one : x ≡ a = cc in
-    let two : y ≡ b = cc in
-    rw (one, two, differ) refl
-first_stops (x ∷ first) (y ∷ pairs) (suc i) a b at other differ = none (is_same_pair x y) (are_first first pairs)
-    (first_stops first pairs i a b at other differ)
-  where
-    none : (s t : Bool) → false ≡ t → false ≡ (s && t)
-    none true t e = e
-    none false t e = refl
+pub first_zipped : (first pairs : List Pair) → length first ≤ length pairs
+    → list_all (λ p. is_same_pair p.0 p.1) (zip first pairs) ≡ are_first first pairs
+first_zipped [] pairs h = refl
+first_zipped (a ∷ first) [] h = absurd (omega arith)
+first_zipped (a ∷ first) (b ∷ pairs) h = ap (λ rest. is_same_pair a b && rest) (first_zipped first pairs (omega arith))
 
 pub get_at : {X : Type 0} (xs : List X) (k : ℕ) (d : X) → k < length xs → slice_get xs k ≡ Some (get_or xs k d)
 get_at [] k d h = absurd (omega arith)

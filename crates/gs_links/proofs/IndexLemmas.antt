@@ -1,19 +1,19 @@
 -- The numbers of links by those of their anchors, and the choice by them.
 use Rattle.std.proofs.Common.{◌≡◌, ◌≤◌, ◌<◌, ◌⊎◌, ℕ, suc, ◌+◌, ◌&&◌, ◌==◌, Bool, true, false, All, if◌then◌else◌, List, [], ◌∷◌, ◌++◌, length, take, map, filter, get_or, Some, None, slice_get, refl, sym, ap, ◌∙◌, inl, inr, arith, lt→ltb}
-use Rattle.std.specs.Prelude.{nat_lt}
+use Rattle.std.specs.Prelude.{nat_lt, slice_set}
 use Rattle.std.specs.List.{enumerate_from}
 use Rattle.std.specs.Option.{option_map_or}
 use Rattle.std.proofs.lemmas.Bool.{cases_lt, eq-eqb, eqb-true, and_from}
-use Rattle.std.proofs.lemmas.List.{append-nil}
+use Rattle.std.proofs.lemmas.List.{append-nil, length-set, take_more_set}
 use Rattle.std.proofs.lemmas.List.Elements.{filter-append}
-use Rattle.gs_chars.proofs.TruthsAndLists.{and_first, and_second, take_next}
+use Rattle.gs_chars.proofs.TruthsAndLists.{and_first, and_second, read_at, take_next}
 use Rattle.gs_ident.specs.Elements.{Elements, first_qualifiers}
 use Rattle.gs_links.specs.Choices.{IsAmong, chosen_depth, depth_of, is_candidate, is_chosen, numbers_from, passing}
 use Rattle.gs_links.specs.Index.{IsIndexOf, anchor_number, has_number, listed, with_last}
 use Rattle.gs_links.specs.declared.index.Index.{Index}
 use Rattle.gs_links.specs.declared.link.Link.{Link}
 use Rattle.gs_links.specs.declared.link.Want.{Want}
-use Rattle.gs_links.proofs.ChoiceLemmas.{among, chosen_anchor, depth_below, depth_whole, depth_within, found, get_at, numbers_end, same_filter}
+use Rattle.gs_links.proofs.ChoiceLemmas.{among, chosen_anchor, depth_below, depth_whole, depth_within, found, get_at, numbers_end, one_more, same_filter}
 use Rattle.std.proofs.lemmas.Option.{slice_get_within}
 
 -- ---- of numbers those of links that pass
@@ -25,6 +25,40 @@ module _ (links : List Link) (t : Link → Bool) (numbers : List ℕ) (k i : ℕ
 
   pub passing_less : t link ≡ false → passing links t (take (k + 1) numbers) ≡ passing links t (take k numbers)
   passing_less other = rw (take_next numbers k i at, filter-append (λ j. option_map_or t (slice_get links j) false) (take k numbers) (i ∷ []), there, other) (append-nil (passing links t (take k numbers)))
+
+-- of the numbers before a place those of links that pass are the first `count` of `out`, which has n places
+abbrev pub IsPut : List Link → (Link → Bool) → List ℕ → ℕ → ℕ → ℕ → List ℕ → Type 0
+IsPut links t numbers n k count out =
+    (count ≤ k)
+    × (count ≡ length (passing links t (take k numbers)))
+    × (take count out ≡ passing links t (take k numbers))
+    × (length out ≡ n)
+
+module _ (links : List Link) (t : Link → Bool) (numbers : List ℕ) (n k count : ℕ) (out : List ℕ) (so_far : IsPut links t numbers n k count out)
+    (h : k < length numbers) (known : All (λ i. i < length links) numbers) (link : Link) (is : link ≡ get_or links (get_or numbers k 0) link) where
+  abbrev i : ℕ
+  i = get_or numbers k 0
+
+  there : slice_get links i ≡ Some link
+  there = read_at links i link (known k 0 h) is
+
+  pub put_less : t link ≡ false → IsPut links t numbers n (k + 1) count out
+  put_less other =
+      let same = passing_less links t numbers k i link (get_at numbers k 0 h) there other in
+      let few = so_far.0 in
+      (omega (arith, few), so_far.1 ∙ ap length (sym same), so_far.2 ∙ sym same, so_far.3)
+
+  pub put_more : length numbers ≤ n → t link ≡ true → IsPut links t numbers n (k + 1) (count + 1) (slice_set out count i)
+  put_more room own =
+      let more = passing_more links t numbers k i link (get_at numbers k 0 h) there own in
+      let few = so_far.0 in
+      let size = so_far.3 in
+      let within : count < length out = omega (arith, few, size, h, room) in (
+        omega (arith, few),
+        one_more _ _ count i so_far.1 more,
+        take_more_set out count i within ∙ ap (λ ks. ks ++ i ∷ []) so_far.2 ∙ sym more,
+        length-set out count i ∙ size,
+      )
 
 module _ (all : List Link) (t u : Link → Bool) where
   both : Link → Bool

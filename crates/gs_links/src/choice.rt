@@ -68,16 +68,7 @@ pub(crate) fn choose_from(
 fn are_first(first: &[OwnedPair], pairs: &[Pair<'_>]) -> bool
     ensures { result ≡ are_first first.now pairs.now }
 {
-    if pairs.len() < first.len() {
-        return false;
-    }
-    for i in 0..first.len() {
-        if first[i].is_same(&pairs[i]) {
-            continue;
-        }
-        return false;
-    }
-    true
+    first.len() <= pairs.len() && first.iter().zip(pairs).all(|(own, pair)| own.is_same(pair))
 }
 
 /// Returns whether an anchor is a prefix of an identity.
@@ -128,11 +119,11 @@ fn put_chosen(
     ensures numbers { take result out.new ≡ chosen_among links.now identity.now want.entry depth numbers.now }
 {
     let mut count = 0;
-    for k in 0..numbers.len() {
-        if !is_chosen(identity, want, depth, &links[numbers[k] as usize]) {
+    for number in numbers {
+        if !is_chosen(identity, want, depth, &links[*number as usize]) {
             continue;
         }
-        out[count] = numbers[k];
+        out[count] = *number;
         count += 1;
     }
     count

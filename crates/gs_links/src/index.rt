@@ -100,8 +100,8 @@ pub(crate) fn index_of(alloc: Global, links: &[Link]) -> Result<Index, Memory>
     ensures { IfOk result (λ index. IsIndexOf index links.now) }
 {
     let mut index = Index::new(alloc);
-    for i in 0..links.len() {
-        index.push(alloc, number_of(&links[i].anchor), i as u32)?;
+    for (i, link) in links.iter().enumerate() {
+        index.push(alloc, number_of(&link.anchor), i as u32)?;
     }
     Ok(index)
 }

@@ -16,11 +16,11 @@ fn put_matching(links: &[Link], numbers: &[u32], range: &[u8], out: &mut [u32]) 
     ensures numbers { take result out.new ≡ passing links.now (matches range.now) numbers.now }
 {
     let mut count = 0;
-    for k in 0..numbers.len() {
-        if !matches(range, &links[numbers[k] as usize]) {
+    for number in numbers {
+        if !matches(range, &links[*number as usize]) {
             continue;
         }
-        out[count] = numbers[k];
+        out[count] = *number;
         count += 1;
     }
     count
@@ -50,8 +50,8 @@ fn first_matched(links: &[Link], numbers: &[u32], ranges: &[Text], by_text: &Num
     ensures matched { SomeAt links.now numbers.now ranges.now result }
 {
     let mut first = ranges.len();
-    for i in 0..numbers.len() {
-        let link = &links[numbers[i] as usize];
+    for number in numbers {
+        let link = &links[*number as usize];
         let from = by_text.least_of_tags(tags_of(link));
         first = first_of_link(ranges, link, from, first);
     }

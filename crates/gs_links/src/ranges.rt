@@ -23,8 +23,8 @@ impl Numbers {
         let mut numbers = Numbers {
             first: BTreeMap::new(alloc),
         };
-        for k in 0..ranges.len() {
-            numbers.put(ranges[k].as_bytes().to_ascii_lowercase(alloc)?, k)?;
+        for (k, range) in ranges.iter().enumerate() {
+            numbers.put(range.as_bytes().to_ascii_lowercase(alloc)?, k)?;
         }
         Ok(numbers)
     }
@@ -54,8 +54,8 @@ impl Numbers {
         ensures { IsLeastOfLowered self.now tag.now result }
     {
         let mut least = self.at(tag);
-        for i in 0..tag.len() {
-            if tag[i] == b'-' {
+        for (i, byte) in tag.iter().enumerate() {
+            if *byte == b'-' {
                 least = least.min(self.at(&tag[..i]));
             }
         }
@@ -83,8 +83,8 @@ impl Numbers {
             → IsLeast self.now tag result }
     {
         let mut least = self.at(b"*");
-        for t in 0..tags.len() {
-            least = least.min(self.least_of_tag(tags[t].as_bytes()));
+        for tag in tags {
+            least = least.min(self.least_of_tag(tag.as_bytes()));
         }
         least
     }

@@ -84,8 +84,7 @@ pub(crate) fn groups_of<'a>(
         map (entry_seen (λ g. g.items)) groups.entries ≡ groups_of by links.now) }
 {
     let mut groups = BTreeMap::new(alloc);
-    for i in 0..links.len() {
-        let link = &links[i];
+    for link in links {
         let text = key_of(alloc, by, link.link())?;
         put_link(alloc, &mut groups, text, link.again())?;
     }

@@ -132,8 +132,8 @@ fn distinct_targets(alloc: Global, links: &[StoredLink<'_>]) -> Result<List<Targ
 {
     let mut texts = BTreeMap::new(alloc);
     let mut targets = Vec::new(alloc);
-    for i in 0..links.len() {
-        add_target(alloc, &mut texts, &mut targets, &links[i].link().target)?;
+    for link in links {
+        add_target(alloc, &mut texts, &mut targets, &link.link().target)?;
     }
     Ok(List::from_vec(targets))
 }

@@ -1,11 +1,7 @@
-use Rattle.std.proofs.Common.{◌≡◌, ◌≤◌, length, take}
-use Rattle.gs_links.specs.Choices.{passing}
+use Rattle.std.proofs.Common.{length}
 use Rattle.gs_links.specs.Languages.{matches}
+use Rattle.gs_links.proofs.IndexLemmas.{IsPut}
 use Rattle.gs_links.proofs.narrower.put_matching.Given as goal
 
-abbrev pub invariant-loop-k : goal.invariant-loop-k
-invariant-loop-k l =
-    (l.count ≤ l.k)
-    × (l.count ≡ length (passing l.links (matches l.range) (take l.k l.numbers)))
-    × (take l.count l.out ≡ passing l.links (matches l.range) (take l.k l.numbers))
-    × (length l.out ≡ length l.initial.out)
+abbrev pub invariant-loop-number : goal.invariant-loop-number
+invariant-loop-number l = IsPut l.links (matches l.range) l.numbers (length l.initial.out) l.number-index l.count l.out

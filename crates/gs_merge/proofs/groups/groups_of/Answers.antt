@@ -6,19 +6,19 @@ use Rattle.gs_merge.specs.Groups.{found_at, key_of}
 use Rattle.gs_merge.proofs.GroupLemmas.{groups_are, groups_more}
 use Rattle.gs_merge.proofs.groups.groups_of.Goals as goal
 
-pub loop-i-preserved : goal.loop-i-preserved
-loop-i-preserved c =
-    let at = read_at c.args.links.now c.loop-i.i c.index-links-i.result c.loop-i-test.true c.index-links-i.is in
+pub loop-link-preserved : goal.loop-link-preserved
+loop-link-preserved c =
+    let at = read_at c.args.links.now c.loop-link.link-index c.link-item.result c.loop-link-test.true c.link-item.is in
     let own = c.in_ok-text.ensures ∙ ap (key_of c.args.by) c.link.ensures.same in
     let put = rw c.again.ensures at c.in_ok-put_link.ensures.group in (
       c.in_ok-put_link.ensures.ordered,
-      groups_more c.args.by c.args.links.now c.loop-i.i c.index-links-i.result c.in_ok-text.text
-          (λ q. option_map (λ g. g.items) (found_at c.loop-i.groups.entries q))
+      groups_more c.args.by c.args.links.now c.loop-link.link-index c.link-item.result c.in_ok-text.text
+          (λ q. option_map (λ g. g.items) (found_at c.loop-link.groups.entries q))
           (λ q. option_map (λ g. g.items) (found_at c.put_link.new.groups.entries q)) at own
-          c.loop-i.invariant.1 put,
+          c.loop-link.invariant.1 put,
     )
 
 pub returns : goal.returns
 returns c =
-    let all = take_all c.loop-i.i c.args.links.now c.loop-i-test.false in
-    groups_are (λ g. g.items) c.args.by c.args.links.now c.loop-i.groups.entries c.loop-i.invariant.0 (rw all at c.loop-i.invariant.1)
+    let all = take_all c.loop-link.link-index c.args.links.now c.loop-link-test.false in
+    groups_are (λ g. g.items) c.args.by c.args.links.now c.loop-link.groups.entries c.loop-link.invariant.0 (rw all at c.loop-link.invariant.1)

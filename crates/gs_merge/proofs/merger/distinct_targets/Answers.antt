@@ -7,23 +7,23 @@ use Rattle.gs_merge.proofs.GroupLemmas.{no_texts, targets_more, targets_shape}
 use Rattle.gs_merge.proofs.ShapeLemmas.{link_target}
 use Rattle.gs_merge.proofs.merger.distinct_targets.Goals as goal
 
-pub loop-i-init : goal.loop-i-init
+pub loop-link-init : goal.loop-link-init
 unfolding distinct
-loop-i-init c = rw (c.new-targets.ensures.items, c.new-texts.ensures.empty) (refl, refl, no_texts)
+loop-link-init c = rw (c.new-targets.ensures.items, c.new-texts.ensures.empty) (refl, refl, no_texts)
 
 pub add_target-requires-clause-shape : goal.add_target-requires-clause-shape
 add_target-requires-clause-shape c = link_target c.link.result.now (rw c.link.ensures.same c.link.ensures.shape)
 
-pub loop-i-preserved : goal.loop-i-preserved
-loop-i-preserved c =
-    let at = read_at c.args.links.now c.loop-i.i c.index-links-i.result c.loop-i-test.true c.index-links-i.is in
+pub loop-link-preserved : goal.loop-link-preserved
+loop-link-preserved c =
+    let at = read_at c.args.links.now c.loop-link.link-index c.link-item.result c.loop-link-test.true c.link-item.is in
     let own = ap (λ l. l.target) c.link.ensures.same in
     let added = rw own at c.in_ok-add_target.ensures.targets in
-    let shape = link_target c.index-links-i.result c.link.ensures.shape in (
-      targets_more c.args.links.now c.loop-i.i c.index-links-i.result c.loop-i.targets.items c.add_target.new.targets.items at c.loop-i.invariant.0 added,
-      targets_shape c.loop-i.targets.items c.add_target.new.targets.items c.index-links-i.result.target c.loop-i.invariant.1 shape added,
+    let shape = link_target c.link-item.result c.link.ensures.shape in (
+      targets_more c.args.links.now c.loop-link.link-index c.link-item.result c.loop-link.targets.items c.add_target.new.targets.items at c.loop-link.invariant.0 added,
+      targets_shape c.loop-link.targets.items c.add_target.new.targets.items c.link-item.result.target c.loop-link.invariant.1 shape added,
       c.in_ok-add_target.ensures.texts,
     )
 
 pub returns : goal.returns
-returns c = c.from_vec.ensures ∙ c.loop-i.invariant.0 ∙ ap (λ ls. distinct (targets_of ls)) (take_all c.loop-i.i c.args.links.now c.loop-i-test.false)
+returns c = c.from_vec.ensures ∙ c.loop-link.invariant.0 ∙ ap (λ ls. distinct (targets_of ls)) (take_all c.loop-link.link-index c.args.links.now c.loop-link-test.false)
