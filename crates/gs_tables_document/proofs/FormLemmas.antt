@@ -2,17 +2,17 @@
 use Rattle.std.proofs.Common.{◌≡◌, List, inl, inr, ℕ}
 use Rattle.std.specs.Prelude.{Err}
 use Rattle.serde_json.specs.Data.{Data}
-use Rattle.gs_json.specs.Shapes.{first_error}
+use Rattle.gs_json.specs.Answers.{of_json}
+use Rattle.gs_json.specs.Shapes.{IsFirst, first_error}
 use Rattle.gs_json.specs.declared.error.JsonFault.{JsonFault}
 use Rattle.gs_json.specs.declared.error.JsonFault.TheVariants as json
 use Rattle.gs_tables_document.specs.Documents.{document_errors}
 use Rattle.gs_tables_document.specs.Readings.{IsJson, IsFormRejection}
-use Rattle.gs_tables_document.specs.ReadingsSupport.{of_json}
+use Rattle.gs_tables_document.specs.declared.error.LoadFault.TheVariants.{Json, Memory}
 use Rattle.gs_tables_document.proofs.ErrorLists.{error_at}
-use Rattle.gs_chars.specs.Answers.{OrError}
 
 by_error : (bytes : List ℕ) (d : Data) (error : JsonFault) → IsJson bytes d → Err error ≡ first_error (document_errors d)
-    → IsFormRejection bytes (of_json error)
+    → IsFormRejection bytes (of_json Memory Json error)
 by_error bytes d json.Memory is h = tt
 by_error bytes d json.Syntax is h = inr (d, is, error_at (document_errors d) json.Syntax h)
 by_error bytes d (json.Lacks p) is h = inr (d, is, error_at (document_errors d) (json.Lacks p) h)
@@ -21,6 +21,6 @@ by_error bytes d (json.Unknown p) is h = inr (d, is, error_at (document_errors d
 
 -- the answer to a document by the first error of its form
 pub form_rejected : (bytes : List ℕ) (d : Data) (error : JsonFault) → IsJson bytes d
-    → OrError json.Memory (Err error) (first_error (document_errors d)) → IsFormRejection bytes (of_json error)
+    → IsFirst (Err error) (document_errors d) → IsFormRejection bytes (of_json Memory Json error)
 form_rejected bytes d error is (inl h) = let same : error ≡ json.Memory = cc in rw same tt
 form_rejected bytes d error is (inr h) = by_error bytes d error is h
