@@ -65,8 +65,8 @@ pub(crate) fn judge_form(alloc: Global, root: &Node<'_>) -> Result<(), JsonFault
 {
     let plan = document_plan(alloc)?;
     root.shaped(alloc, plan.items())?;
-    let plan = row_plan(alloc)?;
-    root.items_shaped(alloc, "classes", plan.items())
+    let row = row_plan(alloc)?;
+    root.items_shaped(alloc, "classes", row.items())
 }
 
 /// Returns the item that an array is, if it is an item of a text.

@@ -53,8 +53,8 @@ pub(crate) fn judge_form(alloc: Global, root: &Node<'_>) -> Result<(), JsonFault
     let plan = list_plan(alloc)?;
     root.shaped(alloc, plan.items())?;
     judge_version(alloc, root)?;
-    let plan = entry_plan(alloc)?;
-    root.items_shaped(alloc, "prefixes", plan.items())
+    let entry = entry_plan(alloc)?;
+    root.items_shaped(alloc, "prefixes", entry.items())
 }
 
 /// Returns the entry that an object is.

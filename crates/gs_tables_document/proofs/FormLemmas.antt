@@ -1,7 +1,8 @@
 -- Rejections of the form of a document.
-use Rattle.std.proofs.Common.{◌≡◌, List, inl, inr, ℕ}
-use Rattle.std.specs.Prelude.{Err}
+use Rattle.std.proofs.Common.{◌≡◌, ◌⊎◌, List, None, inl, inr, refl, ℕ}
+use Rattle.std.specs.Prelude.{Err, IsUtf8}
 use Rattle.serde_json.specs.Data.{Data}
+use Rattle.serde_json.specs.Read.{read as read_text}
 use Rattle.gs_json.specs.Answers.{of_json}
 use Rattle.gs_json.specs.Shapes.{IsFirst, first_error}
 use Rattle.gs_json.specs.declared.error.JsonFault.{JsonFault}
@@ -24,3 +25,9 @@ pub form_rejected : (bytes : List ℕ) (d : Data) (error : JsonFault) → IsJson
     → IsFirst (Err error) (document_errors d) → IsFormRejection bytes (of_json Memory Json error)
 form_rejected bytes d error is (inl h) = let same : error ≡ json.Memory = cc in rw same tt
 form_rejected bytes d error is (inr h) = by_error bytes d error is h
+
+-- the answer to bytes that are not JSON text
+pub not_json : (bytes : List ℕ) (error : JsonFault) → (error ≡ json.Syntax → IsUtf8 bytes → read_text bytes ≡ None)
+    → (error ≡ json.Syntax) ⊎ (error ≡ json.Memory) → IsFormRejection bytes (of_json Memory Json error)
+not_json bytes error none (inl s) = rw s (inl (refl, none s))
+not_json bytes error none (inr m) = rw m tt

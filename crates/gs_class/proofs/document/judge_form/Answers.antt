@@ -14,4 +14,5 @@ pub returns : goal.returns
 unfolding form_errors
 returns c =
     first_behind Memory _ _ (tt {0}) c.in_ok-shaped.field-0 (tt {0}) _
-    (rw (c.items.ensures, c.in_ok-plan.ensures, c.requires) at c.in_ok-shaped.ensures) c.items_shaped.ensures
+    (rw (c.items.ensures, c.in_ok-plan.ensures, c.requires) at c.in_ok-shaped.ensures)
+    (rw (c.items-2.ensures, c.in_ok-row.ensures, c.requires) at c.items_shaped.ensures)

@@ -23,4 +23,5 @@ unfolding form_errors
 returns c =
     first_behind Memory _ _ (tt {0}) c.in_ok-shaped.field-0 (tt {0}) _
     (rw (c.items.ensures, c.in_ok-plan.ensures, c.requires) at c.in_ok-shaped.ensures)
-    (first_behind Memory _ _ (tt {0}) c.in_ok-judge_version.field-0 (tt {0}) _ c.in_ok-judge_version.ensures c.items_shaped.ensures)
+    (first_behind Memory _ _ (tt {0}) c.in_ok-judge_version.field-0 (tt {0}) _ c.in_ok-judge_version.ensures
+    (rw (c.items-2.ensures, c.in_ok-entry.ensures, c.requires) at c.items_shaped.ensures))

@@ -5,10 +5,10 @@ use Rattle.serde_json.specs.View.{view}
 use Rattle.gs_class.proofs.Loading.{document_is, not_json}
 use Rattle.gs_class.proofs.class_set.ClassSet.load.Goals as goal
 
-pub returns-in_err-parse-clause-answer : goal.returns-in_err-parse-clause-answer
-returns-in_err-parse-clause-answer c =
+pub returns-in_err-doc-clause-answer : goal.returns-in_err-doc-clause-answer
+returns-in_err-doc-clause-answer c =
     let p = err_from_is_err_and c.from_residual.result c.from_residual.ensures.1 in
-    rw (p.1, p.2) (not_json c.args.table.now c.args.bytes.now c.in_err-parse.field-0.0 (λ e. c.in_err-parse.ensures.syntax (ap Err e)) c.in_err-parse.ensures.only)
+    rw (p.1, p.2) (not_json c.args.table.now c.args.bytes.now c.in_err-doc.field-0.0 (λ e. c.in_err-doc.ensures.syntax (ap Err e)) c.in_err-doc.ensures.only)
 
 pub returns-clause-answer : goal.returns-clause-answer
 returns-clause-answer c = document_is c.args.table.now c.args.bytes.now (view c.root.result.tree) c.of_root.result
