@@ -1,4 +1,3 @@
-pub mod FormLemmas
 pub mod ReadLemmas
 pub mod RowRejections
 pub mod KeptClasses

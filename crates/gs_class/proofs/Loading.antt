@@ -1,15 +1,15 @@
 -- The answers of loading, step by step.
 use Rattle.std.proofs.Common.{◌≡◌, ◌⊎◌, ℕ, ◌==◌, not, List, [], ◌∷◌, ◌++◌, map, Some, None, refl, ap, subst, inl, inr}
 use Rattle.std.specs.Prelude.{Result, Ok, Err, codes}
-use Rattle.std.specs.Str.{IsUtf8, is_utf8}
-use Rattle.std.proofs.lemmas.Str.{IsUtf8-from_is_utf8}
+use Rattle.std.specs.Str.{IsUtf8}
 use Rattle.serde_json.specs.Data.{Data}
 use Rattle.serde_json.specs.Read.{read as read_text}
 use Rattle.gs_chars.specs.Answers.{error_if, first_or}
-use Rattle.gs_chars.proofs.TruthsAndLists.{true_or_false}
 use Rattle.gs_ai.specs.declared.row.AiRow.{AiRow}
 use Rattle.gs_grammar.specs.Levels.{LevelForm}
+use Rattle.gs_json.specs.Answers.{of_json}
 use Rattle.gs_json.specs.Members.{document_of, number_in}
+use Rattle.gs_json.specs.Shapes.{IsFirst as IsFirstFault}
 use Rattle.gs_json.specs.declared.error.JsonFault.{JsonFault}
 use Rattle.gs_json.specs.declared.error.JsonFault.TheVariants as json
 use Rattle.gs_class.specs.declared.class_set.Class.{Class}
@@ -17,30 +17,23 @@ use Rattle.gs_class.specs.declared.error.ClassLoadFault.{ClassLoadFault}
 use Rattle.gs_class.specs.declared.error.ClassLoadFault.TheVariants.{Json, Version, Limit, BadItem, Size, Mismatch, Duplicate, Ambiguous, Memory}
 use Rattle.gs_class.specs.declared.document.ClassRow.{ClassRow}
 use Rattle.gs_class.specs.Answers.{IsJudged, Judged, LoadAnswer, OrMemory, ruled_bytes, ruled_document, ruled_rows}
-use Rattle.gs_class.specs.AnswersSupport.{IsFirst, IsFormFirst, IsLevelJudged, of_json}
+use Rattle.gs_class.specs.AnswersSupport.{IsFirst, IsLevelJudged}
 use Rattle.gs_class.specs.Documents.{form_errors, rows_of}
 use Rattle.gs_class.specs.Rules.{class_rejections}
 use Rattle.gs_class.specs.Sets.{ClassRows, IsClear, IsOfTable, set_of}
-use Rattle.gs_prefix.proofs.FirstRejections.{no_rejections, nothing_in_front, rejected_in_front}
-use Rattle.gs_class.proofs.FormLemmas.{is_document}
+use Rattle.gs_json.proofs.FirstErrors.{judged, no_rejections, nothing_in_front, rejected_in_front}
+use Rattle.gs_json.proofs.LookUpLemmas.{is_document, no_document}
 
 -- ---- the bytes
 
-no_document : (ais : List AiRow) (bytes : List ℕ) → document_of bytes ≡ None → ruled_bytes ais bytes ≡ Err (Json json.Syntax)
+none_ruled : (ais : List AiRow) (bytes : List ℕ) → document_of bytes ≡ None → ruled_bytes ais bytes ≡ Err (Json json.Syntax)
 unfolding ruled_bytes
-no_document ais bytes e = rw e refl
-
-none_read : (bytes : List ℕ) → (IsUtf8 bytes → read_text bytes ≡ None) → document_of bytes ≡ None
-unfolding document_of
-none_read bytes none = elim (true_or_false (is_utf8 bytes)) [
-  | inl t ↦ let e = none (IsUtf8-from_is_utf8 bytes t) in rw (t, e) refl
-  | inr t ↦ rw t refl
-]
+none_ruled ais bytes e = rw e refl
 
 pub not_json : (ais : List AiRow) (bytes : List ℕ) (error : JsonFault) → (error ≡ json.Syntax → IsUtf8 bytes → read_text bytes ≡ None)
-    → (error ≡ json.Syntax) ⊎ (error ≡ json.Memory) → OrMemory (LoadAnswer ais bytes) (Err (of_json error))
+    → (error ≡ json.Syntax) ⊎ (error ≡ json.Memory) → OrMemory (LoadAnswer ais bytes) (Err (of_json Memory Json error))
 not_json ais bytes error none (inr m) = rw m (inl refl)
-not_json ais bytes error none (inl s) = rw (s, no_document ais bytes (none_read bytes (none s))) (inr refl)
+not_json ais bytes error none (inl s) = rw (s, none_ruled ais bytes (no_document bytes (none s))) (inr refl)
 
 document_ruled : (ais : List AiRow) (bytes : List ℕ) (d : Data) → document_of bytes ≡ Some d → ruled_bytes ais bytes ≡ ruled_document ais d
 unfolding ruled_bytes
@@ -60,27 +53,30 @@ module _ (ais : List AiRow) (d : Data) where
   unfolding ruled_document
   form_rules e h = rejected_in_front (map Json (form_errors d)) (version ++ class_rejections ais (rows_of d)) (tt {0}) (set_of (rows_of d)) e h
 
-  pub form_rejected : (e : ClassLoadFault) → IsFormFirst (form_errors d) (Err e) → OrMemory (Judged (ruled_document ais d)) (Err e)
-  form_rejected e (inl m) = inl (let same : e ≡ Memory = cc in ap (λ (x : ClassLoadFault). Err x) same)
-  form_rejected e (inr h) = rw (← form_rules e h) (inr refl)
+  pub form_rejected : (error : JsonFault) → IsFirstFault (Err error) (form_errors d)
+      → OrMemory (Judged (ruled_document ais d)) (Err (of_json Memory Json error))
+  form_rejected error h = elim (judged Memory Json (form_errors d) error h) [
+    | inl m ↦ inl m
+    | inr first ↦ rw (← form_rules (of_json Memory Json error) first) (inr refl)
+  ]
 
-  version_rules : (e : ClassLoadFault) → map Json (form_errors d) ≡ [] → Err e ≡ first_or {X = Unit {0}} version (tt {0}) → Err e ≡ ruled_document ais d
+  version_rules : (e : ClassLoadFault) → form_errors d ≡ [] → Err e ≡ first_or {X = Unit {0}} version (tt {0}) → Err e ≡ ruled_document ais d
   unfolding ruled_document
   version_rules e none h = rw none (rejected_in_front version (class_rejections ais (rows_of d)) (tt {0}) (set_of (rows_of d)) e h)
 
-  pub version_rejected : (e : ClassLoadFault) (u : Unit {0}) → IsFormFirst (form_errors d) (Ok u) → IsFirst version (Err e)
+  pub version_rejected : (e : ClassLoadFault) (u : Unit {0}) → IsFirstFault (Ok u) (form_errors d) → IsFirst version (Err e)
       → OrMemory (Judged (ruled_document ais d)) (Err e)
-  version_rejected e u form h = rw (← version_rules e (nothing_in_front Memory (map Json (form_errors d)) (tt {0}) u form) h) (inr refl)
+  version_rejected e u form h = rw (← version_rules e (nothing_in_front json.Memory (form_errors d) (tt {0}) u form) h) (inr refl)
 
-  rows_rule : map Json (form_errors d) ≡ [] → version ≡ [] → ruled_document ais d ≡ ruled_rows ais (rows_of d)
+  rows_rule : form_errors d ≡ [] → version ≡ [] → ruled_document ais d ≡ ruled_rows ais (rows_of d)
   unfolding ruled_document
   rows_rule none same = rw (none, same) refl
 
-  pub rows_answer : (rows : List ClassRow) (u v : Unit {0}) (answer : Result ClassRows ClassLoadFault) → IsFormFirst (form_errors d) (Ok u)
+  pub rows_answer : (rows : List ClassRow) (u v : Unit {0}) (answer : Result ClassRows ClassLoadFault) → IsFirstFault (Ok u) (form_errors d)
       → IsFirst version (Ok v) → rows ≡ rows_of d → OrMemory (Judged (ruled_rows ais rows)) answer
       → OrMemory (Judged (ruled_document ais d)) answer
   rows_answer rows u v answer form same read h =
-      let none = nothing_in_front Memory (map Json (form_errors d)) (tt {0}) u form in
+      let none = nothing_in_front json.Memory (form_errors d) (tt {0}) u form in
       let none' = no_rejections version (tt {0}) v same in
       rw (rows_rule none none') (rw read at h)
 

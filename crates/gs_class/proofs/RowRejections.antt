@@ -4,14 +4,13 @@ use Rattle.std.specs.Prelude.{Result, Ok, Err, option_to_list}
 use Rattle.std.specs.List.{flat_map, enumerate_from}
 use Rattle.gs_chars.specs.Answers.{error_if}
 use Rattle.gs_chars.proofs.TruthsAndLists.{read_at}
-use Rattle.gs_prefix.proofs.FirstRejections.{all_rows, one_more, split_at}
 use Rattle.gs_class.specs.declared.error.ClassLoadFault.{ClassLoadFault}
 use Rattle.gs_class.specs.AnswersSupport.{IsFirst}
 use Rattle.gs_ai.specs.declared.row.AiRow.{AiRow}
 use Rattle.gs_class.specs.declared.error.ClassLoadFault.TheVariants.{Limit}
 use Rattle.gs_class.specs.declared.document.ClassRow.{ClassRow}
 use Rattle.gs_class.specs.Rules.{are_many, class_rejections, row_rejections}
-use Rattle.gs_prefix.proofs.FirstRejections.{no_rejections, rejected_in_front}
+use Rattle.gs_json.proofs.FirstErrors.{all_rows, no_rejections, one_more, rejected_in_front, split_at}
 
 -- the rejections of a row by the tests that they come of
 abbrev pub listed : Option ℕ → Option ℕ → (ℕ → ClassLoadFault) → (ℕ → ClassLoadFault) → Bool → Bool → ClassLoadFault → ClassLoadFault → List ClassLoadFault

@@ -2,13 +2,11 @@
 use Rattle.std.specs.Prelude.{false, List, [], ◌∷◌, ◌++◌, map, codes}
 use Rattle.serde_json.specs.Data.{Data}
 use Rattle.serde_json.specs.Find.{as_object}
-use Rattle.gs_json.specs.Members.{items_in, must, number_in, text_in}
-use Rattle.gs_json.specs.Places.{member_place}
+use Rattle.gs_json.specs.Members.{array_errors, items_in, must, number_in, text_in}
 use Rattle.gs_json.specs.Shapes.{members_errors}
 use Rattle.gs_json.specs.declared.error.JsonFault.{JsonFault}
 use Rattle.gs_json.specs.declared.plan.Entry.{Entry}
 use Rattle.gs_json.specs.declared.plan.Sort.TheVariants.{Text, Number, Array, Arrays}
-use Rattle.gs_prefix.specs.Documents.{array_errors}
 use Rattle.gs_tables_document.specs.Items.{item_of}
 use Rattle.gs_class.specs.declared.document.ClassRow.{ClassRow}
 
@@ -20,13 +18,9 @@ document_plan = must (codes "version") Number ∷ must (codes "classes") Array �
 abbrev pub row_plan : List Entry
 row_plan = must (codes "name") Text ∷ must (codes "key") Text ∷ must (codes "lead") Number ∷ must (codes "element") Text ∷ must (codes "gcp") Number ∷ must (codes "items") Arrays ∷ []
 
--- trusted, own: the errors of the rows of a document
-unfoldable pub rows_errors : Data → List JsonFault
-rows_errors d = array_errors row_plan (member_place [] (codes "classes")) (items_in (codes "classes") d)
-
 -- trusted, own: the errors of the form of a document: those of its object, then of its rows
 unfoldable pub form_errors : Data → List JsonFault
-form_errors d = members_errors [] document_plan (as_object d) ++ rows_errors d
+form_errors d = members_errors [] document_plan (as_object d) ++ array_errors [] (codes "classes") row_plan d
 
 -- trusted, own: the row that an object is
 abbrev pub row_of : Data → ClassRow

@@ -9,7 +9,7 @@ ghost use Rattle.gs_class.specs.AnswersSupport.{IsLevelJudged};
 ghost use Rattle.gs_class.specs.Rules.{class_rejections};
 
 use crate::builtin::built_in_rows;
-use crate::document::{ClassRow, judge_form, of_json, read_rows};
+use crate::document::{ClassRow, judge_form, read_rows};
 use crate::error::ClassLoadFault;
 use crate::rules::{check_rows, check_version};
 use gs_ai::AiTable;
@@ -63,10 +63,8 @@ impl ClassSet {
         ensures answer { OrMemory (LoadAnswer table.now bytes.now) result }
         ensures of_table { IfOk result (IsOfTable table.now) }
     {
-        match Doc::parse(alloc, bytes) {
-            Ok(doc) => ClassSet::of_root(alloc, table, &doc.root(alloc)),
-            Err(error) => Err(of_json(error)),
-        }
+        let doc = Doc::parse(alloc, bytes)?;
+        ClassSet::of_root(alloc, table, &doc.root(alloc))
     }
 
     /// Returns the set of the built-in rows: the lot of a trade item, `urn:epc:class:lgtin`, for each company prefix length from

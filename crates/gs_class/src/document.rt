@@ -1,16 +1,12 @@
 ghost use Rattle.std.specs.Prelude.{◌≡◌, [], IfOk, false, codes, map};
 ghost use Rattle.serde_json.specs.View.{view};
 ghost use Rattle.gs_json.specs.Members.{items_of, items_in};
-ghost use Rattle.gs_json.specs.Shapes.{shape_errors};
-ghost use Rattle.gs_class.specs.AnswersSupport.{IsFormFirst, of_json};
-ghost use Rattle.gs_prefix.specs.Documents.{array_errors};
-ghost use Rattle.gs_class.specs.Documents.{document_plan, form_errors, row_plan, rows_errors, row_of, rows_of};
+ghost use Rattle.gs_json.specs.Shapes.{IsFirst};
+ghost use Rattle.gs_class.specs.Documents.{document_plan, form_errors, row_plan, row_of, rows_of};
 ghost use Rattle.gs_tables_document.specs.Items.{item_of};
 
-use crate::error::ClassLoadFault;
 use gs_chars::{List, Memory, Text};
 use gs_json::{Entry, JsonFault, Node, Sort, number_in, plan_of};
-use gs_prefix::judge_rows;
 use gs_tables::{ItemFault, read_item};
 use gs_tables_document::{FieldItem, copy_in};
 use std::alloc::Global;
@@ -62,57 +58,15 @@ fn row_plan(alloc: Global) -> Result<List<Entry>, Memory>
     )
 }
 
-/// Returns an error of JSON, with out of memory as its own.
-pub(crate) fn of_json(error: JsonFault) -> ClassLoadFault
-    ensures { result ≡ of_json error }
-{
-    match error {
-        JsonFault::Memory => ClassLoadFault::Memory,
-        other => ClassLoadFault::Json(other),
-    }
-}
-
-/// Finds the first error of an object by its plan.
-fn judge_object(alloc: Global, object: &Node<'_>, plan: &[Entry]) -> Result<(), ClassLoadFault>
-    ensures { IsFormFirst (shape_errors object.now plan.now) result }
-{
-    match object.shaped(alloc, plan) {
-        Ok(()) => Ok(()),
-        Err(error) => Err(of_json(error)),
-    }
-}
-
-/// Finds the first error of the rows of an array, row by row.
-fn judge_items(alloc: Global, array: &Node<'_>) -> Result<(), ClassLoadFault>
-    ensures { IsFormFirst (array_errors row_plan array.now.place (items_of (view array.now.tree))) result }
-{
-    let plan = row_plan(alloc)?;
-    match judge_rows(alloc, array, plan.items()) {
-        Ok(()) => Ok(()),
-        Err(error) => Err(of_json(error)),
-    }
-}
-
-/// Finds the first error of the rows of a document, row by row.
-#[tactic(auto, unfolding(gs_prefix::specs::Documents::array_errors, crate::specs::Documents::rows_errors))]
-fn judge_classes(alloc: Global, root: &Node<'_>) -> Result<(), ClassLoadFault>
-    requires { root.now.place ≡ [] }
-    ensures { IsFormFirst (rows_errors (view root.now.tree)) result }
-{
-    match root.find(alloc, "classes")? {
-        Some(array) => judge_items(alloc, &array),
-        None => Ok(()),
-    }
-}
-
 /// Finds the first error of the form of a document: of its object, then of its rows.
-pub(crate) fn judge_form(alloc: Global, root: &Node<'_>) -> Result<(), ClassLoadFault>
+pub(crate) fn judge_form(alloc: Global, root: &Node<'_>) -> Result<(), JsonFault>
     requires { root.now.place ≡ [] }
-    ensures { IsFormFirst (form_errors (view root.now.tree)) result }
+    ensures { IsFirst result (form_errors (view root.now.tree)) }
 {
     let plan = document_plan(alloc)?;
-    judge_object(alloc, root, plan.items())?;
-    judge_classes(alloc, root)
+    root.shaped(alloc, plan.items())?;
+    let row = row_plan(alloc)?;
+    root.items_shaped(alloc, "classes", row.items())
 }
 
 /// Returns the item that an array is, if it is an item of a text.

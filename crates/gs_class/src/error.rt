@@ -91,6 +91,21 @@ impl From<Memory> for ClassLoadFault {
     }
 }
 
+impl From<JsonFault> for ClassLoadFault {
+    ghost use Rattle.std.specs.Prelude.{◌≡◌};
+    ghost use Rattle.gs_json.specs.Answers.{of_json};
+    ghost use Rattle.gs_class.specs.declared.error.ClassLoadFault.TheVariants.{Json as OfJson, Memory as WantOfMemory};
+
+    ghost from_gives = { λ error e. e ≡ of_json WantOfMemory OfJson error };
+
+    fn from(error: JsonFault) -> ClassLoadFault {
+        match error {
+            JsonFault::Memory => ClassLoadFault::Memory,
+            other => ClassLoadFault::Json(other),
+        }
+    }
+}
+
 impl From<Memory> for ClassFault {
     ghost use Rattle.std.specs.Prelude.{◌≡◌};
     ghost use Rattle.gs_class.specs.declared.error.ClassFault.TheVariants.{Memory as WantOfMemory};

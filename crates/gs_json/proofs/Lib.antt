@@ -1,5 +1,6 @@
 pub mod ArrayItems
 pub mod FitLemmas
+pub mod FirstErrors
 pub mod FirstFailures
 pub mod JudgementLemmas
 pub mod LookUpLemmas

@@ -1,9 +1,10 @@
 -- The findings of a look-up in a tree.
-use Rattle.std.proofs.Common.{◌≡◌, ℕ, ◌<◌, List, [], ◌∷◌, ◌++◌, length, get_or, map, append-nil, Option, Some, None, option_map, Ok, String, Global, Equal, Less, string_bytes, string_cmp, nat_cmp, is_eq, refl, subst, sym, ap, ◌∙◌}
+use Rattle.std.proofs.Common.{◌≡◌, ℕ, ◌<◌, List, [], ◌∷◌, ◌++◌, length, get_or, map, append-nil, Option, Some, None, option_map, Ok, String, Global, Equal, Less, string_bytes, string_cmp, nat_cmp, is_eq, refl, subst, sym, ap, ◌∙◌, inl, inr}
 use Rattle.std.proofs.lemmas.Map.Text.{is_eq-slice_cmp}
 use Rattle.std.proofs.lemmas.Slice.Eq.{bytes_eq-Decides}
-use Rattle.std.proofs.lemmas.Str.{IsUtf8-had}
+use Rattle.std.proofs.lemmas.Str.{IsUtf8-from_is_utf8, IsUtf8-had, is_utf8-from_IsUtf8}
 use Rattle.std.specs.Prelude.{IsUtf8}
+use Rattle.std.specs.Str.{is_utf8}
 use Rattle.std.specs.BTreeMap.{is_at}
 use Rattle.std.specs.Cmp.Lexicographic.{slice_cmp}
 use Rattle.std.specs.List.{AllByRecursion}
@@ -12,9 +13,12 @@ use Rattle.std.specs.Map.{keys_of, lookup}
 use Rattle.serde_json.specs.Data.{Data, Items, Members, null, boolean, number, string, array, object}
 use Rattle.serde_json.specs.Events.{items_len}
 use Rattle.serde_json.specs.Find.{as_array, as_object, at, get, get_item, get_member}
+use Rattle.serde_json.specs.Read.{read as read_text}
 use Rattle.serde_json.specs.View.{view, items_view, members_view}
 use Rattle.serde_json.specs.declared.value.Value.{Value as Tree}
 use Rattle.serde_json.proofs.Views.{get_item_within, items_len-items_view, member_later, view-lookup}
+use Rattle.gs_chars.proofs.TruthsAndLists.{true_or_false}
+use Rattle.gs_json.specs.Members.{document_of}
 use Rattle.gs_json.specs.Answers.{AscendByBytes, asked, items_count, names_of, names_of_members}
 
 -- the items of an array
@@ -101,3 +105,15 @@ ascending_names names left start keys so_far none from ordered =
     let whole : names ++ [] ≡ map string_bytes start = rw none at so_far in
     let all : names ≡ map string_bytes keys = sym (append-nil names) ∙ whole ∙ ap (map string_bytes) from in
     rw all (ascending_keys keys ordered)
+
+-- the document that bytes are
+pub is_document : (bytes : List ℕ) (d : Data) → IsUtf8 bytes × (read_text bytes ≡ Some d) → document_of bytes ≡ Some d
+unfolding document_of
+is_document bytes d h = rw (is_utf8-from_IsUtf8 bytes h.0, h.1) refl
+
+pub no_document : (bytes : List ℕ) → (IsUtf8 bytes → read_text bytes ≡ None) → document_of bytes ≡ None
+unfolding document_of
+no_document bytes none = elim (true_or_false (is_utf8 bytes)) [
+  | inl t ↦ rw (t, none (IsUtf8-from_is_utf8 bytes t)) refl
+  | inr t ↦ rw t refl
+]

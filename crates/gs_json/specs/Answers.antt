@@ -11,7 +11,7 @@ use Rattle.serde_json.specs.View.{view}
 use Rattle.gs_json.specs.Parts.{Part}
 use Rattle.gs_json.specs.Places.{member_place}
 use Rattle.gs_json.specs.declared.error.JsonFault.{JsonFault}
-use Rattle.gs_json.specs.declared.error.JsonFault.TheVariants.{Lacks, Kind}
+use Rattle.gs_json.specs.declared.error.JsonFault.TheVariants.{Lacks, Kind, Memory}
 
 -- trusted, own: the result with `f` of its value
 abbrev pub result_map : {X Y : Type 0} → (X → Y) → Result X JsonFault → Result Y JsonFault
@@ -69,3 +69,8 @@ names_of d = option_map names_of_members (as_object d)
 -- trusted, own: the names of the members of `part`, or `Kind` if it is not an object
 abbrev pub names_at : Part → Result (List (List ℕ)) JsonFault
 names_at part = asked part.place (names_of (view part.tree))
+
+-- trusted, own: the error of a caller that is `error`: `memory` for `Memory`, otherwise `json error`
+abbrev pub of_json : {F : Type 0} → F → (JsonFault → F) → JsonFault → F
+of_json memory json Memory = memory
+of_json memory json error = json error

@@ -3,8 +3,8 @@
 //! - `Doc::parse` reads a document. A `Node` is a part of it: `member` and `item` look parts up, and `text`, `number` and
 //!   others give values. `find` and `value` report no other kind.
 //! - `read_value` reads one value of a text at a time, without a tree of the whole. `Node::of_item` gives an item its place.
-//! - `Node::shaped` checks an object against a plan of the members it must and may have and their sorts. `plan_of` makes a
-//!   plan. `text_in`, `number_in`, `truth_in` and `items_in` read a member of a checked object.
+//! - `Node::shaped` checks an object against a plan of the members it must and may have and their sorts, `Node::items_shaped`
+//!   the objects of an array. `plan_of` makes a plan. `text_in`, `number_in`, `truth_in` and `items_in` read a member of a checked object.
 //!
 //! # Example
 //!

@@ -42,6 +42,7 @@ impl<'a> Model for Node<'a> {
 impl<'a> Node<'a> {
     ghost use Rattle.gs_json.specs.Answers.{asked, items_count, maybe_of, member_of, names_at, result_map, seen};
     ghost use Rattle.gs_json.specs.AnswersSupport.{IsError};
+    ghost use Rattle.gs_json.specs.Members.{array_errors};
     ghost use Rattle.gs_json.specs.Shapes.{IsFirst, shape_errors};
     ghost use Rattle.std.specs.Prelude.{[]};
 
@@ -179,6 +180,22 @@ impl<'a> Node<'a> {
         ensures { IsFirst result (shape_errors self.now plan.now) }
     {
         judge(alloc, self.value, &self.place, plan)
+    }
+
+    /// Checks each item of the array that is the member of a name against a plan, item by item, and returns the first error as
+    /// `shaped` does. Returns `Ok` if there is no such array. May return `Memory` instead.
+    pub fn items_shaped(&self, alloc: Global, name: &str, plan: &[Entry]) -> Result<(), JsonFault>
+        ensures { IsFirst result (array_errors self.now.place name.now plan.now (view self.now.tree)) }
+    {
+        let Some(array) = self.find(alloc, name)? else {
+            return Ok(());
+        };
+        let count = array.items_len().unwrap_or(0);
+        for i in 0..count {
+            let item = array.item(alloc, i)?;
+            item.shaped(alloc, plan)?;
+        }
+        Ok(())
     }
 
     /// Returns the error that this is of another kind.

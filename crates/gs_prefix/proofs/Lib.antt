@@ -1,4 +1,3 @@
-pub mod FirstRejections
 pub mod FindLemmas
 pub mod Longest
 pub mod Parts

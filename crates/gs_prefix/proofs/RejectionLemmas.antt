@@ -2,30 +2,27 @@
 use Rattle.std.proofs.Common.{◌≡◌, ◌⊎◌, ℕ, ◌+◌, ◌<◌, ◌≤◌, nat_lt, nat_le, true, false, List, [], ◌∷◌, ◌++◌, length, take, map, Some, None, slice_get, refl, sym, ap, ◌∙◌, arith, inl, inr}
 use Rattle.std.specs.Prelude.{Result, Ok, Err}
 use Rattle.std.specs.List.{flat_map, enumerate_from, list_all, list_any}
-use Rattle.std.specs.Str.{IsUtf8, is_utf8}
+use Rattle.std.specs.Str.{IsUtf8}
 use Rattle.std.proofs.lemmas.Bool.Decides.{nat_tests}
-use Rattle.std.proofs.lemmas.List.{map-append, take_all}
-use Rattle.std.proofs.lemmas.Str.{IsUtf8-from_is_utf8, is_utf8-from_IsUtf8}
+use Rattle.std.proofs.lemmas.List.{take_all}
 use Rattle.serde_json.specs.Data.{Data}
-use Rattle.serde_json.specs.Find.{as_object}
 use Rattle.serde_json.specs.Read.{read as read_text}
-use Rattle.gs_json.specs.Places.{item_place}
-use Rattle.gs_json.specs.Shapes.{IsFirst as IsFirstFault, members_errors}
-use Rattle.gs_json.specs.declared.plan.Entry.{Entry}
+use Rattle.gs_json.specs.Answers.{of_json}
+use Rattle.gs_json.specs.Shapes.{IsFirst}
 use Rattle.gs_json.specs.declared.error.JsonFault.{JsonFault}
 use Rattle.gs_json.specs.declared.error.JsonFault.TheVariants as json
 use Rattle.gs_prefix.specs.declared.entry.PrefixEntry.{PrefixEntry}
 use Rattle.gs_prefix.specs.declared.error.PrefixFault.{PrefixFault}
 use Rattle.gs_prefix.specs.declared.error.PrefixFault.TheVariants.{Json, BadPrefix, BadLength, Twice, Limit, Memory}
 use Rattle.gs_chars.specs.Answers.{first_or, OrError}
-use Rattle.gs_json.specs.Members.{document_of}
 use Rattle.gs_prefix.specs.Answers.{document_answer, load_answer}
-use Rattle.gs_prefix.specs.AnswersSupport.{AddsEntry, of_json}
-use Rattle.gs_prefix.specs.Documents.{array_errors, entries_errors, entries_of, form_errors, list_plan, version_errors}
+use Rattle.gs_prefix.specs.AnswersSupport.{AddsEntry}
+use Rattle.gs_prefix.specs.Documents.{entries_of, form_errors}
 use Rattle.gs_prefix.specs.Lengths.{has_prefix, is_prefix}
 use Rattle.gs_prefix.specs.LengthsSupport.{is_entry}
 use Rattle.gs_prefix.specs.Rules.{entry_rejections, rejections, rejections_at}
-use Rattle.gs_prefix.proofs.FirstRejections.{all_rows, first_behind, first_in_front, nothing_in_front, one_more, split_at}
+use Rattle.gs_json.proofs.FirstErrors.{all_rows, first_in_front, judged, nothing_in_front, one_more, split_at}
+use Rattle.gs_json.proofs.LookUpLemmas.{is_document, no_document}
 use Rattle.gs_chars.proofs.ErrorAnswers.{no_error}
 use Rattle.gs_chars.proofs.TruthsAndLists.{and_first, and_second, true_or_false, take_next}
 
@@ -124,87 +121,28 @@ all_entries entries index i few all so_far =
     let none : rejections entries ≡ [] = within_limit entries few ∙ all_rows (rejections_at entries) entries i all so_far.none in
     rw none (inr (ap Ok whole))
 
--- ---- the form of a document
-
-module _ (plan : List Entry) (place : List ℕ) (items : List Data) where
-  abbrev errors_at : ℕ × Data → List JsonFault
-  errors_at row = members_errors (item_place place row.0) plan (as_object row.1)
-
-  pub item_rejected : (i : ℕ) (x : Data) (e : JsonFault) → slice_get items i ≡ Some x → array_errors plan place (take i items) ≡ []
-      → IsFirstFault (Err e) (errors_at (i, x)) → IsFirstFault (Err e) (array_errors plan place items)
-  unfolding array_errors
-  item_rejected i x e at none h =
-      let split = split_at errors_at items i x at none in
-      rw split.1 (first_in_front json.Memory (errors_at (i, x)) split.0 (tt {0}) (tt {0}) e h)
-
-  pub one_item_more : (i : ℕ) (x : Data) (z : Unit {0}) → slice_get items i ≡ Some x → array_errors plan place (take i items) ≡ []
-      → IsFirstFault (Ok z) (errors_at (i, x)) → array_errors plan place (take (i + 1) items) ≡ []
-  unfolding array_errors
-  one_item_more i x z at none h = one_more errors_at items i x at none (nothing_in_front json.Memory (errors_at (i, x)) (tt {0}) z h)
-
-  pub all_items : (i : ℕ) → length items ≤ i → array_errors plan place (take i items) ≡ [] → IsFirstFault (Ok (tt {0})) (array_errors plan place items)
-  unfolding array_errors
-  all_items i all none = rw (all_rows errors_at items i all none) (inr refl)
-
-joined : (a b : List JsonFault) → map Json (a ++ b) ≡ map Json a ++ map Json b
-joined a b = map-append Json a b
-
-module _ (d : Data) where
-  abbrev object_errors : List JsonFault
-  object_errors = members_errors [] list_plan (as_object d)
-
-  pub object_rejected : (e : PrefixFault) → OrError {X = Unit {0}} Memory (Err e) (first_or (map Json object_errors) (tt {0}))
-      → OrError {X = Unit {0}} Memory (Err e) (first_or (map Json (form_errors d)) (tt {0}))
-  unfolding form_errors
-  object_rejected e h = rw (joined object_errors (version_errors d ++ entries_errors d))
-      (first_in_front Memory (map Json object_errors) (map Json (version_errors d ++ entries_errors d)) (tt {0}) (tt {0}) e h)
-
-  pub version_rejected : (e : PrefixFault) (y : Unit {0}) → OrError {X = Unit {0}} Memory (Ok y) (first_or (map Json object_errors) (tt {0}))
-      → OrError {X = Unit {0}} Memory (Err e) (first_or (map Json (version_errors d)) (tt {0})) → OrError {X = Unit {0}} Memory (Err e)
-      (first_or (map Json (form_errors d)) (tt {0}))
-  unfolding form_errors
-  version_rejected e y none h =
-      rw (joined object_errors (version_errors d ++ entries_errors d), joined (version_errors d) (entries_errors d))
-      (first_behind Memory (map Json object_errors) (map Json (version_errors d) ++ map Json (entries_errors d)) (tt {0}) y (tt {0}) (Err e) none
-      (first_in_front Memory (map Json (version_errors d)) (map Json (entries_errors d)) (tt {0}) (tt {0}) e h))
-
-  pub entries_judged : (answer : Result (Unit {0}) PrefixFault) (y z : Unit {0}) → OrError {X = Unit {0}} Memory (Ok y)
-      (first_or (map Json object_errors) (tt {0})) → OrError {X = Unit {0}} Memory (Ok z) (first_or (map Json (version_errors d)) (tt {0}))
-      → OrError Memory answer (first_or (map Json (entries_errors d)) (tt {0})) → OrError Memory answer (first_or (map Json (form_errors d)) (tt {0}))
-  unfolding form_errors
-  entries_judged answer y z none same h =
-      rw (joined object_errors (version_errors d ++ entries_errors d), joined (version_errors d) (entries_errors d))
-      (first_behind Memory (map Json object_errors) (map Json (version_errors d) ++ map Json (entries_errors d)) (tt {0}) y (tt {0}) answer none
-      (first_behind Memory (map Json (version_errors d)) (map Json (entries_errors d)) (tt {0}) z (tt {0}) answer same h))
-
 -- ---- the answer to bytes
 
-is_json : (bytes : List ℕ) (d : Data) → IsUtf8 bytes × (read_text bytes ≡ Some d) → load_answer bytes ≡ document_answer d
-unfolding load_answer document_of
-is_json bytes d h = let t = is_utf8-from_IsUtf8 bytes h.0 in rw (t, h.1) refl
-
 pub not_json : (bytes : List ℕ) (error : JsonFault) → (error ≡ json.Syntax → IsUtf8 bytes → read_text bytes ≡ None)
-    → (error ≡ json.Syntax) ⊎ (error ≡ json.Memory) → OrError {X = List PrefixEntry} Memory (Err (of_json error)) (load_answer bytes)
-unfolding load_answer document_of
+    → (error ≡ json.Syntax) ⊎ (error ≡ json.Memory) → OrError {X = List PrefixEntry} Memory (Err (of_json Memory Json error)) (load_answer bytes)
+unfolding load_answer
 not_json bytes error none (inr m) = rw m (inl refl)
-not_json bytes error none (inl s) = elim (true_or_false (is_utf8 bytes)) [
-  | inl t ↦ let e = none s (IsUtf8-from_is_utf8 bytes t) in rw (s, t, e) (inr refl)
-  | inr t ↦ rw (s, t) (inr refl)
-]
+not_json bytes error none (inl s) = rw (s, no_document bytes (none s)) (inr refl)
 
 pub document_is : (bytes : List ℕ) (d : Data) (answer : Result (List PrefixEntry) PrefixFault) → IsUtf8 bytes × (read_text bytes ≡ Some d)
     → OrError Memory answer (document_answer d) → OrError Memory answer (load_answer bytes)
-document_is bytes d answer is h = rw (is_json bytes d is) h
+unfolding load_answer
+document_is bytes d answer is h = rw (is_document bytes d is) h
 
-pub form_rejected : (d : Data) (e : PrefixFault) → OrError {X = Unit {0}} Memory (Err e) (first_or (map Json (form_errors d)) (tt {0}))
-    → OrError {X = List PrefixEntry} Memory (Err e) (document_answer d)
+pub form_rejected : (d : Data) (error : JsonFault) → IsFirst (Err error) (form_errors d)
+    → OrError {X = List PrefixEntry} Memory (Err (of_json Memory Json error)) (document_answer d)
 unfolding document_answer
-form_rejected d e h = first_in_front Memory (map Json (form_errors d)) (rejections (entries_of d)) (tt {0}) (entries_of d) e h
+form_rejected d error h =
+    first_in_front Memory (map Json (form_errors d)) (rejections (entries_of d)) (tt {0}) (entries_of d) (of_json Memory Json error)
+    (judged Memory Json (form_errors d) error h)
 
 pub entries_answer : (d : Data) (entries : List PrefixEntry) (z : Unit {0}) (answer : Result (List PrefixEntry) PrefixFault)
-    → OrError {X = Unit {0}} Memory (Ok z) (first_or (map Json (form_errors d)) (tt {0})) → entries ≡ entries_of d → OrError Memory answer
-    (first_or (rejections entries) entries) → OrError Memory answer (document_answer d)
+    → IsFirst (Ok z) (form_errors d) → entries ≡ entries_of d → OrError Memory answer (first_or (rejections entries) entries)
+    → OrError Memory answer (document_answer d)
 unfolding document_answer
-entries_answer d entries z answer none e h =
-    let own = rw e at h in
-    first_behind Memory (map Json (form_errors d)) (rejections (entries_of d)) (tt {0}) z (entries_of d) answer none own
+entries_answer d entries z answer none e h = rw (nothing_in_front json.Memory (form_errors d) (tt {0}) z none) (rw e at h)

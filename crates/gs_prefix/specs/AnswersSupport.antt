@@ -1,11 +1,9 @@
 -- Definitions for proofs and private functions, in addition to Answers.antt.
-use Rattle.std.specs.Prelude.{◌≡◌, ℕ, List, map, Result, IfOk}
+use Rattle.std.specs.Prelude.{◌≡◌, ℕ, List, Result, IfOk}
 use Rattle.gs_chars.specs.Answers.{first_or, OrError}
-use Rattle.gs_json.specs.declared.error.JsonFault.{JsonFault}
-use Rattle.gs_json.specs.declared.error.JsonFault.TheVariants as json
 use Rattle.gs_prefix.specs.declared.entry.PrefixEntry.{PrefixEntry}
 use Rattle.gs_prefix.specs.declared.error.PrefixFault.{PrefixFault}
-use Rattle.gs_prefix.specs.declared.error.PrefixFault.TheVariants.{Json, Memory}
+use Rattle.gs_prefix.specs.declared.error.PrefixFault.TheVariants.{Memory}
 use Rattle.gs_prefix.specs.LengthsSupport.{with_entry}
 use Rattle.gs_prefix.specs.Rules.{entry_rejections}
 
@@ -13,12 +11,3 @@ use Rattle.gs_prefix.specs.Rules.{entry_rejections}
 abbrev pub AddsEntry : Result Unit PrefixFault → ℕ → List PrefixEntry → List PrefixEntry → PrefixEntry → Type 0
 AddsEntry result i earlier after entry =
     OrError Memory result (first_or (entry_rejections earlier i entry) tt) × IfOk result (λ _. after ≡ with_entry earlier entry.prefix entry.length)
-
--- holds if the answer is the first of these errors of JSON, or `Memory`
-abbrev pub IsFirst : Result Unit PrefixFault → List JsonFault → Type 0
-IsFirst result errors = OrError Memory result (first_or (map Json errors) tt)
-
--- an error of JSON, with out of memory as its own
-abbrev pub of_json : JsonFault → PrefixFault
-of_json json.Memory = Memory
-of_json error = Json error

@@ -1,10 +1,8 @@
 -- The document in JSON of a list of company prefix lengths, this project's own profile: its form, and its entries.
 use Rattle.std.specs.Prelude.{ℕ, ◌==◌, if◌then◌else◌, List, [], ◌∷◌, ◌++◌, map, codes}
-use Rattle.std.specs.List.{flat_map, enumerate_from}
 use Rattle.serde_json.specs.Data.{Data}
 use Rattle.serde_json.specs.Find.{as_object}
-use Rattle.gs_json.specs.Members.{items_in, must, number_in, text_in}
-use Rattle.gs_json.specs.Places.{item_place, member_place}
+use Rattle.gs_json.specs.Members.{array_errors, items_in, must, number_in, text_in}
 use Rattle.gs_json.specs.Shapes.{members_errors}
 use Rattle.gs_json.specs.declared.error.JsonFault.{JsonFault}
 use Rattle.gs_json.specs.declared.error.JsonFault.TheVariants.{Kind}
@@ -24,18 +22,10 @@ entry_plan = must (codes "prefix") Text ∷ must (codes "length") Number ∷ []
 abbrev pub version_errors : Data → List JsonFault
 version_errors d = if number_in (codes "version") d == 1 then [] else Kind (codes "/version") ∷ []
 
--- trusted, own: the errors of the items of the array at a place, which are objects of this plan, item by item
-unfoldable pub array_errors : List Entry → List ℕ → List Data → List JsonFault
-array_errors plan place items =
-    flat_map (λ row. members_errors (item_place place row.0) plan (as_object row.1)) (enumerate_from 0 items)
-
--- trusted, own: the errors of the entries of a document
-unfoldable pub entries_errors : Data → List JsonFault
-entries_errors d = array_errors entry_plan (member_place [] (codes "prefixes")) (items_in (codes "prefixes") d)
-
 -- trusted, own: the errors of the form of a document: those of its object, then of its version, then of its entries
 unfoldable pub form_errors : Data → List JsonFault
-form_errors d = members_errors [] list_plan (as_object d) ++ (version_errors d ++ entries_errors d)
+form_errors d =
+    members_errors [] list_plan (as_object d) ++ (version_errors d ++ array_errors [] (codes "prefixes") entry_plan d)
 
 -- trusted, own: the entries of a document
 abbrev pub entry_of : Data → PrefixEntry

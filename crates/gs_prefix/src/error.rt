@@ -35,3 +35,18 @@ impl From<Memory> for PrefixFault {
         PrefixFault::Memory
     }
 }
+
+impl From<JsonFault> for PrefixFault {
+    ghost use Rattle.std.specs.Prelude.{◌≡◌};
+    ghost use Rattle.gs_json.specs.Answers.{of_json};
+    ghost use Rattle.gs_prefix.specs.declared.error.PrefixFault.TheVariants.{Json as OfJson, Memory as WantOfMemory};
+
+    ghost from_gives = { λ error e. e ≡ of_json WantOfMemory OfJson error };
+
+    fn from(error: JsonFault) -> PrefixFault {
+        match error {
+            JsonFault::Memory => PrefixFault::Memory,
+            other => PrefixFault::Json(other),
+        }
+    }
+}

@@ -2,7 +2,6 @@
 //!
 //! - `PrefixList::load` reads a list, or gives its first error. `length_of` gives the number of digits of the company prefix
 //!   that digits begin with, by the longest row that fits.
-//! - `judge_rows` checks the items of an array against a plan, for gs_class too.
 //!
 //! # Example
 //!
@@ -25,7 +24,6 @@ mod entry;
 mod error;
 mod prefix_list;
 
-pub use document::judge_rows;
 pub use entry::PrefixEntry;
 pub use error::PrefixFault;
 pub use prefix_list::PrefixList;

@@ -9,7 +9,7 @@ ghost use Rattle.std.specs.List.{list_any};
 ghost use Rattle.std.specs.Option.{option_map};
 ghost use Rattle.gs_prefix.specs.LengthsSupport.{with_entry};
 
-use crate::document::{judge_form, of_json, read_entries};
+use crate::document::{judge_form, read_entries};
 use crate::entry::{PrefixEntry, check_entry};
 use crate::error::PrefixFault;
 use gs_chars::Memory;
@@ -58,10 +58,8 @@ impl PrefixList {
     pub fn load(alloc: Global, bytes: &[u8]) -> Result<PrefixList, PrefixFault>
         ensures { OrError PrefixFault.Memory result (load_answer bytes.now) }
     {
-        match Doc::parse(alloc, bytes) {
-            Ok(doc) => PrefixList::of_root(alloc, &doc.root(alloc)),
-            Err(error) => Err(of_json(error)),
-        }
+        let doc = Doc::parse(alloc, bytes)?;
+        PrefixList::of_root(alloc, &doc.root(alloc))
     }
 
     /// Returns the list that the document of this tree gives, or its first rejection.

@@ -1,10 +1,8 @@
 -- Table documents in JSON, this project's own profile: the form of a document, and its rows.
 use Rattle.std.specs.Prelude.{◌≡◌, ◌≢◌, ◌==◌, ℕ, Bool, true, false, List, [], ◌∷◌, ◌++◌, codes, Option, unwrap_or}
-use Rattle.std.specs.List.{flat_map, enumerate_from}
 use Rattle.serde_json.specs.Data.{Data}
 use Rattle.serde_json.specs.Find.{as_object, as_str}
-use Rattle.gs_json.specs.Members.{items_in, may, must, number_in, text_in, truth_in}
-use Rattle.gs_json.specs.Places.{item_place, member_place}
+use Rattle.gs_json.specs.Members.{array_errors, items_in, may, must, number_in, text_in, truth_in}
 use Rattle.gs_json.specs.Shapes.{members_errors}
 use Rattle.gs_json.specs.declared.error.JsonFault.{JsonFault}
 use Rattle.gs_json.specs.declared.plan.Entry.{Entry}
@@ -50,13 +48,9 @@ is_second d = number_in (codes "version") d == 2
 abbrev pub object_errors : List ℕ → List Entry → Data → List JsonFault
 object_errors place plan d = members_errors place plan (as_object d)
 
--- trusted, own: the errors of the rows of the array at a place, row by row
-abbrev pub row_errors : List ℕ → List Entry → List Data → List JsonFault
-row_errors place plan rows = flat_map (λ row. object_errors (item_place place row.0) plan row.1) (enumerate_from 0 rows)
-
 -- trusted, own: the errors of the rows of the array of this name
 unfoldable pub rows_errors : List ℕ → List Entry → Data → List JsonFault
-rows_errors name plan d = row_errors (member_place [] name) plan (items_in name d)
+rows_errors name plan d = array_errors [] name plan d
 
 -- trusted, own: the errors of a document: those of its object, then those of the rows of each array
 unfoldable pub document_errors : Data → List JsonFault

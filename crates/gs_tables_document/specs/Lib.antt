@@ -4,4 +4,3 @@ pub mod ItemsSupport
 pub mod Documents
 pub mod DocumentsSupport
 pub mod Readings
-pub mod ReadingsSupport

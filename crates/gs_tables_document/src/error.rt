@@ -86,6 +86,21 @@ impl From<Memory> for LoadFault {
     }
 }
 
+impl From<JsonFault> for LoadFault {
+    ghost use Rattle.std.specs.Prelude.{◌≡◌};
+    ghost use Rattle.gs_json.specs.Answers.{of_json};
+    ghost use Rattle.gs_tables_document.specs.declared.error.LoadFault.TheVariants.{Json as OfJson, Memory as WantOfMemory};
+
+    ghost from_gives = { λ error e. e ≡ of_json WantOfMemory OfJson error };
+
+    fn from(error: JsonFault) -> LoadFault {
+        match error {
+            JsonFault::Memory => LoadFault::Memory,
+            other => LoadFault::Json(other),
+        }
+    }
+}
+
 impl From<Memory> for ItemFault {
     ghost use Rattle.std.specs.Prelude.{◌≡◌};
     ghost use Rattle.gs_tables_document.specs.declared.error.ItemFault.TheVariants.{Memory as WantOfMemory};

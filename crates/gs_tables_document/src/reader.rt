@@ -1,19 +1,17 @@
-ghost use Rattle.std.specs.Prelude.{◌≡◌, ℕ, List, [], IfOk, IfErr, codes};
+ghost use Rattle.std.specs.Prelude.{◌≡◌, ◌++◌, ℕ, List, [], IfOk, IfErr, codes};
 ghost use Rattle.serde_json.specs.View.{view};
-ghost use Rattle.gs_json.specs.Shapes.{first_error};
-ghost use Rattle.gs_json.specs.Members.{items_of};
-ghost use Rattle.gs_tables_document.specs.Documents.{IsDocument, ai_plan, document_errors, document_plan, is_second, kind_plan, object_errors, of_bits, of_texts, option_plan, row_errors, rows_errors};
+ghost use Rattle.gs_json.specs.Shapes.{IsFirst};
+ghost use Rattle.gs_tables_document.specs.Documents.{IsDocument, document_errors, is_second, of_bits, of_texts, option_plan};
+ghost use Rattle.gs_tables_document.specs.Documents.{rows_errors};
 ghost use Rattle.gs_tables_document.specs.DocumentsSupport.{AreOptions};
 ghost use Rattle.gs_tables_document.specs.Readings.{Holds, IsFormRejection, IsJson};
-ghost use Rattle.gs_tables_document.specs.ReadingsSupport.{of_json};
-ghost use Rattle.gs_chars.specs.Answers.{OrError};
 
 use crate::document::{Document, OptionRow};
 use crate::error::LoadFault;
 use crate::plans::{Reading, ai_plan, document_plan, kind_plan, option_plan};
 use crate::rows::read_rows;
 use gs_chars::{List, Memory};
-use gs_json::{Doc, Entry, JsonFault, Node, number_in};
+use gs_json::{Doc, JsonFault, Node, number_in};
 use serde_json::Value;
 use std::alloc::Global;
 
@@ -23,10 +21,8 @@ pub fn read_document(alloc: Global, bytes: &[u8]) -> Result<Document, LoadFault>
     ensures document { IfOk result (λ document. Holds bytes.now document) }
     ensures rejected { IfErr result (λ error. IsFormRejection bytes.now error) }
 {
-    match Doc::parse(alloc, bytes) {
-        Ok(doc) => read_root(alloc, &doc.root(alloc)),
-        Err(error) => Err(of_json(error)),
-    }
+    let doc = Doc::parse(alloc, bytes)?;
+    read_root(alloc, &doc.root(alloc))
 }
 
 /// Returns the rows of the document of this tree, or the first error of its form.
@@ -37,99 +33,36 @@ fn read_root(alloc: Global, root: &Node<'_>) -> Result<Document, LoadFault>
     ensures rejected { IfErr result (λ error. (bytes : List ℕ) → IsJson bytes (view root.now.tree)
         → IsFormRejection bytes error) }
 {
-    match judge_document(alloc, root) {
-        Ok(()) => Ok(rows_of(alloc, root.value())?),
-        Err(error) => Err(of_json(error)),
-    }
-}
-
-/// Returns an error of JSON, with out of memory as its own.
-fn of_json(error: JsonFault) -> LoadFault
-    ensures { result ≡ of_json error }
-{
-    match error {
-        JsonFault::Memory => LoadFault::Memory,
-        other => LoadFault::Json(other),
-    }
+    judge_document(alloc, root)?;
+    Ok(rows_of(alloc, root.value())?)
 }
 
 /// Finds the first error of the form of a document: of its object, then of the rows of each array.
 fn judge_document(alloc: Global, root: &Node<'_>) -> Result<(), JsonFault>
     requires { root.now.place ≡ [] }
-    ensures { OrError JsonFault.Memory result (first_error (document_errors (view root.now.tree))) }
-{
-    judge_object(alloc, root)?;
-    judge_ais(alloc, root)?;
-    judge_kinds(alloc, root)?;
-    judge_options(alloc, root, "binary")?;
-    judge_options(alloc, root, "tag")?;
-    judge_options(alloc, root, "pure")
-}
-
-/// Finds the first error of the document's object.
-fn judge_object(alloc: Global, root: &Node<'_>) -> Result<(), JsonFault>
-    requires { root.now.place ≡ [] }
-    ensures { OrError JsonFault.Memory result
-        (first_error (object_errors [] document_plan (view root.now.tree))) }
+    ensures { IsFirst result (document_errors (view root.now.tree)) }
 {
     let plan = document_plan(alloc)?;
-    root.shaped(alloc, plan.items())
+    root.shaped(alloc, plan.items())?;
+    let ai = ai_plan(alloc)?;
+    root.items_shaped(alloc, "ais", ai.items())?;
+    let kind = kind_plan(alloc, is_second(root.value()))?;
+    root.items_shaped(alloc, "kinds", kind.items())?;
+    judge_options(alloc, root)
 }
 
-/// Finds the first error of the rows of application identifiers.
-fn judge_ais(alloc: Global, root: &Node<'_>) -> Result<(), JsonFault>
+/// Finds the first error of the rows of the options of each level.
+#[tactic(auto, unfolding(crate::specs::Documents::rows_errors))]
+fn judge_options(alloc: Global, root: &Node<'_>) -> Result<(), JsonFault>
     requires { root.now.place ≡ [] }
-    ensures { OrError JsonFault.Memory result
-        (first_error (rows_errors (codes "ais") ai_plan (view root.now.tree))) }
-{
-    let plan = ai_plan(alloc)?;
-    judge_rows(alloc, root, "ais", plan.items())
-}
-
-/// Finds the first error of the rows of kinds.
-fn judge_kinds(alloc: Global, root: &Node<'_>) -> Result<(), JsonFault>
-    requires { root.now.place ≡ [] }
-    ensures { OrError JsonFault.Memory result (first_error
-        (rows_errors (codes "kinds") (kind_plan (is_second (view root.now.tree))) (view root.now.tree))) }
-{
-    let plan = kind_plan(alloc, is_second(root.value()))?;
-    judge_rows(alloc, root, "kinds", plan.items())
-}
-
-/// Finds the first error of the rows of the options of a level.
-fn judge_options(alloc: Global, root: &Node<'_>, name: &str) -> Result<(), JsonFault>
-    requires { root.now.place ≡ [] }
-    ensures { OrError JsonFault.Memory result
-        (first_error (rows_errors name.now option_plan (view root.now.tree))) }
+    ensures { IsFirst result (rows_errors (codes "binary") option_plan (view root.now.tree)
+        ++ (rows_errors (codes "tag") option_plan (view root.now.tree)
+        ++ rows_errors (codes "pure") option_plan (view root.now.tree))) }
 {
     let plan = option_plan(alloc)?;
-    judge_rows(alloc, root, name, plan.items())
-}
-
-/// Finds the first error of the rows of the named array, row by row.
-#[tactic(auto, unfolding(crate::specs::Documents::rows_errors))]
-fn judge_rows(alloc: Global, root: &Node<'_>, name: &str, plan: &[Entry]) -> Result<(), JsonFault>
-    requires { root.now.place ≡ [] }
-    ensures { OrError JsonFault.Memory result
-        (first_error (rows_errors name.now plan.now (view root.now.tree))) }
-{
-    match root.find(alloc, name)? {
-        Some(array) => judge_items(alloc, &array, plan),
-        None => Ok(()),
-    }
-}
-
-/// Finds the first error of the rows of an array, row by row.
-fn judge_items(alloc: Global, array: &Node<'_>, plan: &[Entry]) -> Result<(), JsonFault>
-    ensures { OrError JsonFault.Memory result
-        (first_error (row_errors array.now.place plan.now (items_of (view array.now.tree)))) }
-{
-    let count = array.items_len().unwrap_or(0);
-    for i in 0..count {
-        let row = array.item(alloc, i)?;
-        row.shaped(alloc, plan)?;
-    }
-    Ok(())
+    root.items_shaped(alloc, "binary", plan.items())?;
+    root.items_shaped(alloc, "tag", plan.items())?;
+    root.items_shaped(alloc, "pure", plan.items())
 }
 
 /// Returns whether the document is of version 2.

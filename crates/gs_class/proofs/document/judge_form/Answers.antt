@@ -1,15 +1,18 @@
 use Rattle.std.proofs.lemmas.Result.{err_from_is_err_and}
-use Rattle.serde_json.specs.View.{view}
-use Rattle.gs_class.proofs.FormLemmas.{object_rejected, rows_judged}
+use Rattle.gs_json.specs.declared.error.JsonFault.TheVariants.{Memory}
+use Rattle.gs_json.proofs.FirstErrors.{first_behind, first_in_front}
+use Rattle.gs_class.specs.Documents.{form_errors}
 use Rattle.gs_class.proofs.document.judge_form.Goals as goal
 
-pub returns-in_err-judge_object : goal.returns-in_err-judge_object
-returns-in_err-judge_object c =
-    let p = err_from_is_err_and c.from_residual-in_err-judge_object.result c.from_residual-in_err-judge_object.ensures.1 in
-    rw (p.1, p.2) (object_rejected (view c.args.root.now.tree) c.in_err-judge_object.field-0.0
-    (rw (c.items.ensures, c.in_ok-plan.ensures, c.requires) at c.in_err-judge_object.ensures))
+pub returns-in_err-shaped : goal.returns-in_err-shaped
+unfolding form_errors
+returns-in_err-shaped c =
+    let p = err_from_is_err_and c.from_residual-in_err-shaped.result c.from_residual-in_err-shaped.ensures.1 in
+    rw (p.1, p.2) (first_in_front Memory _ _ (tt {0}) (tt {0}) _ (rw (c.items.ensures, c.in_ok-plan.ensures, c.requires) at c.in_err-shaped.ensures))
 
 pub returns : goal.returns
+unfolding form_errors
 returns c =
-    rows_judged (view c.args.root.now.tree) c.judge_classes.result c.in_ok-judge_object.field-0
-    (rw (c.items.ensures, c.in_ok-plan.ensures, c.requires) at c.in_ok-judge_object.ensures) c.judge_classes.ensures
+    first_behind Memory _ _ (tt {0}) c.in_ok-shaped.field-0 (tt {0}) _
+    (rw (c.items.ensures, c.in_ok-plan.ensures, c.requires) at c.in_ok-shaped.ensures)
+    (rw (c.items-2.ensures, c.in_ok-row.ensures, c.requires) at c.items_shaped.ensures)

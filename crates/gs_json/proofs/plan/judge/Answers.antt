@@ -3,13 +3,15 @@ use Rattle.std.specs.List.{flat_map}
 use Rattle.std.proofs.lemmas.Result.{err_from_is_err_and}
 use Rattle.serde_json.specs.View.{members_view}
 use Rattle.gs_json.specs.Shapes.{entry_errors}
-use Rattle.gs_json.proofs.JudgementLemmas.{entries_end, entries_from, entry_first, names_only, no_first}
+use Rattle.gs_json.specs.declared.error.JsonFault.TheVariants.{Memory}
+use Rattle.gs_json.proofs.FirstErrors.{nothing_in_front}
+use Rattle.gs_json.proofs.JudgementLemmas.{entries_end, entries_from, entry_first, names_only}
 use Rattle.gs_json.proofs.plan.judge.Goals as goal
 
 pub loop-entry-preserved : goal.loop-entry-preserved
 loop-entry-preserved c =
     let errors = entry_errors c.args.place.now (members_view c.in-Some.map.now.entries) in
-    let own = no_first (errors c.entry-item.result) c.in_ok-judge_member.ensures in
+    let own = nothing_in_front Memory (errors c.entry-item.result) tt c.in_ok-judge_member.field-0 c.in_ok-judge_member.ensures in
     c.loop-entry.invariant ∙ entries_from errors c.args.plan.now c.loop-entry.entry-index c.entry-item.result c.loop-entry-test.true c.entry-item.is
     ∙ ap (λ fs. fs ++ flat_map errors (drop (c.loop-entry.entry-index + 1) c.args.plan.now)) own
 

@@ -1,21 +1,27 @@
 use Rattle.std.proofs.lemmas.Result.{err_from_is_err_and}
-use Rattle.serde_json.specs.View.{view}
-use Rattle.gs_prefix.proofs.RejectionLemmas.{entries_judged, object_rejected, version_rejected}
+use Rattle.gs_json.specs.declared.error.JsonFault.TheVariants.{Memory}
+use Rattle.gs_json.proofs.FirstErrors.{first_behind, first_in_front}
+use Rattle.gs_prefix.specs.Documents.{form_errors}
 use Rattle.gs_prefix.proofs.document.judge_form.Goals as goal
 
-pub returns-in_err-judge_object : goal.returns-in_err-judge_object
-returns-in_err-judge_object c =
-    let p = err_from_is_err_and c.from_residual-in_err-judge_object.result c.from_residual-in_err-judge_object.ensures.1 in
-    rw (p.1, p.2) (object_rejected (view c.args.root.now.tree) c.in_err-judge_object.field-0.0
-    (rw (c.items.ensures, c.in_ok-plan.ensures, c.requires) at c.in_err-judge_object.ensures))
+pub returns-in_err-shaped : goal.returns-in_err-shaped
+unfolding form_errors
+returns-in_err-shaped c =
+    let p = err_from_is_err_and c.from_residual-in_err-shaped.result c.from_residual-in_err-shaped.ensures.1 in
+    rw (p.1, p.2) (first_in_front Memory _ _ (tt {0}) (tt {0}) _ (rw (c.items.ensures, c.in_ok-plan.ensures, c.requires) at c.in_err-shaped.ensures))
 
 pub returns-in_err-judge_version : goal.returns-in_err-judge_version
+unfolding form_errors
 returns-in_err-judge_version c =
     let p = err_from_is_err_and c.from_residual-in_err-judge_version.result c.from_residual-in_err-judge_version.ensures.1 in
-    rw (p.1, p.2) (version_rejected (view c.args.root.now.tree) c.in_err-judge_version.field-0.0 c.in_ok-judge_object.field-0
-    (rw (c.items.ensures, c.in_ok-plan.ensures, c.requires) at c.in_ok-judge_object.ensures) c.in_err-judge_version.ensures)
+    rw (p.1, p.2) (first_behind Memory _ _ (tt {0}) c.in_ok-shaped.field-0 (tt {0}) _
+    (rw (c.items.ensures, c.in_ok-plan.ensures, c.requires) at c.in_ok-shaped.ensures)
+    (first_in_front Memory _ _ (tt {0}) (tt {0}) _ c.in_err-judge_version.ensures))
 
 pub returns : goal.returns
+unfolding form_errors
 returns c =
-    entries_judged (view c.args.root.now.tree) c.judge_entries.result c.in_ok-judge_object.field-0 c.in_ok-judge_version.field-0
-    (rw (c.items.ensures, c.in_ok-plan.ensures, c.requires) at c.in_ok-judge_object.ensures) c.in_ok-judge_version.ensures c.judge_entries.ensures
+    first_behind Memory _ _ (tt {0}) c.in_ok-shaped.field-0 (tt {0}) _
+    (rw (c.items.ensures, c.in_ok-plan.ensures, c.requires) at c.in_ok-shaped.ensures)
+    (first_behind Memory _ _ (tt {0}) c.in_ok-judge_version.field-0 (tt {0}) _ c.in_ok-judge_version.ensures
+    (rw (c.items-2.ensures, c.in_ok-entry.ensures, c.requires) at c.items_shaped.ensures))

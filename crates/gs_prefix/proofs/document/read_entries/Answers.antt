@@ -1,8 +1,7 @@
 use Rattle.std.proofs.Common.{map, ap, ◌∙◌, arith}
 use Rattle.serde_json.specs.View.{view}
 use Rattle.gs_prefix.specs.Documents.{entry_of}
-use Rattle.gs_prefix.proofs.FirstRejections.{mapped_all, mapped_step}
-use Rattle.gs_prefix.proofs.Parts.{mapped_views}
+use Rattle.gs_prefix.proofs.Parts.{mapped_all, mapped_step, mapped_views}
 use Rattle.gs_prefix.proofs.document.read_entries.Goals as goal
 
 pub loop-item-preserved : goal.loop-item-preserved

@@ -1,12 +1,15 @@
 use Rattle.std.proofs.Common.{ap}
 use Rattle.std.specs.Prelude.{Err}
+use Rattle.std.proofs.lemmas.Result.{err_from_is_err_and}
 use Rattle.serde_json.specs.View.{view}
 use Rattle.gs_class.proofs.Loading.{document_is, not_json}
 use Rattle.gs_class.proofs.class_set.ClassSet.load.Goals as goal
 
-pub returns-in-Err-clause-answer : goal.returns-in-Err-clause-answer
-returns-in-Err-clause-answer c = rw c.of_json.ensures (not_json c.args.table.now c.args.bytes.now c.in-Err.error (λ e. c.in-Err.ensures.syntax (ap Err e)) c.in-Err.ensures.only)
+pub returns-in_err-doc-clause-answer : goal.returns-in_err-doc-clause-answer
+returns-in_err-doc-clause-answer c =
+    let p = err_from_is_err_and c.from_residual.result c.from_residual.ensures.1 in
+    rw (p.1, p.2) (not_json c.args.table.now c.args.bytes.now c.in_err-doc.field-0.0 (λ e. c.in_err-doc.ensures.syntax (ap Err e)) c.in_err-doc.ensures.only)
 
-pub returns-in-Ok-clause-answer : goal.returns-in-Ok-clause-answer
-returns-in-Ok-clause-answer c = document_is c.args.table.now c.args.bytes.now (view c.root.result.tree) c.of_root.result
-    (rw c.root.ensures.tree c.in-Ok.ensures.read) c.of_root.ensures.answer
+pub returns-clause-answer : goal.returns-clause-answer
+returns-clause-answer c = document_is c.args.table.now c.args.bytes.now (view c.root.result.tree) c.of_root.result
+    (rw c.root.ensures.tree c.in_ok-doc.ensures.read) c.of_root.ensures.answer

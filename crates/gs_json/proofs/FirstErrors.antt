@@ -1,15 +1,14 @@
--- The first rejection of concatenated lists of rejections.
-use Rattle.std.proofs.Common.{◌≡◌, ℕ, zero, suc, ◌+◌, ◌<◌, ◌≤◌, List, [], ◌∷◌, ◌++◌, length, get_or, take, map, Some, None, slice_get, refl, ap, arith, inl, inr}
+-- The first error of concatenated lists of errors, and of rows.
+use Rattle.std.proofs.Common.{◌≡◌, ℕ, zero, suc, ◌+◌, ◌≤◌, List, [], ◌∷◌, ◌++◌, length, take, map, Some, None, slice_get, refl, ap, arith, inl, inr}
 use Rattle.std.specs.Prelude.{Result, Ok, Err}
-use Rattle.std.proofs.lemmas.List.{map-append, take_all, take_more}
+use Rattle.std.proofs.lemmas.List.{take_all}
 use Rattle.std.specs.List.{flat_map, enumerate_from}
 use Rattle.gs_chars.proofs.TruthsAndLists.{nil_parts}
-use Rattle.gs_json.specs.Shapes.{first_error}
+use Rattle.gs_json.specs.Answers.{of_json}
+use Rattle.gs_json.specs.Shapes.{IsFirst, first_error}
 use Rattle.gs_json.specs.declared.error.JsonFault.{JsonFault}
-use Rattle.gs_json.specs.declared.error.JsonFault.TheVariants as json
+use Rattle.gs_json.specs.declared.error.JsonFault.TheVariants.{Syntax, Lacks, Kind, Unknown, Memory}
 use Rattle.gs_chars.specs.Answers.{OrError, first_or}
-use Rattle.gs_prefix.specs.AnswersSupport.{of_json}
-use Rattle.gs_prefix.specs.declared.error.PrefixFault.TheVariants.{Json, Memory}
 
 -- ---- one list after another
 
@@ -86,33 +85,18 @@ module _ {X E : Type 0} (f : ℕ × X → List E) where
 
 -- ---- errors of JSON
 
--- the statement about a result without a value
-abbrev unit : Unit {0}
-unit = tt
+module _ {F : Type 0} (memory : F) (json : JsonFault → F) where
+  judged_by : (errors : List JsonFault) (error : JsonFault) → Err error ≡ first_error errors
+      → OrError memory (Err (of_json memory json error)) (first_or (map json errors) (tt {0}))
+  judged_by errors Memory h = inl refl
+  judged_by [] error h = absurd (let g : Err error ≡ Ok tt = h in cc)
+  judged_by (f ∷ errors) Syntax h = inr (let same : Syntax ≡ f = cc in rw same refl)
+  judged_by (f ∷ errors) (Lacks p) h = inr (let same : Lacks p ≡ f = cc in rw same refl)
+  judged_by (f ∷ errors) (Kind p) h = inr (let same : Kind p ≡ f = cc in rw same refl)
+  judged_by (f ∷ errors) (Unknown p) h = inr (let same : Unknown p ≡ f = cc in rw same refl)
 
-judged_by : (errors : List JsonFault) (error : JsonFault) → Err error ≡ first_error errors → OrError Memory (Err (of_json error)) (first_or (map Json errors) unit)
-judged_by errors json.Memory h = inl refl
-judged_by [] json.Syntax h = absurd (cc)
-judged_by [] (json.Lacks p) h = absurd (cc)
-judged_by [] (json.Kind p) h = absurd (cc)
-judged_by [] (json.Unknown p) h = absurd (cc)
-judged_by (f ∷ errors) json.Syntax h = inr (let same : json.Syntax ≡ f = cc in rw same refl)
-judged_by (f ∷ errors) (json.Lacks p) h = inr (let same : json.Lacks p ≡ f = cc in rw same refl)
-judged_by (f ∷ errors) (json.Kind p) h = inr (let same : json.Kind p ≡ f = cc in rw same refl)
-judged_by (f ∷ errors) (json.Unknown p) h = inr (let same : json.Unknown p ≡ f = cc in rw same refl)
-
-pub judged : (errors : List JsonFault) (error : JsonFault) → OrError json.Memory (Err error) (first_error errors)
-    → OrError Memory (Err (of_json error)) (first_or (map Json errors) unit)
-judged errors error (inl h) = let same : error ≡ json.Memory = cc in rw same (inl refl)
-judged errors error (inr h) = judged_by errors error h
-
--- ---- the readings of items, one by one
-
-pub mapped_all : {X Y : Type 0} (f : X → Y) (xs : List X) (i : ℕ) (ys : List Y) → length xs ≤ i → ys ≡ map f (take i xs) → ys ≡ map f xs
-mapped_all f xs i ys all so_far = rw (take_all i xs all) at so_far
-
--- one item more that was read
-pub mapped_step : {X Y : Type 0} (f : X → Y) (xs : List X) (i : ℕ) (x : X) (done new : List Y) (y : Y) → i < length xs → x ≡ get_or xs i x
-    → done ≡ map f (take i xs) → new ≡ done ++ y ∷ [] → y ≡ f x
-    → new ≡ map f (take (i + 1) xs)
-mapped_step f xs i x done new y low here so_far e own = rw (e, so_far, own, take_more xs i x low, map-append) (ap (λ z. map f (take i xs) ++ f z ∷ []) here)
+  -- the first error, as an error of the caller
+  pub judged : (errors : List JsonFault) (error : JsonFault) → IsFirst (Err error) errors
+      → OrError memory (Err (of_json memory json error)) (first_or (map json errors) (tt {0}))
+  judged errors error (inl h) = let same : error ≡ Memory = cc in rw same (inl refl)
+  judged errors error (inr h) = judged_by errors error h
