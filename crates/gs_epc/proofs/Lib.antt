@@ -1,7 +1,6 @@
 pub mod FieldPlaces
 pub mod FieldRules
-pub mod TextsOfItems
-pub mod TextsOfWords
+pub mod FilterNumbers
 pub mod KeptFields
 pub mod KeptItems
 pub mod KeptLaws
