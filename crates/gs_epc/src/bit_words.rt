@@ -1,4 +1,6 @@
-ghost use Rattle.std.specs.Prelude.{◌≡◌, IfSome, []};
+ghost use Rattle.std.specs.Prelude.{◌≡◌, ◌++◌, ◌%◌, IfOk, IfSome, OnErr, [], length};
+ghost use Rattle.gs_bits.specs.HexText.{hex_of_bits};
+ghost use Rattle.gs_chars.specs.Answers.{BeginsWith};
 ghost use Rattle.std.specs.List.{slice_index_or};
 ghost use Rattle.gs_grammar.specs.Levels.{item_lists};
 ghost use Rattle.gs_grammar.specs.Ambiguity.{IsUnambiguous};
@@ -6,6 +8,7 @@ ghost use Rattle.gs_grammar_level.specs.Readings.{Reads};
 ghost use Rattle.gs_grammar_level.specs.declared.read.Reading.TheVariants.{One};
 
 use gs_bits::BitBuf;
+use gs_chars::Memory;
 use gs_grammar_level::Level;
 use std::marker::Model;
 
@@ -49,4 +52,13 @@ pub fn find_bits<'a>(level: &'a Level, bits: &'a BitBuf<64>, symbols: &[u8]) -> 
     ensures { IfSome result (λ words. Reads (item_lists level.now.options) bits.now (One words.option words.values)) }
 {
     None
+}
+
+/// Appends the digits of bits.
+pub fn append_hex(bits: &BitBuf<64>, out: &mut Vec<u8>) -> Result<(), Memory>
+    requires { length bits.now % 8 ≡ 0 }
+    ensures written { IfOk result (λ _. out.new.items ≡ out.old.items ++ hex_of_bits bits.now) }
+    ensures begun { OnErr result (BeginsWith out.new.items out.old.items) }
+{
+    Err(Memory)
 }
