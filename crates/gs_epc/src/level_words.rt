@@ -6,9 +6,8 @@ ghost use Rattle.gs_epc.specs.FieldTexts.{filter_number};
 ghost use Rattle.gs_epc.specs.Layout.{fields_in};
 ghost use Rattle.gs_epc.specs.WordsOfLevels.{words_in};
 
-use crate::bit_words::BitWords;
 use crate::fields::{KeyTexts, field_place, filter_number};
-use gs_grammar_level::Words;
+use gs_grammar_level::{BitWords, Words};
 use gs_tables::{Field, OptInfo};
 
 /// Room for the values of the fields of a key, to which those of bits are written.

@@ -28,7 +28,6 @@
 //! - If several encodings hold an EPC and none is requested, the first in the order of the tables is written.
 #![tactic(auto)]
 
-mod bit_words;
 mod candidates;
 mod epc;
 mod error;

@@ -8,7 +8,6 @@ ghost use Rattle.gs_epc.specs.Layout.{IsLaidOut};
 ghost use Rattle.gs_epc.specs.Readings.{ReadsAs, ReadsHex};
 ghost use Rattle.gs_epc.specs.WordsOfLevels.{AnswersWords, words_in};
 
-use crate::bit_words::find_bits;
 use crate::epc::EpcRef;
 use crate::fields::epc_with;
 use crate::layout::kind_at;
@@ -17,7 +16,7 @@ use crate::link_writer::append_laid_out;
 use gs_bits::BitBuf;
 use gs_chars::Memory;
 use gs_grammar::{MOST_SYMBOLS, unpack};
-use gs_grammar_level::find_words;
+use gs_grammar_level::{find_bits, find_words};
 use gs_tables::{LevelName, OptInfo, TableSet};
 use std::marker::Model;
 

@@ -6,7 +6,6 @@ ghost use Rattle.gs_epc.specs.Candidates.{Candidate, HasFilter, HasFilterOn};
 ghost use Rattle.gs_epc.specs.Tries.{AppendsDigits, AppendsOption, IsTried};
 ghost use Rattle.gs_epc.specs.Writes.{AppendsAs, WritesAs, field_at};
 
-use crate::bit_words::append_hex;
 use crate::candidates::{is_asked, left_out, values_for};
 use crate::epc::{Epc, EpcRef, lent};
 use crate::error::EpcWriteFault;
@@ -30,7 +29,7 @@ fn append_digits(option: &Opt, values: &[CowText<'_>], out: &mut Vec<u8>) -> Res
     if let Err(error) = write_bits(option, values, &mut bits) {
         return Err(error);
     }
-    match append_hex(&bits, out) {
+    match bits.append_hex(out) {
         Ok(()) => Ok(()),
         Err(_) => Err(WriteFault::Memory),
     }
