@@ -2,7 +2,7 @@
 use Rattle.std.proofs.Common.{◌≡◌, ℕ, zero, suc, ◌+◌, ◌<◌, ◌≤◌, Bool, true, false, if◌then◌else◌, List, [], ◌∷◌, length, position, Option, Some, None, option_map, slice_get, get_or, refl, sym, ap, ◌∙◌, arith}
 use Rattle.std.specs.Prelude.{zip}
 use Rattle.std.specs.List.{find}
-use Rattle.std.specs.Option.{option_and_then}
+use Rattle.std.specs.Option.{option_and_then, option_map_or}
 use Rattle.std.proofs.lemmas.Option.{slice_get_past}
 use Rattle.gs_tables_document.specs.declared.document.Field.{Field}
 use Rattle.gs_tables_document.specs.declared.document.Field.TheVariants.{Filter, Gcp, Rest, Piece, Total, Serial}
@@ -71,6 +71,17 @@ pub one_value : (field : Field) (fields : List (Option Field)) (values : List (L
 one_value field fields values k value place low read =
     let here = value_here field fields values k value place low read in
     rw here refl
+
+or_empty : (values : List (List ℕ)) (k : ℕ) → get_or values k [] ≡ option_map_or (λ value. value) (slice_get values k) []
+or_empty [] zero = refl
+or_empty [] (suc k) = refl
+or_empty (value ∷ values) zero = refl
+or_empty (value ∷ values) (suc k) = or_empty values k
+
+pub value_or_empty : (field : Field) (fields : List (Option Field)) (values : List (List ℕ)) (k : ℕ) → Some k ≡ position (is_field field) fields
+    → get_or values k [] ≡ value_of field fields values
+value_or_empty field fields values k place = or_empty values k
+    ∙ ap (λ (value : Option (List ℕ)). option_map_or (λ text. text) value []) (sym (value_from field fields values (Some k) place))
 
 -- ---- a field by its test
 

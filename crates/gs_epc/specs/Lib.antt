@@ -5,8 +5,10 @@ pub mod Filters
 pub mod KeptFields
 pub mod Layout
 pub mod LayoutSupport
+pub mod NumbersOfItems
 pub mod Readings
 pub mod ReadingsSupport
 pub mod KeyParts
 pub mod Writes
 pub mod Tries
+pub mod WordsOfLevels

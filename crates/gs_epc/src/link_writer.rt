@@ -4,53 +4,15 @@ ghost use Rattle.gs_chars.specs.Answers.{BeginsWith};
 ghost use Rattle.gs_ident.specs.Links.{path_step, percent_encoded, spelled};
 ghost use Rattle.gs_epc.specs.KeptFields.{FitKind};
 ghost use Rattle.gs_epc.specs.Layout.{AreKeyDigits, behind_check, key_digits, key_value, lay, parts_at};
-ghost use Rattle.gs_epc.specs.Layout.{fields_in, serial_elements, with_check, zero_in_front};
+ghost use Rattle.gs_epc.specs.Layout.{serial_elements, with_check, zero_in_front};
 
-use crate::epc::EpcRef;
+use crate::fields::KeyTexts;
 use crate::key_parts::parts_of;
 use crate::layout::{serial_code, tail_of_key, zero_in_front};
 use gs_ai::Part;
 use gs_chars::{Memory, check_digit};
 use gs_ident::{append_element, append_escaped};
 use gs_tables::{Kind, TableSet, are_characters};
-use std::marker::Model;
-
-/// The fields of a key, each text lent.
-#[derive(Drop)]
-pub(crate) struct KeyTexts<'a> {
-    pub prefix: &'a [u8],
-    pub rest: &'a [u8],
-    pub piece: &'a [u8],
-    pub total: &'a [u8],
-    pub serial: &'a [u8],
-}
-
-impl<'a> Model for KeyTexts<'a> {
-    ghost use Rattle.gs_epc.specs.Layout.{KeyFields};
-
-    ghost Value = { KeyFields };
-
-    ghost view = { λ t. record {
-      prefix = t.prefix.now;
-      rest = t.rest.now;
-      piece = t.piece.now;
-      total = t.total.now;
-      serial = t.serial.now;
-    } };
-}
-
-/// Returns the fields of an EPC's key.
-pub(crate) fn key_texts<'a>(epc: &'a EpcRef<'_>) -> KeyTexts<'a>
-    ensures { result ≡ fields_in epc.now }
-{
-    KeyTexts {
-        prefix: epc.prefix,
-        rest: epc.rest.as_bytes(),
-        piece: epc.piece,
-        total: epc.total,
-        serial: epc.serial,
-    }
-}
 
 /// Appends digits, usually one, for which a push takes fewer instructions than appending a slice.
 fn append_few(out: &mut Vec<u8>, digits: &[u8]) -> Result<(), Memory>

@@ -16,10 +16,10 @@ ghost use Rattle.gs_epc.specs.Writes.{ReadsText};
 
 use crate::epc::{Epc, EpcRef};
 use crate::error::EpcFault;
-use crate::fields::epc_of;
+use crate::fields::{epc_of, key_texts};
 use crate::key_parts::copied;
 use crate::layout::{KeyAndSerial, key_and_serial, kind_at, lay_out};
-use crate::link_writer::{append_laid_out, key_texts};
+use crate::link_writer::append_laid_out;
 use gs_bits::BitBuf;
 use gs_chars::{CowText, List, Memory};
 use gs_grammar::MOST_SYMBOLS;
@@ -93,8 +93,8 @@ impl EpcReading<'_> {
         ensures begun { OnErr result (BeginsWith out.new.items out.old.items) }
     {
         let kind = kind_at(set, self.info.kind);
-        let lent = self.epc();
-        append_laid_out(set, self.info.kind, kind, &key_texts(&lent), stem, out)
+        let texts = key_texts(self.info, self.values.items());
+        append_laid_out(set, self.info.kind, kind, &texts, stem, out)
     }
 }
 
