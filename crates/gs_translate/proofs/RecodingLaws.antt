@@ -38,12 +38,9 @@ use Rattle.gs_epc.proofs.TakenSets.{apart}
 use Rattle.gs_translate.specs.declared.reader.Meaning.{Meaning}
 use Rattle.gs_translate.specs.declared.form.Options.{Options}
 use Rattle.gs_translate.specs.declared.form.Target.{Target}
-use Rattle.gs_translate.specs.declared.form.Target.TheVariants as target
 use Rattle.gs_translate.specs.declared.reason.Reason.{Reason}
 use Rattle.gs_translate.specs.Meanings.{IsRead, epc_meaning, short}
-use Rattle.gs_translate.specs.MeaningsSupport.{epc_reason}
-use Rattle.gs_translate.specs.Recodings.{IsLink, form_at, stem_of}
-use Rattle.gs_ident.specs.Links.{spelled}
+use Rattle.gs_translate.specs.MeaningsSupport.{epc_reason, form_at}
 use Rattle.gs_translate.specs.Steps.{AppendsText, UnlessMemory, rejects}
 use Rattle.gs_translate.specs.Targets.{epc_for, has_option, is_option_of, is_serial, kept, key_and_serial, kind_for, length_for, narrowed, with_tag}
 use Rattle.gs_translate.specs.Targets as targets
@@ -161,15 +158,6 @@ module _ (set : TableRows) (prefixes : List PrefixEntry) (options : Options) (ep
       let back = apart set epc identity shaped of laid in
       rw (own_kind, own_length, back) refl
 
--- ---- the spelling of an EPC
-
--- the link of an identity is the spelling of a meaning with it
-pub link_spelled : (set : TableRows) (prefixes : List PrefixEntry) (options : Options) (to : Target) (meaning : Meaning) → IsLink to
-    → IsSpelling set prefixes options to meaning (Ok (spelled (stem_of options to) meaning.identity))
-link_spelled set prefixes options target.Link meaning link = refl
-link_spelled set prefixes options target.Canon meaning link = refl
-link_spelled set prefixes options to meaning link = absurd link
-
 -- ---- the identity of an EPC has no more than its key and its serial
 
 own_kept : (code : List ℕ) (pair : Pair) (none : Bool) → pair.code ≡ code
@@ -209,15 +197,6 @@ translated set prefixes options from to text epc before now result shaped few re
     let meaning = epc_meaning epc elements in
     let whole : UnlessMemory result (AppendsText (IsSpelling set prefixes options to (kept set options.keys_only meaning)) before now result) = subst (λ (m : Meaning). UnlessMemory result (AppendsText (IsSpelling set prefixes options to m) before now result)) (kept_laid set options.keys_only epc elements shaped laid) (spelled elements laid) in
     then_appended (IsRead set (form_at from) text) (λ m. IsSpelling set prefixes options to (kept set options.keys_only m)) meaning before now result (short few (means_at set from text epc elements read laid)) whole
-
--- so is the link of the EPC
-pub appended_link : (set : TableRows) (prefixes : List PrefixEntry) (options : Options) (from : LevelName) (to : Target) (text : List ℕ) (epc : Epc) (before now : List ℕ)
-    → IsShaped set → length text ≤ longest_text → IsLink to → ReadsText set from text (Ok epc) → IsOfSet set epc
-    → ((identity : Elements) → IsLaidOut set epc identity → now ≡ before ++ spelled (stem_of options to) identity)
-    → UnlessMemory {X = Unit {0}} (Ok tt) (AppendsText {Done = Unit {0}} (IsTranslation set prefixes options (form_at from) to text) before now (Ok tt))
-appended_link set prefixes options from to text epc before now shaped few link read of written =
-    translated set prefixes options from to text epc before now (Ok (tt {0})) shaped few read of
-    (λ identity laid. (spelled (stem_of options to) identity, written identity laid, link_spelled set prefixes options to (epc_meaning epc identity) link))
 
 -- why a text is not read is why it has no translation
 not_read : (set : TableRows) (prefixes : List PrefixEntry) (options : Options) (from : LevelName) (to : Target) (text : List ℕ)

@@ -1,4 +1,4 @@
-ghost use Rattle.std.specs.Prelude.{◌≡◌, ◌≤◌, IfSome, List, Ok, OnErr, length};
+ghost use Rattle.std.specs.Prelude.{◌≤◌, IfSome, List, Ok, OnErr, length};
 ghost use Rattle.gs_chars.specs.Answers.{BeginsWith};
 ghost use Rattle.gs_chars.specs.Limits.{longest_text};
 ghost use Rattle.gs_epc.specs.Epcs.{IsOfSet};
@@ -7,7 +7,8 @@ ghost use Rattle.gs_epc.specs.Writes.{ReadsText};
 ghost use Rattle.gs_ident.specs.Elements.{Elements};
 ghost use Rattle.gs_prefix.specs.declared.entry.PrefixEntry.{PrefixEntry};
 ghost use Rattle.gs_translate.specs.Meanings.{epc_meaning};
-ghost use Rattle.gs_translate.specs.Recodings.{IsLink, form_at, stem_of};
+ghost use Rattle.gs_translate.specs.declared.form.Form.{Form};
+ghost use Rattle.gs_translate.specs.MeaningsSupport.{form_at};
 ghost use Rattle.gs_translate.specs.Steps.{AppendsText, UnlessMemory};
 ghost use Rattle.gs_translate.specs.Targets.{FitsFilter};
 ghost use Rattle.gs_translate.specs.Translations.{AreInOrder, IsOfLevel, IsSpelling, IsTranslation};
@@ -17,7 +18,7 @@ use crate::reason::Reason;
 use crate::spelling::append_epc;
 use crate::tag_fields::retagged;
 use gs_element::{append_bracketed_pairs, append_raw_pairs};
-use gs_epc::{EpcReading, EpcRef, EpcWords, reading_of, words_of};
+use gs_epc::{EpcReading, EpcRef, EpcWords, Rooms, TagBits, bit_words_of, reading_of, words_of};
 use gs_grammar::MOST_SYMBOLS;
 use gs_ident::CANONICAL_STEM;
 use gs_tables::{LevelName, TableSet};
@@ -84,37 +85,6 @@ fn append_reading(
     }
 }
 
-/// Returns the stem of a link that is the target.
-fn stem_of(options: &Options, to: Target) -> &[u8]
-    ensures { result.now ≡ stem_of options.now to }
-{
-    match to {
-        Target::Link => options.stem.as_bytes(),
-        _ => CANONICAL_STEM.as_bytes(),
-    }
-}
-
-/// Finds the words of an EPC URI that is to be written as a link. `None` says nothing: `append_read` decides then.
-fn link_words<'a>(
-    set: &'a TableSet,
-    from: LevelName,
-    to: Target,
-    text: &'a [u8],
-) -> Option<EpcWords<'a>>
-    ensures link { IfSome result (λ _. IsLink to) }
-    ensures answer { IfSome result (λ epc. ReadsText set.now from text.now (Ok epc)) }
-    ensures of_set { IfSome result (IsOfSet set.now) }
-{
-    match to {
-        Target::Link | Target::Canon => match from {
-            LevelName::Binary => None,
-            LevelName::Tag => words_of(set, LevelName::Tag, text),
-            LevelName::Pure => words_of(set, LevelName::Pure, text),
-        },
-        _ => None,
-    }
-}
-
 /// Appends the translation of a text of a level as `append_of_level` does, by its reading.
 #[inline(never)]
 fn append_read(
@@ -140,9 +110,77 @@ fn append_read(
     append_reading(alloc, set, options, to, &reading, out)
 }
 
+/// Appends the translation of a text of a level as `append_of_level` does: by its words, if these are given, otherwise by its
+/// reading. Element strings are written of a reading.
+fn append_found(
+    alloc: Global,
+    set: &TableSet,
+    options: &Options,
+    from: LevelName,
+    to: Target,
+    text: &[u8],
+    found: Option<EpcWords<'_>>,
+    out: &mut Vec<u8>,
+) -> Result<(), Reason>
+    requires options { AreInOrder options.now }
+    requires short { length text.now ≤ longest_text }
+    requires answer { IfSome found (λ epc. ReadsText set.now from text.now (Ok epc)) }
+    requires of_set { IfSome found (IsOfSet set.now) }
+    ensures written { (prefixes : List PrefixEntry) → UnlessMemory result (AppendsText
+        (IsTranslation set.now prefixes options.now (form_at from) to text.now)
+        out.old.items out.new.items result) }
+    ensures begun { OnErr result (BeginsWith out.new.items out.old.items) }
+{
+    // only for the proof: the rows satisfy the rules of tables
+    let _ = set.ais();
+    let Some(words) = found else {
+        return append_read(alloc, set, options, from, to, text, out);
+    };
+    let mut rooms = Rooms::new();
+    match to {
+        Target::Hex => {
+            let epc = words.epc(&mut rooms);
+            append_recoded(alloc, set, options, LevelName::Binary, epc, out)
+        }
+        Target::Tag => {
+            let epc = words.epc(&mut rooms);
+            append_recoded(alloc, set, options, LevelName::Tag, epc, out)
+        }
+        Target::Pure => {
+            let epc = words.epc(&mut rooms);
+            append_recoded(alloc, set, options, LevelName::Pure, epc, out)
+        }
+        Target::Raw | Target::Bracketed => append_read(alloc, set, options, from, to, text, out),
+        Target::Link => Ok(words.append_link(set, options.stem.as_bytes(), out)?),
+        Target::Canon => Ok(words.append_link(set, CANONICAL_STEM.as_bytes(), out)?),
+    }
+}
+
+/// Appends the translation of the bits of a tag as `append_of_level` does. It has room for bits, which other texts do not need.
+#[inline(never)]
+fn append_of_bits(
+    alloc: Global,
+    set: &TableSet,
+    options: &Options,
+    to: Target,
+    text: &[u8],
+    out: &mut Vec<u8>,
+) -> Result<(), Reason>
+    requires options { AreInOrder options.now }
+    requires short { length text.now ≤ longest_text }
+    ensures written { (prefixes : List PrefixEntry) → UnlessMemory result (AppendsText
+        (IsTranslation set.now prefixes options.now Form.Hex to text.now)
+        out.old.items out.new.items result) }
+    ensures begun { OnErr result (BeginsWith out.new.items out.old.items) }
+{
+    let mut room = TagBits::new();
+    let found = bit_words_of(set, text, &mut room);
+    append_found(alloc, set, options, LevelName::Binary, to, text, found, out)
+}
+
 /// Appends the translation of a text of a level, or returns the first reason why it is rejected. The text is not too long. The
-/// identity of an EPC has only a key and its serial, so keeping only keys does not change it. A link of an EPC URI is written of its words, if each spells
-/// its value.
+/// identity of an EPC has only a key and its serial, so keeping only keys does not change it. A text whose words are found needs
+/// no reading, except for an element string.
 pub(crate) fn append_of_level(
     alloc: Global,
     set: &TableSet,
@@ -159,10 +197,18 @@ pub(crate) fn append_of_level(
         out.old.items out.new.items result) }
     ensures begun { OnErr result (BeginsWith out.new.items out.old.items) }
 {
-    // only for the proof: the rows satisfy the rules of tables
-    let _ = set.ais();
-    match link_words(set, from, to, text) {
-        Some(words) => Ok(words.append_link(set, stem_of(options, to), out)?),
-        None => append_read(alloc, set, options, from, to, text, out),
+    if let Target::Raw | Target::Bracketed = to {
+        return append_read(alloc, set, options, from, to, text, out);
+    }
+    match from {
+        LevelName::Binary => append_of_bits(alloc, set, options, to, text, out),
+        LevelName::Tag => {
+            let found = words_of(set, LevelName::Tag, text);
+            append_found(alloc, set, options, LevelName::Tag, to, text, found, out)
+        }
+        LevelName::Pure => {
+            let found = words_of(set, LevelName::Pure, text);
+            append_found(alloc, set, options, LevelName::Pure, to, text, found, out)
+        }
     }
 }

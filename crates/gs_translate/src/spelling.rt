@@ -66,39 +66,23 @@ pub(crate) fn append_spelling(
     prefixes: &PrefixList,
     options: &Options,
     to: Target,
-    identity: Identity<'_>,
+    named: Identity<'_>,
     out: &mut Vec<u8>,
 ) -> Result<(), Reason>
     requires options { AreInOrder options.now }
-    requires with_table { IsMadeWith set.now.ais identity }
+    requires with_table { IsMadeWith set.now.ais named }
     ensures written { UnlessMemory result (AppendsText
-        (IsSpelling set.now prefixes.now options.now to (identity_meaning identity.entry))
+        (IsSpelling set.now prefixes.now options.now to (identity_meaning named.entry))
         out.old.items out.new.items result) }
     ensures begun { OnErr result (BeginsWith out.new.items out.old.items) }
 {
     match to {
-        Target::Hex => append_alone(
-            alloc,
-            set,
-            prefixes,
-            options,
-            LevelName::Binary,
-            identity,
-            out,
-        ),
-        Target::Tag => append_alone(alloc, set, prefixes, options, LevelName::Tag, identity, out),
-        Target::Pure => append_alone(
-            alloc,
-            set,
-            prefixes,
-            options,
-            LevelName::Pure,
-            identity,
-            out,
-        ),
-        Target::Raw => Ok(append_raw(out, set.ais(), &identity)?),
-        Target::Bracketed => Ok(append_bracketed(out, &identity)?),
-        Target::Link => Ok(append_link(out, options.stem.as_bytes(), &identity)?),
-        Target::Canon => Ok(append_canonical(out, &identity)?),
+        Target::Hex => append_alone(alloc, set, prefixes, options, LevelName::Binary, named, out),
+        Target::Tag => append_alone(alloc, set, prefixes, options, LevelName::Tag, named, out),
+        Target::Pure => append_alone(alloc, set, prefixes, options, LevelName::Pure, named, out),
+        Target::Raw => Ok(append_raw(out, set.ais(), &named)?),
+        Target::Bracketed => Ok(append_bracketed(out, &named)?),
+        Target::Link => Ok(append_link(out, options.stem.as_bytes(), &named)?),
+        Target::Canon => Ok(append_canonical(out, &named)?),
     }
 }
