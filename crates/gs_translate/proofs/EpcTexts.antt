@@ -16,8 +16,7 @@ use Rattle.gs_translate.specs.declared.reader.Meaning.{Meaning}
 use Rattle.gs_translate.specs.declared.reason.Reason.{Reason}
 use Rattle.gs_translate.specs.declared.reason.Reason.TheVariants.{Epc as NoEpc}
 use Rattle.gs_translate.specs.Meanings.{Means, MeansEpc, epc_meaning}
-use Rattle.gs_translate.specs.MeaningsSupport.{epc_reason}
-use Rattle.gs_translate.specs.Recodings.{form_at}
+use Rattle.gs_translate.specs.MeaningsSupport.{epc_reason, form_at}
 use Rattle.gs_translate.specs.Steps.{Reworded, Then, UnlessMemory, goes_on, rejects}
 use Rattle.gs_translate.specs.Targets.{FitsFilter}
 use Rattle.gs_translate.proofs.FilterLaws.{said_fits}

@@ -1,10 +1,9 @@
 -- An EPC that is written in another form: the identity that it names, taken apart, gives its fields back, and has nothing but its
 -- key and its serial.
-use Rattle.std.proofs.Common.{◌≡◌, ℕ, ◌==◌, ◌+◌, ◌<◌, ◌≤◌, ◌&&◌, ◌||◌, Bool, true, false, not, length, List, [], ◌∷◌, ◌++◌, Some, None, filter, find, map, position, slice_get, take, refl, sym, ap, subst, ◌∙◌, arith}
+use Rattle.std.proofs.Common.{◌≡◌, ℕ, ◌==◌, ◌+◌, ◌≤◌, ◌&&◌, ◌||◌, Bool, true, false, not, length, List, [], ◌∷◌, ◌++◌, Some, None, filter, find, map, position, slice_get, take, refl, sym, ap, subst, ◌∙◌, arith}
 use Rattle.std.specs.Prelude.{Result, Ok, Err, if◌then◌else◌}
 use Rattle.std.specs.List.{list_any}
 use Rattle.std.specs.Option.{option_map_or}
-use Rattle.std.proofs.lemmas.Bool.Decides.{nat_tests}
 use Rattle.std.proofs.lemmas.Option.{slice_get-map}
 use Rattle.gs_chars.specs.Limits.{longest_text}
 use Rattle.gs_chars.proofs.TruthsAndLists.{get_take, mapped_some, same_bytes, same_number}
@@ -30,31 +29,24 @@ use Rattle.gs_tables.specs.Rules.{fits_key, has_key, is_kind, is_new_name}
 use Rattle.gs_tables.specs.Tables.{IsShaped, TableRows, kind_of, kind_rejections, kinds_rejections, level_rows}
 use Rattle.gs_epc.specs.declared.epc.Epc.{Epc}
 use Rattle.gs_epc.specs.declared.error.EpcFault.{EpcFault}
-use Rattle.gs_epc.specs.declared.error.EpcWriteFault.TheVariants as write
 use Rattle.gs_epc.specs.Epcs.{IsOfSet}
 use Rattle.gs_epc.specs.Layout.{IsLaidOut, fields_in, key_pair, lay, serial_elements}
-use Rattle.gs_epc.specs.Writes.{ReadsText, WritesAs}
+use Rattle.gs_epc.specs.Writes.{ReadsText}
 use Rattle.gs_epc.proofs.KeptLaws.{fit_kind}
 use Rattle.gs_epc.proofs.LaidLaws.{no_kinds}
 use Rattle.gs_epc.proofs.TakenSets.{apart}
 use Rattle.gs_translate.specs.declared.reader.Meaning.{Meaning}
 use Rattle.gs_translate.specs.declared.form.Options.{Options}
-use Rattle.gs_translate.specs.declared.form.PairsForm.{PairsForm}
-use Rattle.gs_translate.specs.declared.form.PairsForm.TheVariants as pairs
 use Rattle.gs_translate.specs.declared.form.Target.{Target}
-use Rattle.gs_translate.specs.declared.form.Target.TheVariants as target
 use Rattle.gs_translate.specs.declared.reason.Reason.{Reason}
-use Rattle.gs_translate.specs.declared.reason.Reason.TheVariants.{Long}
-use Rattle.gs_translate.specs.Meanings.{IsRead, epc_meaning, short, too_long}
-use Rattle.gs_translate.specs.MeaningsSupport.{epc_reason}
-use Rattle.gs_translate.specs.Recodings.{IsLink, IsRecoded, form_at, pairs_target, pairs_text, stem_of, target_at}
-use Rattle.gs_ident.specs.Links.{spelled}
-use Rattle.gs_translate.specs.Steps.{AppendsText, Reworded, Then, UnlessMemory, goes_on, rejects}
+use Rattle.gs_translate.specs.Meanings.{IsRead, epc_meaning, short}
+use Rattle.gs_translate.specs.MeaningsSupport.{epc_reason, form_at}
+use Rattle.gs_translate.specs.Steps.{AppendsText, UnlessMemory, rejects}
 use Rattle.gs_translate.specs.Targets.{epc_for, has_option, is_option_of, is_serial, kept, key_and_serial, kind_for, length_for, narrowed, with_tag}
 use Rattle.gs_translate.specs.Targets as targets
-use Rattle.gs_translate.specs.Translations.{IsOfLevel, IsSpelling, IsTranslation, form_of, write_reason}
+use Rattle.gs_translate.specs.Translations.{IsSpelling, IsTranslation}
 use Rattle.gs_translate.proofs.EpcTexts.{means_at, none_read}
-use Rattle.gs_translate.proofs.StepLaws.{appends_map, then_appended, unless_map, unless_rejected}
+use Rattle.gs_translate.proofs.StepLaws.{then_appended, unless_rejected}
 use Rattle.gs_chars.proofs.Searches.{find_at_place, position-map, position_is}
 use Rattle.std.proofs.lemmas.Bool.{and_from, and_parts, not-true, false_from_ne_true}
 
@@ -166,56 +158,6 @@ module _ (set : TableRows) (prefixes : List PrefixEntry) (options : Options) (ep
       let back = apart set epc identity shaped of laid in
       rw (own_kind, own_length, back) refl
 
--- ---- the spelling of an EPC
-
-of_first : {A B : Type 0} (First Other : Result A Reason → Type 0) (Next : A → Result B Reason → Type 0) (answer : Result B Reason)
-    → ((a : Result A Reason) → First a → Other a) → Then First Next answer → Then Other Next answer
-of_first First Other Next answer f (rejects error first is) = rejects error (f (Err error) first) is
-of_first First Other Next answer f (goes_on a first next) = goes_on a (f (Ok a) first) next
-
-spelled_at : (set : TableRows) (prefixes : List PrefixEntry) (options : Options) (to : LevelName) (meaning : Meaning) (answer : Result (List ℕ) Reason)
-    → IsOfLevel set prefixes options to meaning answer → IsSpelling set prefixes options (target_at to) meaning answer
-spelled_at set prefixes options level.Binary meaning answer h = h
-spelled_at set prefixes options level.Tag meaning answer h = h
-spelled_at set prefixes options level.Pure meaning answer h = h
-
-pub appended_at : {Done : Type 0} (set : TableRows) (prefixes : List PrefixEntry) (options : Options) (to : LevelName) (meaning : Meaning) (before now : List ℕ) (result : Result Done Reason)
-    → UnlessMemory result (AppendsText (IsOfLevel set prefixes options to meaning) before now result) → UnlessMemory result
-    (AppendsText (IsSpelling set prefixes options (target_at to) meaning) before now result)
-appended_at set prefixes options to meaning before now result appended =
-    unless_map result (appends_map (IsOfLevel set prefixes options to meaning) (IsSpelling set prefixes options (target_at to) meaning) before now result (spelled_at set prefixes options to meaning)) appended
-
--- the text of a level for an EPC is the spelling of its meaning
-recoded_spelled : (set : TableRows) (prefixes : List PrefixEntry) (options : Options) (to : LevelName) (epc : Epc) (identity : Elements) (answer : Result (List ℕ) Reason)
-    → IsShaped set → IsOfSet set epc → IsLaidOut set epc identity → IsRecoded set options to epc identity answer
-    → IsSpelling set prefixes options (target_at to) (epc_meaning epc identity) answer
-recoded_spelled set prefixes options to epc identity answer shaped of laid written =
-    let meaning = epc_meaning epc identity in
-    let back = own_epc set prefixes options epc identity shaped of laid to in
-    spelled_at set prefixes options to meaning answer (of_first (λ tagged. tagged ≡ with_tag options to meaning epc) (λ tagged. tagged ≡ epc_for set prefixes options to meaning) (λ tagged. Reworded write.Memory write_reason (WritesAs set to tagged)) answer (λ tagged is. is ∙ sym back) written)
-
-pub appended_recoded : {Done : Type 0} (set : TableRows) (prefixes : List PrefixEntry) (options : Options) (to : LevelName) (epc : Epc) (identity : Elements) (before now : List ℕ) (result : Result Done Reason)
-    → IsShaped set → IsOfSet set epc → IsLaidOut set epc identity
-    → UnlessMemory result (AppendsText (IsRecoded set options to epc identity) before now result) → UnlessMemory result
-    (AppendsText (IsSpelling set prefixes options (target_at to) (epc_meaning epc identity)) before now result)
-appended_recoded set prefixes options to epc identity before now result shaped of laid appended =
-    unless_map result (appends_map (IsRecoded set options to epc identity) (IsSpelling set prefixes options (target_at to) (epc_meaning epc identity)) before now result (λ answer written. recoded_spelled set prefixes options to epc identity answer shaped of laid written)) appended
-
--- the text of an identity is the spelling of a meaning with it
-pub pairs_spelled : (set : TableRows) (prefixes : List PrefixEntry) (options : Options) (to : PairsForm) (meaning : Meaning)
-    → IsSpelling set prefixes options (pairs_target to) meaning (Ok (pairs_text options to meaning.identity))
-pairs_spelled set prefixes options pairs.Raw meaning = refl
-pairs_spelled set prefixes options pairs.Bracketed meaning = refl
-pairs_spelled set prefixes options pairs.Link meaning = refl
-pairs_spelled set prefixes options pairs.Canon meaning = refl
-
--- the link of an identity is the spelling of a meaning with it
-pub link_spelled : (set : TableRows) (prefixes : List PrefixEntry) (options : Options) (to : Target) (meaning : Meaning) → IsLink to
-    → IsSpelling set prefixes options to meaning (Ok (spelled (stem_of options to) meaning.identity))
-link_spelled set prefixes options target.Link meaning link = refl
-link_spelled set prefixes options target.Canon meaning link = refl
-link_spelled set prefixes options to meaning link = absurd link
-
 -- ---- the identity of an EPC has no more than its key and its serial
 
 own_kept : (code : List ℕ) (pair : Pair) (none : Bool) → pair.code ≡ code
@@ -243,12 +185,6 @@ kept_laid set false epc identity shaped laid = refl
 
 -- ---- translations
 
--- the target of a level is read in its form
-pub form_read : (name : LevelName) → form_of (target_at name) ≡ form_at name
-form_read level.Binary = refl
-form_read level.Tag = refl
-form_read level.Pure = refl
-
 -- what is appended as the spelling of the EPC of a text is the translation of the text, also if only keys are kept
 pub translated : {Done : Type 0} (set : TableRows) (prefixes : List PrefixEntry) (options : Options) (from : LevelName) (to : Target) (text : List ℕ) (epc : Epc) (before now : List ℕ) (result : Result Done Reason)
     → IsShaped set → length text ≤ longest_text → ReadsText set from text (Ok epc) → IsOfSet set epc
@@ -262,20 +198,7 @@ translated set prefixes options from to text epc before now result shaped few re
     let whole : UnlessMemory result (AppendsText (IsSpelling set prefixes options to (kept set options.keys_only meaning)) before now result) = subst (λ (m : Meaning). UnlessMemory result (AppendsText (IsSpelling set prefixes options to m) before now result)) (kept_laid set options.keys_only epc elements shaped laid) (spelled elements laid) in
     then_appended (IsRead set (form_at from) text) (λ m. IsSpelling set prefixes options to (kept set options.keys_only m)) meaning before now result (short few (means_at set from text epc elements read laid)) whole
 
--- so is the link of the EPC
-pub appended_link : (set : TableRows) (prefixes : List PrefixEntry) (options : Options) (from : LevelName) (to : Target) (text : List ℕ) (epc : Epc) (before now : List ℕ)
-    → IsShaped set → length text ≤ longest_text → IsLink to → ReadsText set from text (Ok epc) → IsOfSet set epc
-    → ((identity : Elements) → IsLaidOut set epc identity → now ≡ before ++ spelled (stem_of options to) identity)
-    → UnlessMemory {X = Unit {0}} (Ok tt) (AppendsText {Done = Unit {0}} (IsTranslation set prefixes options (form_at from) to text) before now (Ok tt))
-appended_link set prefixes options from to text epc before now shaped few link read of written =
-    translated set prefixes options from to text epc before now (Ok (tt {0})) shaped few read of
-    (λ identity laid. (spelled (stem_of options to) identity, written identity laid, link_spelled set prefixes options to (epc_meaning epc identity) link))
-
 -- why a text is not read is why it has no translation
-pub long_rejected : (set : TableRows) (prefixes : List PrefixEntry) (options : Options) (from : LevelName) (to : Target) (text : List ℕ)
-    → longest_text < length text → IsTranslation set prefixes options (form_at from) to text (Err Long)
-long_rejected set prefixes options from to text more = rejects Long (too_long more refl) refl
-
 not_read : (set : TableRows) (prefixes : List PrefixEntry) (options : Options) (from : LevelName) (to : Target) (text : List ℕ)
     (error : EpcFault) → length text ≤ longest_text → ReadsText set from text (Err error) → UnlessMemory {X = List ℕ}
     (Err (epc_reason error)) (IsTranslation set prefixes options (form_at from) to text (Err (epc_reason error)))

@@ -7,6 +7,5 @@ pub mod Reasons
 pub mod Targets
 pub mod TargetsSupport
 pub mod Translations
-pub mod Recodings
 pub mod Conditions
 pub mod MigratedTables

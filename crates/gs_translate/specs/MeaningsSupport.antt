@@ -9,7 +9,11 @@ use Rattle.gs_epc.specs.declared.error.EpcFault.{EpcFault}
 use Rattle.gs_epc.specs.declared.error.EpcFault.TheVariants.{Hex, NoReading, Memory as NoRoom}
 use Rattle.gs_ident.specs.declared.errors.IdentFault.{IdentFault}
 use Rattle.gs_ident.specs.Elements.{Elements}
+use Rattle.gs_tables_document.specs.declared.document.LevelName.{LevelName}
+use Rattle.gs_tables_document.specs.declared.document.LevelName.TheVariants as level
 use Rattle.gs_tables.specs.Tables.{TableRows}
+use Rattle.gs_translate.specs.declared.form.Form.{Form}
+use Rattle.gs_translate.specs.declared.form.Form.TheVariants as form
 use Rattle.gs_translate.specs.declared.reader.Meaning.{Meaning}
 use Rattle.gs_translate.specs.declared.reason.Reason.{Reason}
 use Rattle.gs_translate.specs.declared.reason.Reason.TheVariants.{Element, Epc as NoEpc, Ident, Memory as OutOfMemory}
@@ -26,6 +30,12 @@ abbrev pub epc_reason : EpcFault → Reason
 epc_reason NoRoom = OutOfMemory
 epc_reason (Hex error) = NoEpc (Hex error)
 epc_reason NoReading = NoEpc NoReading
+
+-- the form of the texts of a level
+abbrev pub form_at : LevelName → Form
+form_at level.Binary = form.Hex
+form_at level.Tag = form.Tag
+form_at level.Pure = form.Pure
 
 -- holds if `answer` is the pairs that a link names, or why it names none
 abbrev pub ReadsLink : TableRows → List ℕ → Result (List Pair) Reason → Type 0

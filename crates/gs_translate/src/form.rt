@@ -1,5 +1,4 @@
 use gs_chars::Text;
-use gs_tables::LevelName;
 
 /// A form that texts are read in.
 #[derive(Clone, Copy)]
@@ -35,26 +34,6 @@ pub enum Target {
     Link,
     /// Canonical GS1 Digital Links (GS1 Digital Link URI Syntax, section 5).
     Canon,
-}
-
-/// A form that is written only of an identity: element strings and links.
-#[derive(Clone, Copy)]
-pub(crate) enum PairsForm {
-    /// Element strings without anything at the start.
-    Raw,
-    /// Bracketed element strings.
-    Bracketed,
-    /// GS1 Digital Links under the stem of the options.
-    Link,
-    /// Canonical GS1 Digital Links.
-    Canon,
-}
-
-/// The value of a text that is read or written: an EPC, with its level, or the pairs of an identity, with their form.
-#[derive(Clone, Copy)]
-pub(crate) enum Written {
-    Epc(LevelName),
-    Pairs(PairsForm),
 }
 
 /// The facts of an EPC that an identity may not have.

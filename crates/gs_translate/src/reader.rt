@@ -7,11 +7,9 @@ ghost use Rattle.gs_translate.specs.declared.reason.Reason.TheVariants.{Epc as N
 ghost use Rattle.gs_translate.specs.Meanings.{IsIdentified, IsRead, Means, MeansEpc, identity_meaning};
 ghost use Rattle.gs_translate.specs.Steps.{Reworded, Then, UnlessMemory};
 ghost use Rattle.gs_translate.specs.MeaningsSupport.{alone};
-ghost use Rattle.gs_translate.specs.Recodings.{pairs_target};
-ghost use Rattle.gs_translate.specs.Translations.{form_of};
 ghost use Rattle.gs_translate.specs.declared.form.Form.{Form};
 
-use crate::form::{Form, PairsForm};
+use crate::form::Form;
 use crate::reason::Reason;
 use gs_ai::Pair;
 use gs_chars::{LONGEST_TEXT, Memory, Text};
@@ -82,9 +80,9 @@ pub fn read<'a>(
         Form::Hex => level_meaning(alloc, set, LevelName::Binary, text),
         Form::Tag => level_meaning(alloc, set, LevelName::Tag, text),
         Form::Pure => level_meaning(alloc, set, LevelName::Pure, text),
-        Form::Raw => pairs_meaning(alloc, set, PairsForm::Raw, text),
-        Form::Bracketed => pairs_meaning(alloc, set, PairsForm::Bracketed, text),
-        Form::Link => pairs_meaning(alloc, set, PairsForm::Link, text),
+        Form::Raw => Ok(meaning_alone(alloc, raw_identity(alloc, set, text)?)),
+        Form::Bracketed => Ok(meaning_alone(alloc, bracketed_identity(alloc, set, text)?)),
+        Form::Link => Ok(meaning_alone(alloc, link_identity(alloc, set, text)?)),
     }
 }
 
@@ -142,7 +140,11 @@ fn pairs_identity<'a>(
 }
 
 /// Returns the identity that an element string names as a barcode scanner transmits it.
-fn raw_identity<'a>(alloc: Global, set: &TableSet, text: &'a [u8]) -> Result<Identity<'a>, Reason>
+pub(crate) fn raw_identity<'a>(
+    alloc: Global,
+    set: &TableSet,
+    text: &'a [u8],
+) -> Result<Identity<'a>, Reason>
     ensures named { UnlessMemory result (Means set.now Form.Raw text.now (alone result)) }
     ensures with_table { IfOk result (IsMadeWith set.now.ais) }
 {
@@ -151,7 +153,7 @@ fn raw_identity<'a>(alloc: Global, set: &TableSet, text: &'a [u8]) -> Result<Ide
 }
 
 /// Returns the identity that a bracketed element string (human readable interpretation) names.
-fn bracketed_identity<'a>(
+pub(crate) fn bracketed_identity<'a>(
     alloc: Global,
     set: &TableSet,
     text: &'a [u8],
@@ -164,42 +166,14 @@ fn bracketed_identity<'a>(
 }
 
 /// Returns the identity that a link names.
-fn link_identity<'a>(alloc: Global, set: &TableSet, text: &'a [u8]) -> Result<Identity<'a>, Reason>
+pub(crate) fn link_identity<'a>(
+    alloc: Global,
+    set: &TableSet,
+    text: &'a [u8],
+) -> Result<Identity<'a>, Reason>
     ensures named { UnlessMemory result (Means set.now Form.Link text.now (alone result)) }
     ensures with_table { IfOk result (IsMadeWith set.now.ais) }
 {
     let pairs = read_link(alloc, set.ais(), text)?;
     pairs_identity(alloc, set, pairs)
-}
-
-/// Returns the identity that an element string or a link names, or the reason, like `read` for a text of at most 2,048 bytes. A
-/// canonical link is a link.
-pub(crate) fn identity_in<'a>(
-    alloc: Global,
-    set: &TableSet,
-    form: PairsForm,
-    text: &'a [u8],
-) -> Result<Identity<'a>, Reason>
-    ensures named { UnlessMemory result
-        (Means set.now (form_of (pairs_target form)) text.now (alone result)) }
-    ensures with_table { IfOk result (IsMadeWith set.now.ais) }
-{
-    match form {
-        PairsForm::Raw => raw_identity(alloc, set, text),
-        PairsForm::Bracketed => bracketed_identity(alloc, set, text),
-        PairsForm::Link | PairsForm::Canon => link_identity(alloc, set, text),
-    }
-}
-
-/// Returns the meaning of an element string or a link.
-fn pairs_meaning<'a>(
-    alloc: Global,
-    set: &TableSet,
-    form: PairsForm,
-    text: &'a [u8],
-) -> Result<Meaning<'a>, Reason>
-    ensures meaning { UnlessMemory result (Means set.now (form_of (pairs_target form)) text.now result) }
-    ensures with_table { IfOk result (λ meaning. IsMadeWith set.now.ais meaning.identity) }
-{
-    Ok(meaning_alone(alloc, identity_in(alloc, set, form, text)?))
 }

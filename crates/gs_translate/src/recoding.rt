@@ -1,4 +1,4 @@
-ghost use Rattle.std.specs.Prelude.{◌≡◌, ◌≤◌, ◌++◌, IfOk, IfSome, List, Ok, OnErr, length};
+ghost use Rattle.std.specs.Prelude.{◌≤◌, IfSome, List, Ok, OnErr, length};
 ghost use Rattle.gs_chars.specs.Answers.{BeginsWith};
 ghost use Rattle.gs_chars.specs.Limits.{longest_text};
 ghost use Rattle.gs_epc.specs.Epcs.{IsOfSet};
@@ -7,88 +7,50 @@ ghost use Rattle.gs_epc.specs.Writes.{ReadsText};
 ghost use Rattle.gs_ident.specs.Elements.{Elements};
 ghost use Rattle.gs_prefix.specs.declared.entry.PrefixEntry.{PrefixEntry};
 ghost use Rattle.gs_translate.specs.Meanings.{epc_meaning};
-ghost use Rattle.gs_translate.specs.Recodings.{IsLink, IsRecoded, form_at, pairs_text, stem_of, written_target};
+ghost use Rattle.gs_translate.specs.declared.form.Form.{Form};
+ghost use Rattle.gs_translate.specs.MeaningsSupport.{form_at};
 ghost use Rattle.gs_translate.specs.Steps.{AppendsText, UnlessMemory};
 ghost use Rattle.gs_translate.specs.Targets.{FitsFilter};
-ghost use Rattle.gs_translate.specs.Translations.{AreInOrder, IsSpelling, IsTranslation, form_of};
+ghost use Rattle.gs_translate.specs.Translations.{AreInOrder, IsOfLevel, IsSpelling, IsTranslation};
 
-use crate::form::{Form, Options, PairsForm, Target, Written};
+use crate::form::{Options, Target};
 use crate::reason::Reason;
-use crate::spelling::{append_epc, written_as};
+use crate::spelling::append_epc;
 use crate::tag_fields::retagged;
-use gs_chars::{LONGEST_TEXT, Memory};
 use gs_element::{append_bracketed_pairs, append_raw_pairs};
-use gs_epc::{EpcReading, EpcWords, reading_of, words_of};
+use gs_epc::{EpcReading, EpcRef, EpcWords, Rooms, TagBits, bit_words_of, reading_of, words_of};
 use gs_grammar::MOST_SYMBOLS;
 use gs_ident::CANONICAL_STEM;
 use gs_tables::{LevelName, TableSet};
 use std::alloc::Global;
 
-/// Returns what texts of a form are read as.
-pub(crate) fn read_as(form: Form) -> Written
-    ensures { form ≡ form_of (written_target result) }
-{
-    match form {
-        Form::Hex => Written::Epc(LevelName::Binary),
-        Form::Tag => Written::Epc(LevelName::Tag),
-        Form::Pure => Written::Epc(LevelName::Pure),
-        Form::Raw => Written::Pairs(PairsForm::Raw),
-        Form::Bracketed => Written::Pairs(PairsForm::Bracketed),
-        Form::Link => Written::Pairs(PairsForm::Link),
-    }
-}
-
 /// Appends the text of a level for an EPC, or returns the first reason against it. The filter value and the encoding are those
-/// of the options, or its own.
+/// of the options, or its own. Its identity is not laid out: taken apart, it would give the fields back.
 fn append_recoded(
     alloc: Global,
     set: &TableSet,
     options: &Options,
     to: LevelName,
-    reading: &EpcReading<'_>,
+    epc: EpcRef<'_>,
     out: &mut Vec<u8>,
 ) -> Result<(), Reason>
     requires options { FitsFilter options.now.filter }
-    requires given { FitsFilter reading.now.filter }
-    ensures written { (identity : Elements) → UnlessMemory result (AppendsText
-        (IsRecoded set.now options.now to reading.now identity) out.old.items out.new.items result) }
+    requires of_set { IsOfSet set.now epc }
+    requires given { FitsFilter epc.filter }
+    ensures written { (prefixes : List PrefixEntry) (identity : Elements)
+        → IsLaidOut set.now epc.entry identity → UnlessMemory result (AppendsText
+        (IsOfLevel set.now prefixes options.now to (epc_meaning epc.entry identity))
+        out.old.items out.new.items result) }
     ensures begun { OnErr result (BeginsWith out.new.items out.old.items) }
 {
-    let epc = retagged(options, to, reading.epc())?;
+    // only for the proof: the rows satisfy the rules of tables
+    let _ = set.ais();
+    let epc = retagged(options, to, epc)?;
     append_epc(alloc, set, to, &epc, out)
 }
 
-/// Appends the element string or the link of the identity that an EPC names. The identity is not made for it.
-fn append_laid_out(
-    alloc: Global,
-    set: &TableSet,
-    options: &Options,
-    to: PairsForm,
-    reading: &EpcReading<'_>,
-    out: &mut Vec<u8>,
-) -> Result<(), Memory>
-    requires options { AreInOrder options.now }
-    requires of_set { IsOfSet set.now reading.now }
-    ensures written { (identity : Elements) → IsLaidOut set.now reading.now identity → IfOk result (λ _.
-        out.new.items ≡ out.old.items ++ pairs_text options.now to identity) }
-    ensures begun { OnErr result (BeginsWith out.new.items out.old.items) }
-{
-    match to {
-        PairsForm::Canon => reading.append_link(set, CANONICAL_STEM.as_bytes(), out),
-        PairsForm::Link => reading.append_link(set, options.stem.as_bytes(), out),
-        PairsForm::Raw => {
-            let pairs = reading.pairs(alloc, set)?;
-            append_raw_pairs(out, set.ais(), &pairs.key, pairs.serial.as_slice(), &[])
-        }
-        PairsForm::Bracketed => {
-            let pairs = reading.pairs(alloc, set)?;
-            append_bracketed_pairs(out, &pairs.key, pairs.serial.as_slice(), &[])
-        }
-    }
-}
-
-/// Appends the spelling of an EPC in the requested form, or gives the first reason why there is none. For another EPC its identity
-/// is not laid out: taken apart, it would give the fields back.
+/// Appends the spelling of an EPC in the requested form, or gives the first reason why there is none. The identity that it names
+/// is not made for it.
 fn append_reading(
     alloc: Global,
     set: &TableSet,
@@ -106,46 +68,24 @@ fn append_reading(
         out.old.items out.new.items result) }
     ensures begun { OnErr result (BeginsWith out.new.items out.old.items) }
 {
-    // only for the proof: the rows satisfy the rules of tables
-    let _ = set.ais();
-    match written_as(to) {
-        Written::Epc(level) => append_recoded(alloc, set, options, level, reading, out),
-        Written::Pairs(form) => Ok(append_laid_out(alloc, set, options, form, reading, out)?),
-    }
-}
-
-/// Returns the stem of a link that is the target.
-fn stem_of(options: &Options, to: Target) -> &[u8]
-    ensures { result.now ≡ stem_of options.now to }
-{
     match to {
-        Target::Link => options.stem.as_bytes(),
-        _ => CANONICAL_STEM.as_bytes(),
+        Target::Hex => append_recoded(alloc, set, options, LevelName::Binary, reading.epc(), out),
+        Target::Tag => append_recoded(alloc, set, options, LevelName::Tag, reading.epc(), out),
+        Target::Pure => append_recoded(alloc, set, options, LevelName::Pure, reading.epc(), out),
+        Target::Raw => {
+            let pairs = reading.pairs(alloc, set)?;
+            Ok(append_raw_pairs(out, set.ais(), &pairs.key, pairs.serial.as_slice(), &[])?)
+        }
+        Target::Bracketed => {
+            let pairs = reading.pairs(alloc, set)?;
+            Ok(append_bracketed_pairs(out, &pairs.key, pairs.serial.as_slice(), &[])?)
+        }
+        Target::Link => Ok(reading.append_link(set, options.stem.as_bytes(), out)?),
+        Target::Canon => Ok(reading.append_link(set, CANONICAL_STEM.as_bytes(), out)?),
     }
 }
 
-/// Finds the words of an EPC URI that is to be written as a link. `None` says nothing: `append_read` decides then.
-fn link_words<'a>(
-    set: &'a TableSet,
-    from: LevelName,
-    to: Target,
-    text: &'a [u8],
-) -> Option<EpcWords<'a>>
-    ensures link { IfSome result (λ _. IsLink to) }
-    ensures answer { IfSome result (λ epc. ReadsText set.now from text.now (Ok epc)) }
-    ensures of_set { IfSome result (IsOfSet set.now) }
-{
-    match to {
-        Target::Link | Target::Canon => match from {
-            LevelName::Binary => None,
-            LevelName::Tag => words_of(set, LevelName::Tag, text),
-            LevelName::Pure => words_of(set, LevelName::Pure, text),
-        },
-        _ => None,
-    }
-}
-
-/// Appends the translation of a text of a level as `append_of_level` does, by its reading. The text is not too long.
+/// Appends the translation of a text of a level as `append_of_level` does, by its reading.
 #[inline(never)]
 fn append_read(
     alloc: Global,
@@ -170,9 +110,77 @@ fn append_read(
     append_reading(alloc, set, options, to, &reading, out)
 }
 
-/// Appends the translation of a text of a level, or returns the first reason why it is rejected. The identity of an EPC has
-/// only a key and its serial, so keeping only keys does not change it. A link of an EPC URI is written of its words, if each spells
-/// its value.
+/// Appends the translation of a text of a level as `append_of_level` does: by its words, if these are given, otherwise by its
+/// reading. Element strings are written of a reading.
+fn append_found(
+    alloc: Global,
+    set: &TableSet,
+    options: &Options,
+    from: LevelName,
+    to: Target,
+    text: &[u8],
+    found: Option<EpcWords<'_>>,
+    out: &mut Vec<u8>,
+) -> Result<(), Reason>
+    requires options { AreInOrder options.now }
+    requires short { length text.now ≤ longest_text }
+    requires answer { IfSome found (λ epc. ReadsText set.now from text.now (Ok epc)) }
+    requires of_set { IfSome found (IsOfSet set.now) }
+    ensures written { (prefixes : List PrefixEntry) → UnlessMemory result (AppendsText
+        (IsTranslation set.now prefixes options.now (form_at from) to text.now)
+        out.old.items out.new.items result) }
+    ensures begun { OnErr result (BeginsWith out.new.items out.old.items) }
+{
+    // only for the proof: the rows satisfy the rules of tables
+    let _ = set.ais();
+    let Some(words) = found else {
+        return append_read(alloc, set, options, from, to, text, out);
+    };
+    let mut rooms = Rooms::new();
+    match to {
+        Target::Hex => {
+            let epc = words.epc(&mut rooms);
+            append_recoded(alloc, set, options, LevelName::Binary, epc, out)
+        }
+        Target::Tag => {
+            let epc = words.epc(&mut rooms);
+            append_recoded(alloc, set, options, LevelName::Tag, epc, out)
+        }
+        Target::Pure => {
+            let epc = words.epc(&mut rooms);
+            append_recoded(alloc, set, options, LevelName::Pure, epc, out)
+        }
+        Target::Raw | Target::Bracketed => append_read(alloc, set, options, from, to, text, out),
+        Target::Link => Ok(words.append_link(set, options.stem.as_bytes(), out)?),
+        Target::Canon => Ok(words.append_link(set, CANONICAL_STEM.as_bytes(), out)?),
+    }
+}
+
+/// Appends the translation of the bits of a tag as `append_of_level` does. It has room for bits, which other texts do not need.
+#[inline(never)]
+fn append_of_bits(
+    alloc: Global,
+    set: &TableSet,
+    options: &Options,
+    to: Target,
+    text: &[u8],
+    out: &mut Vec<u8>,
+) -> Result<(), Reason>
+    requires options { AreInOrder options.now }
+    requires short { length text.now ≤ longest_text }
+    ensures written { (prefixes : List PrefixEntry) → UnlessMemory result (AppendsText
+        (IsTranslation set.now prefixes options.now Form.Hex to text.now)
+        out.old.items out.new.items result) }
+    ensures begun { OnErr result (BeginsWith out.new.items out.old.items) }
+{
+    let mut room = TagBits::new();
+    let found = bit_words_of(set, text, &mut room);
+    append_found(alloc, set, options, LevelName::Binary, to, text, found, out)
+}
+
+/// Appends the translation of a text of a level, or returns the first reason why it is rejected. The text is not too long. The
+/// identity of an EPC has only a key and its serial, so keeping only keys does not change it. A text whose words are found needs
+/// no reading, except for an element string.
 pub(crate) fn append_of_level(
     alloc: Global,
     set: &TableSet,
@@ -182,19 +190,25 @@ pub(crate) fn append_of_level(
     text: &[u8],
     out: &mut Vec<u8>,
 ) -> Result<(), Reason>
-    requires { AreInOrder options.now }
+    requires options { AreInOrder options.now }
+    requires short { length text.now ≤ longest_text }
     ensures written { (prefixes : List PrefixEntry) → UnlessMemory result (AppendsText
         (IsTranslation set.now prefixes options.now (form_at from) to text.now)
         out.old.items out.new.items result) }
     ensures begun { OnErr result (BeginsWith out.new.items out.old.items) }
 {
-    // only for the proof: the rows satisfy the rules of tables
-    let _ = set.ais();
-    if text.len() > LONGEST_TEXT {
-        return Err(Reason::Long);
+    if let Target::Raw | Target::Bracketed = to {
+        return append_read(alloc, set, options, from, to, text, out);
     }
-    match link_words(set, from, to, text) {
-        Some(words) => Ok(words.append_link(set, stem_of(options, to), out)?),
-        None => append_read(alloc, set, options, from, to, text, out),
+    match from {
+        LevelName::Binary => append_of_bits(alloc, set, options, to, text, out),
+        LevelName::Tag => {
+            let found = words_of(set, LevelName::Tag, text);
+            append_found(alloc, set, options, LevelName::Tag, to, text, found, out)
+        }
+        LevelName::Pure => {
+            let found = words_of(set, LevelName::Pure, text);
+            append_found(alloc, set, options, LevelName::Pure, to, text, found, out)
+        }
     }
 }

@@ -1,22 +1,23 @@
-ghost use Rattle.std.specs.Prelude.{◌≡◌, [], IfOk, OnErr, find};
+ghost use Rattle.std.specs.Prelude.{◌≡◌, ◌≤◌, [], IfOk, OnErr, find, length};
 ghost use Rattle.gs_chars.specs.Answers.{BeginsWith};
+ghost use Rattle.gs_chars.specs.Limits.{longest_text};
 ghost use Rattle.gs_translate.specs.Steps.{AppendsText, UnlessMemory};
-ghost use Rattle.gs_translate.specs.Meanings.{identity_meaning};
-ghost use Rattle.gs_translate.specs.Recodings.{pairs_target};
-ghost use Rattle.gs_translate.specs.Translations.{IsTranslated, AreInOrder, IsTranslation, form_of};
+ghost use Rattle.gs_translate.specs.Meanings.{Means, identity_meaning};
+ghost use Rattle.gs_translate.specs.MeaningsSupport.{alone};
+ghost use Rattle.gs_translate.specs.Translations.{IsTranslated, AreInOrder, IsTranslation};
 ghost use Rattle.std.specs.Option.{option_copied};
 ghost use Rattle.gs_ident.specs.Identities.{IsMadeWith};
 ghost use Rattle.gs_translate.specs.Targets.{has_key, kept, key_and_serial, narrowed};
 
-use crate::form::{Form, Options, PairsForm, Target, Written};
-use crate::reader::identity_in;
+use crate::form::{Form, Options, Target};
+use crate::reader::{bracketed_identity, link_identity, raw_identity};
 use crate::reason::Reason;
-use crate::recoding::{append_of_level, read_as};
+use crate::recoding::append_of_level;
 use crate::spelling::append_spelling;
 use gs_chars::{LONGEST_TEXT, Memory, Text};
 use gs_ident::{Identity, Pair, same_code};
 use gs_prefix::PrefixList;
-use gs_tables::{Kind, SerialAt, TableSet};
+use gs_tables::{Kind, LevelName, SerialAt, TableSet};
 use std::alloc::Global;
 use std::marker::Model;
 
@@ -67,11 +68,24 @@ impl Translator<'_> {
             (IsTranslated self.now text.now) out.old.items out.new.items result) }
         ensures begun { OnErr result (BeginsWith out.new.items out.old.items) }
     {
-        match read_as(self.from) {
-            Written::Epc(from) => {
-                append_of_level(alloc, self.set, self.options, from, self.to, text, out)
+        if text.len() > LONGEST_TEXT {
+            return Err(Reason::Long);
+        }
+        let Translator {
+            set,
+            options,
+            to,
+            ..
+        } = *self;
+        match self.from {
+            Form::Hex => append_of_level(alloc, set, options, LevelName::Binary, to, text, out),
+            Form::Tag => append_of_level(alloc, set, options, LevelName::Tag, to, text, out),
+            Form::Pure => append_of_level(alloc, set, options, LevelName::Pure, to, text, out),
+            Form::Raw => self.append_named(alloc, text, raw_identity(alloc, set, text), out),
+            Form::Bracketed => {
+                self.append_named(alloc, text, bracketed_identity(alloc, set, text), out)
             }
-            Written::Pairs(from) => self.append_named(alloc, from, text, out),
+            Form::Link => self.append_named(alloc, text, link_identity(alloc, set, text), out),
         }
     }
 
@@ -79,22 +93,18 @@ impl Translator<'_> {
     fn append_named(
         &self,
         alloc: Global,
-        from: PairsForm,
         text: &[u8],
+        named: Result<Identity<'_>, Reason>,
         out: &mut Vec<u8>,
     ) -> Result<(), Reason>
-        requires { self.now.from ≡ form_of (pairs_target from) }
+        requires short { length text.now ≤ longest_text }
+        requires named { UnlessMemory named (Means self.now.set self.now.from text.now (alone named)) }
+        requires with_table { IfOk named (IsMadeWith self.now.set.ais) }
         ensures written { UnlessMemory result (AppendsText
             (IsTranslated self.now text.now) out.old.items out.new.items result) }
         ensures begun { OnErr result (BeginsWith out.new.items out.old.items) }
     {
-        // only for the proof: the rows satisfy the rules of tables
-        let _ = self.set.ais();
-        if text.len() > LONGEST_TEXT {
-            return Err(Reason::Long);
-        }
-        let named = identity_in(alloc, self.set, from, text)?;
-        let identity = kept(self.set, self.options.keys_only, named);
+        let identity = kept(self.set, self.options.keys_only, named?);
         append_spelling(
             alloc,
             self.set,

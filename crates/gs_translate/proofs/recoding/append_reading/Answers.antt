@@ -1,14 +1,35 @@
-use Rattle.gs_translate.specs.Meanings.{epc_meaning}
-use Rattle.gs_translate.specs.Recodings.{pairs_text}
-use Rattle.gs_translate.proofs.RecodingLaws.{appended_recoded, pairs_spelled}
+use Rattle.std.proofs.Common.{◌≡◌, ◌++◌, ◌∷◌, [], List, None, Option, Some, append-nil, refl, ◌∙◌}
+use Rattle.std.specs.Option.{MatchOption}
+use Rattle.gs_ai.specs.declared.pair.Pair.{Pair}
+use Rattle.gs_ident.specs.Links.{canonical_link, spelled}
+use Rattle.gs_ident.specs.QualifiedKeys.{pairs_in}
 use Rattle.gs_translate.proofs.recoding.append_reading.Goals as goal
 
-pub returns-in-Epc-clause-written : goal.returns-in-Epc-clause-written
-returns-in-Epc-clause-written c = λ prefixes identity laid.
-    let appended = appended_recoded c.args.set.now prefixes c.args.options.now c.in-Epc.level c.args.reading.now identity c.args.out.now.items c.append_recoded.new.out.items c.append_recoded.result c.ais.ensures.shaped c.requires.of_set laid (c.append_recoded.ensures.written identity) in
-    rw (c.written_as.ensures, c.in-Epc.is) appended
+-- the pairs of the slice of a serial, with no attributes after them
+listed : (slice : List Pair) (serial : Option Pair) → MatchOption serial (slice ≡ []) (λ pair. slice ≡ pair ∷ []) → slice ++ [] ≡ pairs_in serial
+listed slice None e = append-nil slice ∙ e
+listed slice (Some pair) e = append-nil slice ∙ e
 
-pub returns-in_ok-append_laid_out-in-Pairs-clause-written : goal.returns-in_ok-append_laid_out-in-Pairs-clause-written
-returns-in_ok-append_laid_out-in-Pairs-clause-written c = λ prefixes identity laid.
-    let spelled = pairs_spelled c.args.set.now prefixes c.args.options.now c.in-Pairs.form (epc_meaning c.args.reading.now identity) in
-    (pairs_text c.args.options.now c.in-Pairs.form identity, c.in_ok-append_laid_out-in-Pairs.ensures.written identity laid, rw (c.written_as.ensures, c.in-Pairs.is) spelled)
+pub returns-in-Hex-clause-written : goal.returns-in-Hex-clause-written
+returns-in-Hex-clause-written c = rw (c.in-Hex.is, ← c.epc.ensures) c.append_recoded.ensures.written
+
+pub returns-in-Tag-clause-written : goal.returns-in-Tag-clause-written
+returns-in-Tag-clause-written c = rw (c.in-Tag.is, ← c.epc-in-Tag.ensures) c.append_recoded-in-Tag.ensures.written
+
+pub returns-in-Pure-clause-written : goal.returns-in-Pure-clause-written
+returns-in-Pure-clause-written c = rw (c.in-Pure.is, ← c.epc-in-Pure.ensures) c.append_recoded-in-Pure.ensures.written
+
+pub append_raw_pairs-requires : goal.append_raw_pairs-requires
+append_raw_pairs-requires c =
+    let slice = listed c.as_slice.result.now c.in_ok-pairs-in-Raw.pairs.serial c.as_slice.ensures in
+    rw (c.ais.ensures.rows, slice) c.in_ok-pairs-in-Raw.ensures.in_order
+
+pub returns-in_ok-append_link-in-Link-clause-written : goal.returns-in_ok-append_link-in-Link-clause-written
+returns-in_ok-append_link-in-Link-clause-written c = λ prefixes identity laid.
+    let linked = rw c.as_bytes.ensures at (c.in_ok-append_link-in-Link.ensures.written identity laid) in
+    rw c.in-Link.is (spelled c.args.options.now.stem identity, linked, refl)
+
+pub returns-in_ok-append_link-in-Canon-clause-written : goal.returns-in_ok-append_link-in-Canon-clause-written
+returns-in_ok-append_link-in-Canon-clause-written c = λ prefixes identity laid.
+    let linked = rw c.as_bytes-in-Canon.ensures.value at (c.in_ok-append_link-in-Canon.ensures.written identity laid) in
+    rw c.in-Canon.is (canonical_link identity, linked, refl)
