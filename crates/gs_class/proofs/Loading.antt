@@ -56,7 +56,7 @@ module _ (ais : List AiRow) (d : Data) where
   pub form_rejected : (error : JsonFault) → IsFirstFault (Err error) (form_errors d)
       → OrMemory (Judged (ruled_document ais d)) (Err (of_json Memory Json error))
   form_rejected error h = elim (judged Memory Json (form_errors d) error h) [
-    | inl m ↦ inl m
+    | inl m ↦ inl (let same : of_json Memory Json error ≡ Memory = cc in ap (λ (x : ClassLoadFault). Err x) same)
     | inr first ↦ rw (← form_rules (of_json Memory Json error) first) (inr refl)
   ]
 
