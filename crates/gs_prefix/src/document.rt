@@ -1,8 +1,7 @@
 ghost use Rattle.std.specs.Prelude.{◌≡◌, [], IfOk};
 ghost use Rattle.serde_json.specs.View.{view};
 ghost use Rattle.gs_json.specs.Shapes.{IsFirst};
-ghost use Rattle.gs_prefix.specs.Documents.{entries_of, entry_of, entry_plan, form_errors, list_plan};
-ghost use Rattle.gs_prefix.specs.Documents.{version_errors};
+ghost use Rattle.gs_prefix.specs.Documents.{entries_of, entry_of, entry_plan, form_errors, list_plan, version_errors};
 
 use crate::entry::PrefixEntry;
 use gs_chars::{List, Memory, Text};

@@ -1,8 +1,8 @@
 ghost use Rattle.std.specs.Prelude.{◌≡◌, ◌++◌, ℕ, List, [], IfOk, IfErr, codes};
 ghost use Rattle.serde_json.specs.View.{view};
 ghost use Rattle.gs_json.specs.Shapes.{IsFirst};
-ghost use Rattle.gs_tables_document.specs.Documents.{IsDocument, document_errors, is_second, of_bits};
-ghost use Rattle.gs_tables_document.specs.Documents.{of_texts, option_plan, rows_errors};
+ghost use Rattle.gs_tables_document.specs.Documents.{IsDocument, document_errors, is_second, of_bits, of_texts, option_plan};
+ghost use Rattle.gs_tables_document.specs.Documents.{rows_errors};
 ghost use Rattle.gs_tables_document.specs.DocumentsSupport.{AreOptions};
 ghost use Rattle.gs_tables_document.specs.Readings.{Holds, IsFormRejection, IsJson};
 
