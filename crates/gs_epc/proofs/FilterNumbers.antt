@@ -15,8 +15,8 @@ number_told : (value : Option (List ℕ)) → IfSome value IsFilter → filter_n
 number_told None is = refl
 number_told (Some value) is = rw is.text (ap Some (omega arith))
 
--- the texts of all fields give the EPC
-pub epc_told : (info : OptInfo) (values : List (List ℕ)) (filter : List ℕ) (texts : KeyFields)
-    → IfSome (value_at Filter info.fields values) IsFilter → filter ≡ value_of Filter info.fields values
+-- the number of the filter value and the texts of the key give the EPC
+pub epc_told : (info : OptInfo) (values : List (List ℕ)) (text : List ℕ) (filter : Option ℕ) (texts : KeyFields)
+    → IfSome (value_at Filter info.fields values) IsFilter → text ≡ value_of Filter info.fields values → filter ≡ filter_number text
     → texts ≡ fields_in (epc_of info values) → epc_with info filter texts ≡ epc_of info values
-epc_told info values filter texts is e f = rw (e, f, number_told (value_at Filter info.fields values) is) refl
+epc_told info values text filter texts is e f g = rw (g, f, e, number_told (value_at Filter info.fields values) is) refl

@@ -9,12 +9,12 @@ abbrev pub filter_number : List ℕ → Option ℕ
 filter_number (digit ∷ _) = Some (digit - 48)
 filter_number [] = None
 
--- the EPC of an option by the text of its filter value, which is empty if it has none, and the fields of its key
-abbrev pub epc_with : OptInfo → List ℕ → KeyFields → Epc
+-- the EPC of an option by its filter value and the fields of its key
+abbrev pub epc_with : OptInfo → Option ℕ → KeyFields → Epc
 epc_with info filter fields = record {
   kind = info.kind;
   encoding = info.encoding;
-  filter = filter_number filter;
+  filter = filter;
   gcp = info.gcp;
   prefix = fields.prefix;
   rest = fields.rest;

@@ -10,3 +10,4 @@ pub mod ReadingsSupport
 pub mod KeyParts
 pub mod Writes
 pub mod Tries
+pub mod WordsOfLevels

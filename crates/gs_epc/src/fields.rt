@@ -53,7 +53,7 @@ fn value_of<'a>(field: Field, fields: &[Option<Field>], values: &'a [CowText<'_>
 }
 
 /// Returns the number of a filter value: its one digit.
-fn filter_number(text: &[u8]) -> Option<u8>
+pub(crate) fn filter_number(text: &[u8]) -> Option<u8>
     ensures { result ≡ filter_number text.now }
 {
     match text {
@@ -63,13 +63,13 @@ fn filter_number(text: &[u8]) -> Option<u8>
 }
 
 /// Returns the EPC of an option by its filter value and the fields of its key, each text lent.
-pub(crate) fn epc_with<'a>(info: &'a OptInfo, filter: &[u8], texts: KeyTexts<'a>) -> EpcRef<'a>
-    ensures { result ≡ epc_with info.now filter.now texts.entry }
+pub(crate) fn epc_with<'a>(info: &'a OptInfo, filter: Option<u8>, texts: KeyTexts<'a>) -> EpcRef<'a>
+    ensures { result ≡ epc_with info.now filter texts.entry }
 {
     EpcRef {
         kind: info.kind,
         encoding: info.encoding.as_bytes(),
-        filter: filter_number(filter),
+        filter,
         gcp: info.gcp,
         prefix: texts.prefix,
         rest: CowText::lent(texts.rest),
@@ -99,5 +99,5 @@ pub(crate) fn epc_of<'a>(info: &'a OptInfo, values: &'a [CowText<'_>]) -> EpcRef
     ensures { result ≡ epc_of info.now values.now }
 {
     let filter = value_of(Field::Filter, info.fields.items(), values);
-    epc_with(info, filter, key_texts(info, values))
+    epc_with(info, filter_number(filter), key_texts(info, values))
 }

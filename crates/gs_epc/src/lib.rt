@@ -35,6 +35,7 @@ mod fields;
 mod key_parts;
 mod laws;
 mod layout;
+mod level_words;
 mod link_writer;
 mod reading;
 mod words;
@@ -50,6 +51,7 @@ pub use laws::{
     laying_out_undoes_taking_apart, taking_apart_undoes_laying_out, what_is_written_is_read,
 };
 pub use layout::{KeyAndSerial, identity_of, push_checked};
+pub use level_words::Rooms;
 pub use reading::{EpcReading, read_hex, read_pure, read_tag, reading_of};
-pub use words::{EpcWords, words_of};
+pub use words::{EpcWords, TagBits, bit_words_of, words_of};
 pub use writer::{append_lent, write_hex, write_level, write_pure, write_tag};

@@ -1,27 +1,31 @@
-ghost use Rattle.std.specs.Prelude.{◌≡◌, ◌++◌, IfOk, IfSome, Ok, OnErr};
+ghost use Rattle.std.specs.Prelude.{◌≡◌, ◌++◌, ℕ, IfOk, IfSome, List, Ok, OnErr};
 ghost use Rattle.gs_chars.specs.Answers.{BeginsWith};
+ghost use Rattle.gs_grammar.specs.Derivations.{OneDerivation};
 ghost use Rattle.gs_ident.specs.Elements.{Elements};
 ghost use Rattle.gs_ident.specs.Links.{spelled};
-ghost use Rattle.gs_tables_document.specs.declared.document.Field.{Field};
-ghost use Rattle.gs_epc.specs.Epcs.{IsOfSet, epc_of, value_at, value_of};
-ghost use Rattle.gs_epc.specs.Filters.{IsFilter};
-ghost use Rattle.gs_epc.specs.Layout.{IsLaidOut, fields_in};
-ghost use Rattle.gs_epc.specs.Readings.{ReadsAs};
+ghost use Rattle.gs_epc.specs.Epcs.{IsOfSet, options_of};
+ghost use Rattle.gs_epc.specs.Layout.{IsLaidOut};
+ghost use Rattle.gs_epc.specs.Readings.{ReadsAs, ReadsHex};
+ghost use Rattle.gs_epc.specs.WordsOfLevels.{AnswersWords, words_in};
 
 use crate::epc::EpcRef;
-use crate::fields::{KeyTexts, epc_with, field_place};
+use crate::fields::epc_with;
 use crate::layout::kind_at;
+use crate::level_words::{LevelWords, Rooms};
 use crate::link_writer::append_laid_out;
+use gs_bits::BitBuf;
 use gs_chars::Memory;
-use gs_grammar_level::{Words, find_words};
-use gs_tables::{Field, LevelName, OptInfo, TableSet};
+use gs_grammar::{MOST_SYMBOLS, unpack};
+use gs_grammar_level::{find_bits, find_words};
+use gs_tables::{LevelName, OptInfo, TableSet};
 use std::marker::Model;
 
-/// The words of an EPC URI as an EPC: the facts of the option, and the words of its items. Contracts see the EPC.
+/// The words of an EPC URI, or of the bits of a tag, as an EPC: the facts of the option, and the words of its items. Contracts see
+/// the EPC.
 #[derive(Drop)]
 pub struct EpcWords<'a> {
     info: &'a OptInfo,
-    words: Words<'a>,
+    words: LevelWords<'a>,
 }
 
 impl<'a> Model for EpcWords<'a> {
@@ -30,45 +34,22 @@ impl<'a> Model for EpcWords<'a> {
     ghost use Rattle.gs_epc.specs.declared.epc.Epc.{Epc};
     ghost use Rattle.gs_epc.specs.Epcs.{epc_of, value_at};
     ghost use Rattle.gs_epc.specs.Filters.{IsFilter};
+    ghost use Rattle.gs_epc.specs.WordsOfLevels.{words_in};
 
     ghost Value = { Epc };
 
-    ghost view = { λ t. epc_of t.info.now t.words.values };
+    ghost view = { λ t. epc_of t.info.now (words_in t.words).values };
 
-    ghost invariant = { λ t. IfSome (value_at Filter t.info.now.fields t.words.values) IsFilter };
-}
-
-/// Returns the word of a field, and the empty text if no item has the field.
-fn word_of<'a>(field: Field, fields: &[Option<Field>], words: &Words<'a>) -> &'a [u8]
-    ensures { result.now ≡ value_of field fields.now words.now.values }
-{
-    match field_place(field, fields) {
-        Some(number) => words.value(number),
-        None => &[],
-    }
-}
-
-/// Returns the fields of the key that the words of an option's items give.
-fn key_texts_of<'a>(info: &OptInfo, words: &Words<'a>) -> KeyTexts<'a>
-    ensures { result ≡ fields_in (epc_of info.now words.now.values) }
-{
-    let fields = info.fields.items();
-    KeyTexts {
-        prefix: word_of(Field::Gcp, fields, words),
-        rest: word_of(Field::Rest, fields, words),
-        piece: word_of(Field::Piece, fields, words),
-        total: word_of(Field::Total, fields, words),
-        serial: word_of(Field::Serial, fields, words),
-    }
+    ghost invariant = { λ t. IfSome (value_at Filter t.info.now.fields (words_in t.words).values) IsFilter };
 }
 
 impl EpcWords<'_> {
-    /// Returns the EPC, each text lent.
-    pub fn epc(&self) -> EpcRef<'_>
+    /// Returns the EPC, each text lent. The values of bits are written to the rooms.
+    pub fn epc<'r>(&'r self, rooms: &'r mut Rooms) -> EpcRef<'r>
         ensures { result ≡ self.now }
     {
-        let filter = word_of(Field::Filter, self.info.fields.items(), &self.words);
-        epc_with(self.info, filter, key_texts_of(self.info, &self.words))
+        let filter = self.words.filter(self.info);
+        epc_with(self.info, filter, self.words.key_texts(self.info, rooms))
     }
 
     /// Appends the link, under the stem, of the identity that the EPC names, as `EpcReading::append_link` does. Fails only with
@@ -80,16 +61,20 @@ impl EpcWords<'_> {
         ensures begun { OnErr result (BeginsWith out.new.items out.old.items) }
     {
         let kind = kind_at(set, self.info.kind);
-        let texts = key_texts_of(self.info, &self.words);
+        let mut rooms = Rooms::new();
+        let texts = self.words.key_texts(self.info, &mut rooms);
         append_laid_out(set, self.info.kind, kind, &texts, stem, out)
     }
 }
 
-/// Returns the EPC of an option and the words of its items.
-fn words_by<'a>(info: &'a OptInfo, words: Words<'a>) -> EpcWords<'a>
-    requires { IfSome (value_at Field.Filter info.now.fields words.values) IsFilter }
-    ensures { result ≡ epc_of info.now words.entry.values }
+/// Returns the EPC of words of symbols in a level.
+fn words_by<'a>(set: &'a TableSet, level: LevelName, words: LevelWords<'a>) -> EpcWords<'a>
+    requires { (symbols : List ℕ)
+        × OneDerivation (options_of level set.now) symbols (words_in words).option (words_in words).values }
+    ensures says { AnswersWords set.now level (words_in words.entry) result }
+    ensures of_set { IsOfSet set.now result }
 {
+    let info = &set.info(level)[words.option()];
     EpcWords { info, words }
 }
 
@@ -100,10 +85,46 @@ pub fn words_of<'a>(set: &'a TableSet, level: LevelName, text: &'a [u8]) -> Opti
     ensures of_set { IfSome result (IsOfSet set.now) }
 {
     match find_words(set.level(level), text) {
-        Some(words) => {
-            let info = &set.info(level)[words.option()];
-            Some(words_by(info, words))
+        Some(words) => Some(words_by(set, level, LevelWords::Text(words))),
+        None => None,
+    }
+}
+
+/// Room for the bits of a tag, packed and one to a symbol.
+#[derive(Drop)]
+pub struct TagBits {
+    bits: BitBuf<64>,
+    symbols: [u8; MOST_SYMBOLS],
+}
+
+impl TagBits {
+    /// Makes room for the bits of one tag.
+    pub fn new() -> TagBits {
+        TagBits {
+            bits: BitBuf::new(),
+            symbols: [0; MOST_SYMBOLS],
         }
+    }
+}
+
+/// Finds the words of the bits of a tag, a text of hexadecimal digits, whose option has words of fixed length. `None` says
+/// nothing: `reading_of` decides then. Does not allocate.
+pub fn bit_words_of<'a>(
+    set: &'a TableSet,
+    text: &[u8],
+    room: &'a mut TagBits,
+) -> Option<EpcWords<'a>>
+    ensures answer { IfSome result (λ epc. ReadsHex set.now text.now (Ok epc)) }
+    ensures of_set { IfSome result (IsOfSet set.now) }
+{
+    let level = LevelName::Binary;
+    let Ok(bits) = BitBuf::from_hex(text) else {
+        return None;
+    };
+    room.bits = bits;
+    let count = unpack(&room.bits, &mut room.symbols);
+    match find_bits(set.level(level), &room.bits, &room.symbols[..count]) {
+        Some(words) => Some(words_by(set, level, LevelWords::Bits(words))),
         None => None,
     }
 }

@@ -3,7 +3,7 @@ ghost use Rattle.gs_chars.specs.Answers.{BeginsWith};
 ghost use Rattle.gs_tables_document.specs.Documents.{is_bits};
 ghost use Rattle.gs_grammar.specs.Items.{size_of_all};
 ghost use Rattle.gs_epc.specs.Candidates.{Candidate, HasFilter, HasFilterOn};
-ghost use Rattle.gs_epc.specs.Tries.{AppendsOption, IsTried};
+ghost use Rattle.gs_epc.specs.Tries.{AppendsDigits, AppendsOption, IsTried};
 ghost use Rattle.gs_epc.specs.Writes.{AppendsAs, WritesAs, field_at};
 
 use crate::candidates::{is_asked, left_out, values_for};
@@ -16,16 +16,11 @@ use gs_tables::{Field, LevelName, TableSet};
 use std::alloc::Global;
 
 /// Appends the hexadecimal digits of the bits of an option.
-fn append_digits(
-    alloc: Global,
-    option: &Opt,
-    values: &[CowText<'_>],
-    out: &mut Vec<u8>,
-) -> Result<(), WriteFault>
+fn append_digits(option: &Opt, values: &[CowText<'_>], out: &mut Vec<u8>) -> Result<(), WriteFault>
     requires bit_level { option.now.bit_level ≡ true }
     requires one_each { length values.now ≡ length option.now.items }
     requires whole_bytes { size_of_all option.now.items % 8 ≡ 0 }
-    ensures written { AppendsOption LevelName.Binary option.now.items values.now out.old.items out.new.items result }
+    ensures written { AppendsDigits option.now.items values.now out.old.items out.new.items result }
     ensures begun { OnErr result (BeginsWith out.new.items out.old.items) }
 {
     // only for the proof: the items are within their bounds
@@ -34,10 +29,7 @@ fn append_digits(
     if let Err(error) = write_bits(option, values, &mut bits) {
         return Err(error);
     }
-    let Ok(text) = bits.to_hex(alloc) else {
-        return Err(WriteFault::Memory);
-    };
-    match out.extend_from_slice(text.as_bytes()) {
+    match bits.append_hex(out) {
         Ok(()) => Ok(()),
         Err(_) => Err(WriteFault::Memory),
     }
@@ -61,7 +53,6 @@ fn append_uri(
 
 /// Appends the text of an option of a level: of bits their hexadecimal digits.
 fn append_option(
-    alloc: Global,
     level: LevelName,
     option: &Opt,
     values: &[CowText<'_>],
@@ -74,7 +65,7 @@ fn append_option(
     ensures begun { OnErr result (BeginsWith out.new.items out.old.items) }
 {
     match level {
-        LevelName::Binary => append_digits(alloc, option, values, out),
+        LevelName::Binary => append_digits(option, values, out),
         LevelName::Tag | LevelName::Pure => append_uri(level, option, values, out),
     }
 }
@@ -127,7 +118,7 @@ fn try_candidate(
     let fields = set.info(level)[i].fields.items();
     let values = values_for(alloc, level, epc, fields)?;
     let start = out.len();
-    match append_option(alloc, level, &set.level(level).options()[i], &values, out) {
+    match append_option(level, &set.level(level).options()[i], &values, out) {
         Ok(()) => match left_out(fields, epc) {
             Some(field) => {
                 out.truncate(start);

@@ -1,6 +1,6 @@
 use Rattle.std.proofs.Common.{◌∙◌}
 use Rattle.gs_epc.proofs.FieldPlaces.{no_item, value_or_empty}
-use Rattle.gs_epc.proofs.words.word_of.Goals as goal
+use Rattle.gs_epc.proofs.level_words.LevelWords.value_of.Goals as goal
 
 pub returns-in-Some : goal.returns-in-Some
 returns-in-Some c = c.value.ensures ∙ value_or_empty _ _ _ _ c.in-Some.ensures
