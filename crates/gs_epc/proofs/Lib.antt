@@ -1,6 +1,7 @@
 pub mod FieldPlaces
 pub mod FieldRules
 pub mod FilterNumbers
+pub mod NumberSteps
 pub mod KeptFields
 pub mod KeptItems
 pub mod KeptLaws

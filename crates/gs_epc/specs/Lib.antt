@@ -5,6 +5,7 @@ pub mod Filters
 pub mod KeptFields
 pub mod Layout
 pub mod LayoutSupport
+pub mod NumbersOfItems
 pub mod Readings
 pub mod ReadingsSupport
 pub mod KeyParts

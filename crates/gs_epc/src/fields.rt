@@ -2,11 +2,12 @@ ghost use Rattle.std.specs.Prelude.{◌≡◌, IfSome, position};
 ghost use Rattle.gs_tables_document.specs.declared.document.Field.{Field};
 ghost use Rattle.gs_tables.specs.Rules.{is_field};
 ghost use Rattle.gs_epc.specs.Epcs.{epc_of, value_at, value_of};
-ghost use Rattle.gs_epc.specs.FieldTexts.{epc_with, filter_number};
+ghost use Rattle.gs_epc.specs.FieldTexts.{epc_with, filter_number, key_fields};
 ghost use Rattle.gs_epc.specs.Filters.{IsFilter};
 ghost use Rattle.gs_epc.specs.Layout.{fields_in};
 
 use crate::epc::EpcRef;
+use crate::item_numbers::ItemNumbers;
 use gs_chars::CowText;
 use gs_tables::{Field, OptInfo};
 use std::marker::Model;
@@ -43,10 +44,10 @@ pub fn field_place(field: Field, fields: &[Option<Field>]) -> Option<usize>
 }
 
 /// Returns the value of a field, and the empty text if no item has the field.
-fn value_of<'a>(field: Field, fields: &[Option<Field>], values: &'a [CowText<'_>]) -> &'a [u8]
-    ensures { result.now ≡ value_of field fields.now values.now }
+fn value_of<'a>(field: Field, numbers: &ItemNumbers<'_>, values: &'a [CowText<'_>]) -> &'a [u8]
+    ensures { result.now ≡ value_of field numbers.now values.now }
 {
-    match field_place(field, fields) {
+    match numbers.of(field) {
         Some(place) if place < values.len() => values[place].as_bytes(),
         _ => &[],
     }
@@ -79,18 +80,24 @@ pub(crate) fn epc_with<'a>(info: &'a OptInfo, filter: Option<u8>, texts: KeyText
     }
 }
 
+/// Returns the fields of the key that values give by the numbers of items, each text lent.
+fn texts_by<'a>(numbers: &ItemNumbers<'_>, values: &'a [CowText<'_>]) -> KeyTexts<'a>
+    ensures { result ≡ key_fields numbers.now values.now }
+{
+    KeyTexts {
+        prefix: value_of(Field::Gcp, numbers, values),
+        rest: value_of(Field::Rest, numbers, values),
+        piece: value_of(Field::Piece, numbers, values),
+        total: value_of(Field::Total, numbers, values),
+        serial: value_of(Field::Serial, numbers, values),
+    }
+}
+
 /// Returns the fields of the key that the values of an option's items give, each text lent.
 pub(crate) fn key_texts<'a>(info: &OptInfo, values: &'a [CowText<'_>]) -> KeyTexts<'a>
     ensures { result ≡ fields_in (epc_of info.now values.now) }
 {
-    let fields = info.fields.items();
-    KeyTexts {
-        prefix: value_of(Field::Gcp, fields, values),
-        rest: value_of(Field::Rest, fields, values),
-        piece: value_of(Field::Piece, fields, values),
-        total: value_of(Field::Total, fields, values),
-        serial: value_of(Field::Serial, fields, values),
-    }
+    texts_by(&ItemNumbers::new(info.fields.items()), values)
 }
 
 /// Returns the EPC that the values of an option's items give, each text lent.
@@ -98,6 +105,7 @@ pub(crate) fn epc_of<'a>(info: &'a OptInfo, values: &'a [CowText<'_>]) -> EpcRef
     requires { IfSome (value_at Field.Filter info.now.fields values.now) IsFilter }
     ensures { result ≡ epc_of info.now values.now }
 {
-    let filter = value_of(Field::Filter, info.fields.items(), values);
-    epc_with(info, filter_number(filter), key_texts(info, values))
+    let numbers = ItemNumbers::new(info.fields.items());
+    let filter = filter_number(value_of(Field::Filter, &numbers, values));
+    epc_with(info, filter, texts_by(&numbers, values))
 }

@@ -1,14 +1,14 @@
 ghost use Rattle.std.specs.Prelude.{◌≡◌, []};
 ghost use Rattle.std.specs.List.{slice_index_or};
 ghost use Rattle.gs_tables_document.specs.declared.document.Field.{Field};
-ghost use Rattle.gs_epc.specs.Epcs.{epc_of, value_of};
-ghost use Rattle.gs_epc.specs.FieldTexts.{filter_number};
-ghost use Rattle.gs_epc.specs.Layout.{fields_in};
+ghost use Rattle.gs_epc.specs.Epcs.{value_of};
+ghost use Rattle.gs_epc.specs.FieldTexts.{filter_number, key_fields};
 ghost use Rattle.gs_epc.specs.WordsOfLevels.{words_in};
 
-use crate::fields::{KeyTexts, field_place, filter_number};
+use crate::fields::{KeyTexts, filter_number};
+use crate::item_numbers::ItemNumbers;
 use gs_grammar_level::{BitWords, Words};
-use gs_tables::{Field, OptInfo};
+use gs_tables::Field;
 
 /// Room for the values of the fields of a key, to which those of bits are written.
 #[derive(Drop)]
@@ -67,36 +67,35 @@ impl LevelWords<'_> {
     fn value_of<'r>(
         &'r self,
         field: Field,
-        fields: &[Option<Field>],
+        numbers: &ItemNumbers<'_>,
         room: &'r mut [u8; 20],
     ) -> &'r [u8]
-        ensures { result.now ≡ value_of field fields.now (words_in self.now).values }
+        ensures { result.now ≡ value_of field numbers.now (words_in self.now).values }
     {
-        match field_place(field, fields) {
+        match numbers.of(field) {
             Some(number) => self.value(number, room),
             None => &[],
         }
     }
 
     /// Returns the filter value, if an item stands for it: the number of its one digit.
-    pub fn filter(&self, info: &OptInfo) -> Option<u8>
-        ensures { result ≡ filter_number (value_of Field.Filter info.now.fields (words_in self.now).values) }
+    pub fn filter(&self, numbers: &ItemNumbers<'_>) -> Option<u8>
+        ensures { result ≡ filter_number (value_of Field.Filter numbers.now (words_in self.now).values) }
     {
         let mut room = [0; 20];
-        filter_number(self.value_of(Field::Filter, info.fields.items(), &mut room))
+        filter_number(self.value_of(Field::Filter, numbers, &mut room))
     }
 
-    /// Returns the fields of the key that the words of an option's items give. Values of bits are written to the rooms.
-    pub fn key_texts<'r>(&'r self, info: &OptInfo, rooms: &'r mut Rooms) -> KeyTexts<'r>
-        ensures { result ≡ fields_in (epc_of info.now (words_in self.now).values) }
+    /// Returns the fields of the key that the words give by the numbers of items. Values of bits are written to the rooms.
+    pub fn key_texts<'r>(&'r self, numbers: &ItemNumbers<'_>, rooms: &'r mut Rooms) -> KeyTexts<'r>
+        ensures { result ≡ key_fields numbers.now (words_in self.now).values }
     {
-        let fields = info.fields.items();
         KeyTexts {
-            prefix: self.value_of(Field::Gcp, fields, &mut rooms.prefix),
-            rest: self.value_of(Field::Rest, fields, &mut rooms.rest),
-            piece: self.value_of(Field::Piece, fields, &mut rooms.piece),
-            total: self.value_of(Field::Total, fields, &mut rooms.total),
-            serial: self.value_of(Field::Serial, fields, &mut rooms.serial),
+            prefix: self.value_of(Field::Gcp, numbers, &mut rooms.prefix),
+            rest: self.value_of(Field::Rest, numbers, &mut rooms.rest),
+            piece: self.value_of(Field::Piece, numbers, &mut rooms.piece),
+            total: self.value_of(Field::Total, numbers, &mut rooms.total),
+            serial: self.value_of(Field::Serial, numbers, &mut rooms.serial),
         }
     }
 }

@@ -32,6 +32,7 @@ mod candidates;
 mod epc;
 mod error;
 mod fields;
+mod item_numbers;
 mod key_parts;
 mod laws;
 mod layout;

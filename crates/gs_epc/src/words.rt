@@ -10,6 +10,7 @@ ghost use Rattle.gs_epc.specs.WordsOfLevels.{AnswersWords, words_in};
 
 use crate::epc::EpcRef;
 use crate::fields::epc_with;
+use crate::item_numbers::ItemNumbers;
 use crate::layout::kind_at;
 use crate::level_words::{LevelWords, Rooms};
 use crate::link_writer::append_laid_out;
@@ -48,8 +49,9 @@ impl EpcWords<'_> {
     pub fn epc<'r>(&'r self, rooms: &'r mut Rooms) -> EpcRef<'r>
         ensures { result ≡ self.now }
     {
-        let filter = self.words.filter(self.info);
-        epc_with(self.info, filter, self.words.key_texts(self.info, rooms))
+        let numbers = ItemNumbers::new(self.info.fields.items());
+        let filter = self.words.filter(&numbers);
+        epc_with(self.info, filter, self.words.key_texts(&numbers, rooms))
     }
 
     /// Appends the link, under the stem, of the identity that the EPC names, as `EpcReading::append_link` does. Fails only with
@@ -61,8 +63,9 @@ impl EpcWords<'_> {
         ensures begun { OnErr result (BeginsWith out.new.items out.old.items) }
     {
         let kind = kind_at(set, self.info.kind);
+        let numbers = ItemNumbers::new(self.info.fields.items());
         let mut rooms = Rooms::new();
-        let texts = self.words.key_texts(self.info, &mut rooms);
+        let texts = self.words.key_texts(&numbers, &mut rooms);
         append_laid_out(set, self.info.kind, kind, &texts, stem, out)
     }
 }
