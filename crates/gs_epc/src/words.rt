@@ -21,8 +21,8 @@ use gs_grammar_level::{find_bits, find_words};
 use gs_tables::{LevelName, OptInfo, TableSet};
 use std::marker::Model;
 
-/// The words of an EPC URI, or of the bits of a tag, as an EPC: the facts of the option, and the words of its items. Contracts see
-/// the EPC.
+/// The words of an EPC URI, or of the bits of a tag, as an EPC: the facts of the option, and the words of its items. Contracts
+/// see the EPC.
 #[derive(Drop)]
 pub struct EpcWords<'a> {
     info: &'a OptInfo,
@@ -110,8 +110,8 @@ impl TagBits {
     }
 }
 
-/// Finds the words of the bits of a tag, a text of hexadecimal digits, whose option has words of fixed length. `None` says
-/// nothing: `reading_of` decides then. Does not allocate.
+/// Finds the words of the bits of a tag, a text of hexadecimal digits, if its option cuts them at fixed places into literals and
+/// numbers. `None` says nothing: `reading_of` decides then. Does not allocate.
 pub fn bit_words_of<'a>(
     set: &'a TableSet,
     text: &[u8],
