@@ -10,7 +10,7 @@ use crate::item_numbers::ItemNumbers;
 use gs_grammar_level::{BitWords, Words};
 use gs_tables::Field;
 
-/// Room for the values of the fields of a key, to which those of bits are written.
+/// Room for the values of the fields of a key. The numbers in the bits of a tag are written to it, each as its digits.
 #[derive(Drop)]
 pub struct Rooms {
     prefix: [u8; 20],
@@ -53,7 +53,8 @@ impl LevelWords<'_> {
         }
     }
 
-    /// Returns the value of the item of this number, and an empty text after the last. A value of bits is written to the room.
+    /// Returns the value of the item of this number, and an empty text after the last. A number in bits is written to the
+    /// room.
     fn value<'r>(&'r self, number: usize, room: &'r mut [u8; 20]) -> &'r [u8]
         ensures { result.now ≡ slice_index_or (words_in self.now).values number [] }
     {

@@ -3,8 +3,9 @@
 //! - `read_hex`, `read_tag` and `read_pure` give the fields of an EPC; `write_hex`, `write_tag` and `write_pure` its text.
 //! - `reading_of` reads a text of any level. An `EpcReading` lends its fields, gives the identity that it names or only its
 //!   pairs, and appends its link.
-//! - `words_of` finds the words of an EPC URI whose fields stand in it as they are. An `EpcWords` appends its link, for which
-//!   nothing is allocated.
+//! - `words_of` finds the words of an EPC URI whose fields stand in it as they are, and `bit_words_of` those of the bits of a
+//!   tag. An `EpcWords` lends its fields, of which those of bits are written to `Rooms`, and appends its link. Nothing is
+//!   allocated for either.
 //! - `identity_of` lays the fields out as a key and its serial number; `fields_of` takes an identity apart. `push_checked` writes
 //!   the digits of a key, for gs_class too.
 //! - `lent_fields_of` and `append_lent` are `fields_of` and `write_level` over lent texts, without copies of them.

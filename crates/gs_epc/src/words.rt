@@ -1,8 +1,10 @@
-ghost use Rattle.std.specs.Prelude.{◌≡◌, ◌++◌, ℕ, IfOk, IfSome, List, Ok, OnErr};
+ghost use Rattle.std.specs.Prelude.{◌≡◌, ◌∷◌, ◌++◌, ℕ, All, IfOk, IfSome, List, Ok, OnErr};
 ghost use Rattle.gs_chars.specs.Answers.{BeginsWith};
 ghost use Rattle.gs_grammar.specs.Derivations.{OneDerivation};
-ghost use Rattle.gs_ident.specs.Elements.{Elements};
+ghost use Rattle.gs_ident.specs.Elements.{Elements, pairs_of};
+ghost use Rattle.gs_ident.specs.Identities.{IsInOrder};
 ghost use Rattle.gs_ident.specs.Links.{spelled};
+ghost use Rattle.gs_ident.specs.QualifiedKeys.{pairs_in};
 ghost use Rattle.gs_epc.specs.Epcs.{IsOfSet, options_of};
 ghost use Rattle.gs_epc.specs.Layout.{IsLaidOut};
 ghost use Rattle.gs_epc.specs.Readings.{ReadsAs, ReadsHex};
@@ -11,7 +13,7 @@ ghost use Rattle.gs_epc.specs.WordsOfLevels.{AnswersWords, words_in};
 use crate::epc::EpcRef;
 use crate::fields::epc_with;
 use crate::item_numbers::ItemNumbers;
-use crate::layout::kind_at;
+use crate::layout::{KeyAndSerial, key_and_serial, kind_at};
 use crate::level_words::{LevelWords, Rooms};
 use crate::link_writer::append_laid_out;
 use gs_bits::BitBuf;
@@ -19,10 +21,11 @@ use gs_chars::Memory;
 use gs_grammar::{MOST_SYMBOLS, unpack};
 use gs_grammar_level::{find_bits, find_words};
 use gs_tables::{LevelName, OptInfo, TableSet};
+use std::alloc::Global;
 use std::marker::Model;
 
-/// The words of an EPC URI, or of the bits of a tag, as an EPC: the facts of the option, and the words of its items. Contracts see
-/// the EPC.
+/// The words of an EPC URI, or of the bits of a tag, as an EPC: the facts of the option, and the words of its items. Contracts
+/// see the EPC.
 #[derive(Drop)]
 pub struct EpcWords<'a> {
     info: &'a OptInfo,
@@ -52,6 +55,27 @@ impl EpcWords<'_> {
         let numbers = ItemNumbers::new(self.info.fields.items());
         let filter = self.words.filter(&numbers);
         epc_with(self.info, filter, self.words.key_texts(&numbers, rooms))
+    }
+
+    /// Returns the pairs of the identity that the EPC names, as `EpcReading::pairs` does. The values of bits are written to the
+    /// rooms. Fails only with `Memory`. The EPC is one of the set.
+    pub fn pairs<'i>(
+        &'i self,
+        alloc: Global,
+        set: &'i TableSet,
+        rooms: &'i mut Rooms,
+    ) -> Result<KeyAndSerial<'i>, Memory>
+        requires { IsOfSet set.now self.now }
+        ensures pairs { (identity : Elements) → IsLaidOut set.now self.now identity
+            → IfOk result (λ pairs. pairs_of identity ≡ pairs.key ∷ pairs_in pairs.serial) }
+        ensures in_order { IfOk result (λ pairs.
+            All (IsInOrder set.now.ais) (pairs.key ∷ pairs_in pairs.serial)) }
+    {
+        // only for the proof: the rows satisfy the rules of application identifiers
+        let _ = set.ais().rows();
+        let kind = kind_at(set, self.info.kind);
+        let lent = self.epc(rooms);
+        key_and_serial(alloc, set, kind, &lent)
     }
 
     /// Appends the link, under the stem, of the identity that the EPC names, as `EpcReading::append_link` does. Fails only with
@@ -110,8 +134,8 @@ impl TagBits {
     }
 }
 
-/// Finds the words of the bits of a tag, a text of hexadecimal digits, whose option has words of fixed length. `None` says
-/// nothing: `reading_of` decides then. Does not allocate.
+/// Finds the words of the bits of a tag, a text of hexadecimal digits, if its option cuts them at fixed places into literals and
+/// numbers. `None` says nothing: `reading_of` decides then. Does not allocate.
 pub fn bit_words_of<'a>(
     set: &'a TableSet,
     text: &[u8],
