@@ -111,7 +111,7 @@ fn append_read(
 }
 
 /// Appends the translation of a text of a level as `append_of_level` does: by its words, if these are given, otherwise by its
-/// reading. Element strings are written of a reading.
+/// reading.
 fn append_found(
     alloc: Global,
     set: &TableSet,
@@ -150,7 +150,14 @@ fn append_found(
             let epc = words.epc(&mut rooms);
             append_recoded(alloc, set, options, LevelName::Pure, epc, out)
         }
-        Target::Raw | Target::Bracketed => append_read(alloc, set, options, from, to, text, out),
+        Target::Raw => {
+            let pairs = words.pairs(alloc, set, &mut rooms)?;
+            Ok(append_raw_pairs(out, set.ais(), &pairs.key, pairs.serial.as_slice(), &[])?)
+        }
+        Target::Bracketed => {
+            let pairs = words.pairs(alloc, set, &mut rooms)?;
+            Ok(append_bracketed_pairs(out, &pairs.key, pairs.serial.as_slice(), &[])?)
+        }
         Target::Link => Ok(words.append_link(set, options.stem.as_bytes(), out)?),
         Target::Canon => Ok(words.append_link(set, CANONICAL_STEM.as_bytes(), out)?),
     }
@@ -180,7 +187,7 @@ fn append_of_bits(
 
 /// Appends the translation of a text of a level, or returns the first reason why it is rejected. The text is not too long. The
 /// identity of an EPC has only a key and its serial, so keeping only keys does not change it. A text whose words are found needs
-/// no reading, except for an element string.
+/// no reading.
 pub(crate) fn append_of_level(
     alloc: Global,
     set: &TableSet,
@@ -197,9 +204,6 @@ pub(crate) fn append_of_level(
         out.old.items out.new.items result) }
     ensures begun { OnErr result (BeginsWith out.new.items out.old.items) }
 {
-    if let Target::Raw | Target::Bracketed = to {
-        return append_read(alloc, set, options, from, to, text, out);
-    }
     match from {
         LevelName::Binary => append_of_bits(alloc, set, options, to, text, out),
         LevelName::Tag => {
