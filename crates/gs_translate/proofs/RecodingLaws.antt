@@ -1,9 +1,9 @@
 -- An EPC that is written in another form: the identity that it names, taken apart, gives its fields back, and has nothing but its
 -- key and its serial.
-use Rattle.std.proofs.Common.{◌≡◌, ℕ, ◌==◌, ◌+◌, ◌≤◌, ◌&&◌, ◌||◌, Bool, true, false, not, length, List, [], ◌∷◌, ◌++◌, Some, None, filter, find, map, position, slice_get, take, refl, sym, ap, subst, ◌∙◌, arith}
+use Rattle.std.proofs.Common.{◌≡◌, ℕ, ◌==◌, ◌+◌, ◌≤◌, ◌&&◌, ◌||◌, Bool, true, false, not, length, List, [], ◌∷◌, ◌++◌, Option, Some, None, append-nil, filter, find, map, position, slice_get, take, refl, sym, ap, subst, ◌∙◌, arith}
 use Rattle.std.specs.Prelude.{Result, Ok, Err, if◌then◌else◌}
 use Rattle.std.specs.List.{list_any}
-use Rattle.std.specs.Option.{option_map_or}
+use Rattle.std.specs.Option.{MatchOption, option_map_or}
 use Rattle.std.proofs.lemmas.Option.{slice_get-map}
 use Rattle.gs_chars.specs.Limits.{longest_text}
 use Rattle.gs_chars.proofs.TruthsAndLists.{get_take, mapped_some, same_bytes, same_number}
@@ -13,6 +13,7 @@ use Rattle.gs_ai.specs.Values.{has_code}
 use Rattle.gs_ai.proofs.RuleLemmas.{none_at}
 use Rattle.gs_ident.specs.Elements.{Elements, elements_with, is_coded}
 use Rattle.gs_ident.specs.Identities.{stands_for_none}
+use Rattle.gs_ident.specs.QualifiedKeys.{pairs_in}
 use Rattle.gs_ident.proofs.MovedPairs.{any_at}
 use Rattle.gs_prefix.specs.declared.entry.PrefixEntry.{PrefixEntry}
 use Rattle.gs_tables_document.specs.declared.document.KindRow.{KindRow}
@@ -210,3 +211,10 @@ pub not_appended : (set : TableRows) (prefixes : List PrefixEntry) (options : Op
     → UnlessMemory {X = Unit {0}} (Err (epc_reason error)) (AppendsText {Done = Unit {0}} (IsTranslation set prefixes options (form_at from) to text) before before (Err (epc_reason error)))
 not_appended set prefixes options from to text before error few read =
     unless_rejected (List ℕ) (Unit {0}) {B = AppendsText {Done = Unit {0}} (IsTranslation set prefixes options (form_at from) to text) before before (Err (epc_reason error))} (epc_reason error) (λ said. (refl, said)) (not_read set prefixes options from to text error few read)
+
+-- ---- element strings
+
+-- the pairs of the slice of a serial, with no attributes after them
+pub listed : (slice : List Pair) (serial : Option Pair) → MatchOption serial (slice ≡ []) (λ pair. slice ≡ pair ∷ []) → slice ++ [] ≡ pairs_in serial
+listed slice None e = append-nil slice ∙ e
+listed slice (Some pair) e = append-nil slice ∙ e

@@ -2,7 +2,7 @@ use Rattle.std.proofs.Common.{refl}
 use Rattle.std.specs.Prelude.{Ok}
 use Rattle.gs_ident.specs.Links.{canonical_link, spelled}
 use Rattle.gs_translate.proofs.EpcTexts.{fits_at}
-use Rattle.gs_translate.proofs.RecodingLaws.{translated}
+use Rattle.gs_translate.proofs.RecodingLaws.{listed, translated}
 use Rattle.gs_translate.proofs.recoding.append_found.Goals as goal
 
 pub append_recoded-requires-clause-given : goal.append_recoded-requires-clause-given
@@ -40,3 +40,8 @@ returns-in_ok-append_link-in-Canon-clause-written c = λ prefixes.
     translated c.args.set.now prefixes c.args.options.now c.args.from c.args.to c.args.text.now c.in-Some.words c.args.out.now.items c.append_link-in-Canon.new.out.items (Ok (tt {0})) c.ais.ensures.shaped c.requires.short (rw c.in-Some.is at c.requires.answer) (rw c.in-Some.is at c.requires.of_set) (λ identity laid.
     let linked = rw c.as_bytes-in-Canon.ensures.value at (c.in_ok-append_link-in-Canon.ensures.written identity laid) in
     rw c.in-Canon.is (canonical_link identity, linked, refl))
+
+pub append_raw_pairs-requires : goal.append_raw_pairs-requires
+append_raw_pairs-requires c =
+    let slice = listed c.as_slice.result.now c.in_ok-pairs-in-Raw.pairs.serial c.as_slice.ensures in
+    rw (c.ais.ensures.rows, slice) c.in_ok-pairs-in-Raw.ensures.in_order

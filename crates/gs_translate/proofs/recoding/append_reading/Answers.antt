@@ -1,14 +1,7 @@
-use Rattle.std.proofs.Common.{◌≡◌, ◌++◌, ◌∷◌, [], List, None, Option, Some, append-nil, refl, ◌∙◌}
-use Rattle.std.specs.Option.{MatchOption}
-use Rattle.gs_ai.specs.declared.pair.Pair.{Pair}
+use Rattle.std.proofs.Common.{refl}
 use Rattle.gs_ident.specs.Links.{canonical_link, spelled}
-use Rattle.gs_ident.specs.QualifiedKeys.{pairs_in}
+use Rattle.gs_translate.proofs.RecodingLaws.{listed}
 use Rattle.gs_translate.proofs.recoding.append_reading.Goals as goal
-
--- the pairs of the slice of a serial, with no attributes after them
-listed : (slice : List Pair) (serial : Option Pair) → MatchOption serial (slice ≡ []) (λ pair. slice ≡ pair ∷ []) → slice ++ [] ≡ pairs_in serial
-listed slice None e = append-nil slice ∙ e
-listed slice (Some pair) e = append-nil slice ∙ e
 
 pub returns-in-Hex-clause-written : goal.returns-in-Hex-clause-written
 returns-in-Hex-clause-written c = rw (c.in-Hex.is, ← c.epc.ensures) c.append_recoded.ensures.written
