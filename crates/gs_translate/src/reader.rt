@@ -58,11 +58,11 @@ fn level_meaning<'a>(
     Ok(meaning_of(alloc, set, &reading)?)
 }
 
-/// Returns the meaning of a text of a form, or why it is rejected. Returns `Long` if and only if the text has more than 2,048
-/// bytes, before every other reason. For bits and EPC URIs, returns `Epc` if and only if the text is not an EPC, with the
-/// reason. For an element string, returns `Element` if and only if an element is invalid, and names the first. For a link,
-/// returns `NotHttp`, `NoKeyPath` and `Element` if and only if it has that error, in this order. For both, returns `Ident` if
-/// and only if there is none of these and the elements have no identity, with the reason.
+/// Returns the meaning of a text of a form, or why it is rejected. Returns `Long` if and only if the text has more than
+/// 2,048 bytes, before every other reason. For bits and EPC URIs, returns `Epc` if and only if the text is not an EPC, with
+/// the reason. For an element string, returns `Element` if and only if an element is invalid, and names the first. For a
+/// link, returns `NotHttp`, `NoKeyPath` and `Element` if and only if it has that error, in this order. For both, returns
+/// `Ident` if and only if there is none of these and the elements have no identity, with the reason.
 #[tactic(auto, using(crate::proofs::StepLaws::after_long))]
 pub fn read<'a>(
     alloc: Global,

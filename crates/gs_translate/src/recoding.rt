@@ -24,8 +24,8 @@ use gs_ident::CANONICAL_STEM;
 use gs_tables::{LevelName, TableSet};
 use std::alloc::Global;
 
-/// Appends the text of a level for an EPC, or returns the first reason against it. The filter value and the encoding are those
-/// of the options, or its own. Its identity is not laid out: taken apart, it would give the fields back.
+/// Appends the text of a level for an EPC, or returns the first reason against it. The filter value and the encoding are
+/// those of the options, or its own. Its identity is not laid out: taken apart, it would give the fields back.
 fn append_recoded(
     alloc: Global,
     set: &TableSet,
@@ -49,8 +49,8 @@ fn append_recoded(
     append_epc(alloc, set, to, &epc, out)
 }
 
-/// Appends the spelling of an EPC in the requested form, or gives the first reason why there is none. The identity that it names
-/// is not made for it.
+/// Appends the spelling of an EPC in the requested form, or gives the first reason why there is none. The identity that it
+/// names is not made for it.
 fn append_reading(
     alloc: Global,
     set: &TableSet,
@@ -163,7 +163,8 @@ fn append_found(
     }
 }
 
-/// Appends the translation of the bits of a tag as `append_of_level` does. It has room for bits, which other texts do not need.
+/// Appends the translation of the bits of a tag as `append_of_level` does. It has room for bits, which other texts do not
+/// need.
 #[inline(never)]
 fn append_of_bits(
     alloc: Global,

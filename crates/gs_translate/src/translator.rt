@@ -61,8 +61,8 @@ fn new_text(alloc: Global) -> Result<Vec<u8>, Memory>
 }
 
 impl Translator<'_> {
-    /// Appends the translation of a text, or gives why it is rejected, as `translate` says. After a rejection `out` is unchanged;
-    /// after out of memory it begins with its old contents.
+    /// Appends the translation of a text, or gives why it is rejected, as `translate` says. After a rejection `out` is
+    /// unchanged; after out of memory it begins with its old contents.
     pub fn append(&self, alloc: Global, text: &[u8], out: &mut Vec<u8>) -> Result<(), Reason>
         ensures written { UnlessMemory result (AppendsText
             (IsTranslated self.now text.now) out.old.items out.new.items result) }
@@ -126,18 +126,18 @@ impl Translator<'_> {
     }
 }
 
-/// Returns the translation of a text of a form to the requested form. It is the one spelling of the identity that it names, or
-/// the first reason why it is rejected. With `keys_only` the identity keeps only its key, and its serial if that is a separate
-/// element.
+/// Returns the translation of a text of a form to the requested form. It is the one spelling of the identity that it names,
+/// or the first reason why it is rejected. With `keys_only` the identity keeps only its key, and its serial if that is a
+/// separate element.
 ///
 /// The reasons of `read` come first. Element strings, links and canonical links are then written of every identity. For bits
 /// and EPC URIs, returns these in order. `NoKind`: no kind of the tables has the key. `Extra`: a pair is neither the key nor
-/// its serial; names the first. `Missing(Gcp)`: neither the text nor the options nor the list, in this order, give the company
-/// prefix length. `NoOption`: no option of any level has this kind and length. `Missing(Serial)`: the identity has no serial,
-/// and no text means its absence. `Missing(Filter)`, except for a pure identity: neither the text nor the options, in this
-/// order, give a filter value. Then `NoOption` and `CannotHold` as `write_hex`, `write_tag` and `write_pure` of gs_epc return
-/// them. They use the encoding of the options or, if that is empty, of the text. May return `Memory` instead. The filter value
-/// of the options is at most 7, and `stem_ok` allows their stem.
+/// its serial; names the first. `Missing(Gcp)`: neither the text nor the options nor the list, in this order, give the
+/// company prefix length. `NoOption`: no option of any level has this kind and length. `Missing(Serial)`: the identity has
+/// no serial, and no text means its absence. `Missing(Filter)`, except for a pure identity: neither the text nor the
+/// options, in this order, give a filter value. Then `NoOption` and `CannotHold` as `write_hex`, `write_tag` and
+/// `write_pure` of gs_epc return them. They use the encoding of the options or, if that is empty, of the text. May return
+/// `Memory` instead. The filter value of the options is at most 7, and `stem_ok` allows their stem.
 pub fn translate(
     alloc: Global,
     set: &TableSet,
