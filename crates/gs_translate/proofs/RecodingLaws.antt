@@ -1,6 +1,6 @@
 -- An EPC that is written in another form: the identity that it names, taken apart, gives its fields back, and has nothing but its
 -- key and its serial.
-use Rattle.std.proofs.Common.{◌≡◌, ℕ, ◌==◌, ◌+◌, ◌≤◌, ◌&&◌, ◌||◌, Bool, true, false, not, length, List, [], ◌∷◌, ◌++◌, Option, Some, None, append-nil, filter, find, map, position, slice_get, take, refl, sym, ap, subst, ◌∙◌, arith}
+use Rattle.std.proofs.Common.{◌≡◌, ℕ, ◌==◌, ◌+◌, ◌≤◌, ◌&&◌, ◌||◌, Bool, true, false, not, length, List, [], ◌∷◌, ◌++◌, Some, None, filter, find, map, position, slice_get, take, refl, sym, ap, subst, ◌∙◌, arith, Option, append-nil}
 use Rattle.std.specs.Prelude.{Result, Ok, Err, if◌then◌else◌}
 use Rattle.std.specs.List.{list_any}
 use Rattle.std.specs.Option.{MatchOption, option_map_or}
@@ -184,6 +184,11 @@ kept_laid : (set : TableRows) (keys_only : Bool) (epc : Epc) (identity : Element
 kept_laid set true epc identity shaped laid = ap (epc_meaning epc) (sym (narrowed_laid set epc identity shaped laid))
 kept_laid set false epc identity shaped laid = refl
 
+-- the pairs of the slice of a serial, with no attributes after them
+pub listed : (slice : List Pair) (serial : Option Pair) → MatchOption serial (slice ≡ []) (λ pair. slice ≡ pair ∷ []) → slice ++ [] ≡ pairs_in serial
+listed slice None e = append-nil slice ∙ e
+listed slice (Some pair) e = append-nil slice ∙ e
+
 -- ---- translations
 
 -- what is appended as the spelling of the EPC of a text is the translation of the text, also if only keys are kept
@@ -211,10 +216,3 @@ pub not_appended : (set : TableRows) (prefixes : List PrefixEntry) (options : Op
     → UnlessMemory {X = Unit {0}} (Err (epc_reason error)) (AppendsText {Done = Unit {0}} (IsTranslation set prefixes options (form_at from) to text) before before (Err (epc_reason error)))
 not_appended set prefixes options from to text before error few read =
     unless_rejected (List ℕ) (Unit {0}) {B = AppendsText {Done = Unit {0}} (IsTranslation set prefixes options (form_at from) to text) before before (Err (epc_reason error))} (epc_reason error) (λ said. (refl, said)) (not_read set prefixes options from to text error few read)
-
--- ---- element strings
-
--- the pairs of the slice of a serial, with no attributes after them
-pub listed : (slice : List Pair) (serial : Option Pair) → MatchOption serial (slice ≡ []) (λ pair. slice ≡ pair ∷ []) → slice ++ [] ≡ pairs_in serial
-listed slice None e = append-nil slice ∙ e
-listed slice (Some pair) e = append-nil slice ∙ e

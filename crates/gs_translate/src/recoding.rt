@@ -110,32 +110,24 @@ fn append_read(
     append_reading(alloc, set, options, to, &reading, out)
 }
 
-/// Appends the translation of a text of a level as `append_of_level` does: by its words, if these are given, otherwise by its
-/// reading.
-fn append_found(
+/// Appends the spelling of an EPC as `append_reading` does, of its words.
+fn append_words(
     alloc: Global,
     set: &TableSet,
     options: &Options,
-    from: LevelName,
     to: Target,
-    text: &[u8],
-    found: Option<EpcWords<'_>>,
+    words: &EpcWords<'_>,
     out: &mut Vec<u8>,
 ) -> Result<(), Reason>
     requires options { AreInOrder options.now }
-    requires short { length text.now ≤ longest_text }
-    requires answer { IfSome found (λ epc. ReadsText set.now from text.now (Ok epc)) }
-    requires of_set { IfSome found (IsOfSet set.now) }
-    ensures written { (prefixes : List PrefixEntry) → UnlessMemory result (AppendsText
-        (IsTranslation set.now prefixes options.now (form_at from) to text.now)
+    requires of_set { IsOfSet set.now words.now }
+    requires given { FitsFilter words.now.filter }
+    ensures written { (prefixes : List PrefixEntry) (identity : Elements)
+        → IsLaidOut set.now words.now identity → UnlessMemory result (AppendsText
+        (IsSpelling set.now prefixes options.now to (epc_meaning words.now identity))
         out.old.items out.new.items result) }
     ensures begun { OnErr result (BeginsWith out.new.items out.old.items) }
 {
-    // only for the proof: the rows satisfy the rules of tables
-    let _ = set.ais();
-    let Some(words) = found else {
-        return append_read(alloc, set, options, from, to, text, out);
-    };
     let mut rooms = Rooms::new();
     match to {
         Target::Hex => {
@@ -163,6 +155,35 @@ fn append_found(
     }
 }
 
+/// Appends the translation of a text of a level as `append_of_level` does: by its words, if these are given, otherwise by
+/// its reading.
+fn append_found(
+    alloc: Global,
+    set: &TableSet,
+    options: &Options,
+    from: LevelName,
+    to: Target,
+    text: &[u8],
+    found: Option<EpcWords<'_>>,
+    out: &mut Vec<u8>,
+) -> Result<(), Reason>
+    requires options { AreInOrder options.now }
+    requires short { length text.now ≤ longest_text }
+    requires answer { IfSome found (λ epc. ReadsText set.now from text.now (Ok epc)) }
+    requires of_set { IfSome found (IsOfSet set.now) }
+    ensures written { (prefixes : List PrefixEntry) → UnlessMemory result (AppendsText
+        (IsTranslation set.now prefixes options.now (form_at from) to text.now)
+        out.old.items out.new.items result) }
+    ensures begun { OnErr result (BeginsWith out.new.items out.old.items) }
+{
+    // only for the proof: the rows satisfy the rules of tables
+    let _ = set.ais();
+    match found {
+        Some(words) => append_words(alloc, set, options, to, &words, out),
+        None => append_read(alloc, set, options, from, to, text, out),
+    }
+}
+
 /// Appends the translation of the bits of a tag as `append_of_level` does. It has room for bits, which other texts do not
 /// need.
 #[inline(never)]
@@ -186,9 +207,9 @@ fn append_of_bits(
     append_found(alloc, set, options, LevelName::Binary, to, text, found, out)
 }
 
-/// Appends the translation of a text of a level, or returns the first reason why it is rejected. The text is not too long. The
-/// identity of an EPC has only a key and its serial, so keeping only keys does not change it. A text whose words are found needs
-/// no reading.
+/// Appends the translation of a text of a level, or returns the first reason why it is rejected. The text is not too long.
+/// The identity of an EPC has only a key and its serial, so keeping only keys does not change it. A text whose words are
+/// found needs no reading.
 pub(crate) fn append_of_level(
     alloc: Global,
     set: &TableSet,
