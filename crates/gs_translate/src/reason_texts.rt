@@ -33,7 +33,7 @@ pub fn append_reason(alloc: Global, out: &mut Vec<u8>, reason: &Reason) -> Resul
     match reason {
         Reason::Long => append_word(out, b"long"),
         Reason::Epc(error) => append_epc(alloc, out, *error),
-        Reason::Element(error) => append_element(alloc, out, *error),
+        Reason::Element(error) => append_element_fault(alloc, out, *error),
         Reason::NotHttp => append_word(out, b"http"),
         Reason::NoKeyPath => append_word(out, b"path"),
         Reason::Ident(error) => append_ident(out, error),
@@ -81,7 +81,7 @@ fn append_hex(alloc: Global, out: &mut Vec<u8>, error: HexFault) -> Result<(), M
 }
 
 /// Appends the error of an element, and its place.
-fn append_element(alloc: Global, out: &mut Vec<u8>, error: ElementFault) -> Result<(), Memory>
+fn append_element_fault(alloc: Global, out: &mut Vec<u8>, error: ElementFault) -> Result<(), Memory>
     ensures written { OnOk result (out.new.items ≡ out.old.items ++ element_text error) }
     ensures begun { OnErr result (BeginsWith out.new.items out.old.items) }
 {
