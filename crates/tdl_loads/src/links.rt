@@ -241,7 +241,10 @@ fn judge_other(
         voc,
         templates: false,
     };
-    Ok(Some(judge_json(alloc, judging, bytes)?))
+    match judge_json(alloc, judging, bytes) {
+        Ok(store) => Ok(Some(store)),
+        Err(unloaded) => Err(unloaded),
+    }
 }
 
 /// Loads the links of the named file of a kind, in JSON, which are merged with others. Loads none if none is named.
