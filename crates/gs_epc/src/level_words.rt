@@ -55,6 +55,7 @@ impl LevelWords<'_> {
 
     /// Returns the value of the item of this number, and an empty text after the last. A number in bits is written to the
     /// room.
+    #[inline(always)]
     fn value<'r>(&'r self, number: usize, room: &'r mut [u8; 20]) -> &'r [u8]
         ensures { result.now ≡ slice_index_or (words_in self.now).values number [] }
     {
@@ -65,6 +66,7 @@ impl LevelWords<'_> {
     }
 
     /// Returns the value of a field, and the empty text if no item has the field. A value of bits is written to the room.
+    #[inline(always)]
     fn value_of<'r>(
         &'r self,
         field: Field,

@@ -111,6 +111,7 @@ fn append_read(
 }
 
 /// Appends the spelling of an EPC as `append_reading` does, of its words.
+#[inline(never)]
 fn append_words(
     alloc: Global,
     set: &TableSet,
@@ -157,6 +158,7 @@ fn append_words(
 
 /// Appends the translation of a text of a level as `append_of_level` does: by its words, if these are given, otherwise by
 /// its reading.
+#[inline(always)]
 fn append_found(
     alloc: Global,
     set: &TableSet,
@@ -179,7 +181,11 @@ fn append_found(
     // only for the proof: the rows satisfy the rules of tables
     let _ = set.ais();
     match found {
-        Some(words) => append_words(alloc, set, options, to, &words, out),
+        Some(words) => match to {
+            // here and not there, where the places of all targets are cleared first
+            Target::Canon => Ok(words.append_link(set, CANONICAL_STEM.as_bytes(), out)?),
+            _ => append_words(alloc, set, options, to, &words, out),
+        },
         None => append_read(alloc, set, options, from, to, text, out),
     }
 }
