@@ -1,12 +1,10 @@
-"""bench/instructions [reading | PROFILE]: instructions that a line costs, by `valgrind --tool=callgrind`, the start-up taken off.
+"""bench/instructions [PROFILE]: instructions that a line costs, by `valgrind --tool=callgrind`, the start-up taken off.
 
 It makes its lines itself, as bench/lines does, runs crates/tdl/out/tdl (which `bin/build` or `rt ci` leaves) over few and over
 many of them, and prints the difference for one line, `canon` of every form and `translate pure hex`: the table of
 docs/BENCHMARKS.md. Instructions are the same whatever else the machine does. With the name of a command and its operands, such
-as `canon pure`, it prints in place of the table the functions that cost most for one line. With the word `reading` it prints what
-the reading costs of a line of the three forms of EPCs: all that is called from the function that reads the symbols of a text or of
-bits, the memory that it takes with it. The unpacking of bits stands before that function, and is not counted. It ends with a
-message where valgrind is missing.
+as `canon pure`, it prints in place of the table the functions that cost most for one line. It ends with a message where valgrind
+is missing.
 """
 import argparse
 import random
@@ -15,7 +13,6 @@ import shutil
 import subprocess
 import sys
 import tempfile
-from typing import Sequence
 
 from tools.common import parser, printed, there
 from tools.measures import TDL, company_prefixes, lines_of
@@ -23,8 +20,6 @@ from tools.measures import TDL, company_prefixes, lines_of
 FEW, MANY = 100, 1_100
 COMMANDS = [["canon", form] for form in ("pure", "tag", "hex", "raw", "bracketed", "link")]
 COMMANDS.append(["translate", "pure", "hex", "--filter", "3"])
-READINGS = [["canon", form] for form in ("pure", "tag", "hex")]
-READER = "gs_grammar_level::read::read_symbols"
 
 
 def lines(form: str, count: int) -> bytes:
@@ -33,13 +28,12 @@ def lines(form: str, count: int) -> bytes:
     return lines_of(company_prefixes(), count)[form]
 
 
-def counted(words: list[str], data: bytes, out: str, inside: Sequence[str] = ()) -> int:
-    """The instructions of a run over this input, and of each function of it; those in the calls of a function, where one is named."""
+def counted(words: list[str], data: bytes, out: str) -> int:
+    """The instructions of a run over this input, and of each function of it."""
     with tempfile.TemporaryFile() as given:
         given.write(data)
         given.seek(0)
-        within = [f"--toggle-collect={name}" for name in inside]
-        command = ["valgrind", "--tool=callgrind", f"--callgrind-out-file={out}", *within, TDL, *words]
+        command = ["valgrind", "--tool=callgrind", f"--callgrind-out-file={out}", TDL, *words]
         run = subprocess.run(command, stdin=given, stdout=subprocess.PIPE, stderr=subprocess.PIPE)
     if run.returncode != 0:
         sys.exit(f"bench/instructions: {' '.join(words)} ended with {run.returncode}: {run.stdout[:200]!r}")
@@ -62,19 +56,16 @@ def main() -> None:
     if shutil.which("valgrind") is None:
         sys.exit("bench/instructions: skipped, since valgrind is missing")
     asked = parser(__doc__)
-    asked.add_argument("words", nargs=argparse.REMAINDER, metavar="reading | PROFILE")
-    words = asked.parse_args().words
-    reading = words == ["reading"]
-    profile = bool(words) and not reading
-    commands = [words] if profile else READINGS if reading else COMMANDS
-    inside = [READER] if reading else []
+    asked.add_argument("words", nargs=argparse.REMAINDER, metavar="PROFILE")
+    profile = asked.parse_args().words
+    commands = [profile] if profile else COMMANDS
     with tempfile.TemporaryDirectory() as folder:
         if not profile:
-            print(f"| {'Reading of a line of' if reading else 'Command'} | instructions a line |\n|---|---:|")
+            print("| Command | instructions a line |\n|---|---:|")
         for words in commands:
             form = words[1]
             few, many = (f"{folder}/{count}" for count in (FEW, MANY))
-            counts = [counted(words, lines(form, n), out, inside) for n, out in ((FEW, few), (MANY, many))]
+            counts = [counted(words, lines(form, n), out) for n, out in ((FEW, few), (MANY, many))]
             a_line = (counts[1] - counts[0]) / (MANY - FEW)
             if not profile:
                 print(f"| `{' '.join(words)}` | {a_line:,.0f} |")
