@@ -1,6 +1,7 @@
 """What the tools have in common: their arguments, how they run programs, what that costs, and what has to be there."""
 import argparse
 import resource
+import socket
 import subprocess
 import tempfile
 from contextlib import contextmanager
@@ -11,6 +12,9 @@ from typing import Any, Callable, Iterator, Optional, Sequence, TypeVar, Union
 T = TypeVar("T")
 Word = Union[str, bytes, int, Path]
 Process = subprocess.Popen[Any]
+HOST = "127.0.0.1"
+# the seconds after which a test takes what it waits for as hung: far more than it needs on a slow machine
+PATIENCE = 900
 QUIET: dict[str, Any] = {"stdout": subprocess.DEVNULL, "stderr": subprocess.DEVNULL}
 PIPES: dict[str, Any] = {"stdin": subprocess.PIPE, "stdout": subprocess.PIPE, "stderr": subprocess.PIPE}
 BOTH: dict[str, Any] = {"stdout": subprocess.PIPE, "stderr": subprocess.STDOUT, "text": True, "errors": "replace"}
@@ -100,6 +104,13 @@ def ending(process: Process) -> Iterator[Process]:
         yield process
     finally:
         end(process)
+
+
+def free_port() -> int:
+    """Returns a port of this machine that nothing listens at."""
+    with socket.socket() as asked:
+        asked.bind((HOST, 0))
+        return int(asked.getsockname()[1])
 
 
 def there(it: Optional[T]) -> T:

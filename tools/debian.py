@@ -45,6 +45,8 @@ PACKAGES = {
     "/usr/lib/python3/dist-packages/distributed/__init__.py": "python3-distributed",
     "/usr/lib/python3/dist-packages/openpyxl/__init__.py": "python3-openpyxl",
     "/usr/lib/python3/dist-packages/pandas/__init__.py": "python3-pandas",
+    "/usr/lib/python3/dist-packages/pytest/__init__.py": "python3-pytest",
+    "/usr/lib/python3/dist-packages/xdist/__init__.py": "python3-pytest-xdist",
     "setpriv": "util-linux",
     "skopeo": "skopeo",
     "systemd-analyze": "systemd",

@@ -1,19 +1,17 @@
 """What the checks have in common: the program that they try, the count of what passed, failed and was left out, and a free port."""
 import argparse
 import os
-import socket
 import sys
 from pathlib import Path
 from typing import Any, Callable, Optional
 
 from tools import library, repository
-from tools.common import parser
+from tools.common import HOST, PATIENCE, free_port, parser
 from tools.debian import is_gate, lack
 from tools.repository import PROGRAM
 
-HOST = "127.0.0.1"
-# the seconds after which a check takes what it waits for as hung: far more than it needs on a slow machine
-PATIENCE = 900
+
+__all__ = ["HOST", "PATIENCE", "free_port"]
 
 
 class Trial:
@@ -88,10 +86,3 @@ def library_of(results: Trial) -> Optional[Path]:
         results.failed, results.left_out = results.failed + is_gate(), results.left_out + (not is_gate())
         print(f"{results.name}: {'failed' if is_gate() else 'left out'} what needs libtdl: {why}", flush=True)
         return None
-
-
-def free_port() -> int:
-    """Returns a port of this machine that nothing listens at."""
-    with socket.socket() as asked:
-        asked.bind((HOST, 0))
-        return int(asked.getsockname()[1])

@@ -1,0 +1,72 @@
+"""What the tests have in common.
+
+Options: `--program FILE`, the program that is tried (crates/tdl/out/tdl if it is not given), and `--whole`, which tries the large sizes too.
+$TDL_LIBRARY is the folder of libtdl (crates/tdl_c/out, where it is built over what `rt ci` left, if it is not given).
+
+Fixtures: `program`, its path; `libtdl`, the library's folder; `module`, an environment in which `python3 -m tdl` runs this repository's module
+over the program. Marks: `needs(TOOL..)`, the tools of a test, by the names of tools/debian.py; `whole`, a test of a large size.
+
+A test whose tool is missing is skipped with the name of its package; in the gate (CI=true) it fails. A test waits for what has to happen, for
+at most PATIENCE seconds (tools/common.py), far more than it takes on a slow machine.
+"""
+import os
+from pathlib import Path
+from typing import Any
+
+import pytest
+
+from tools import library, repository
+from tools.debian import is_gate, lack
+
+
+def pytest_addoption(parser: pytest.Parser) -> None:
+    """Adds the options of the tests."""
+    parser.addoption("--program", type=Path, default=repository.PROGRAM, metavar="FILE", help="the program that is tried")
+    parser.addoption("--whole", action="store_true", help="try the large sizes too")
+
+
+def pytest_configure(config: pytest.Config) -> None:
+    """Names the marks of the tests."""
+    config.addinivalue_line("markers", "needs(*tools): the tools of a test, by the names of tools/debian.py")
+    config.addinivalue_line("markers", "whole: a test of a large size, tried only with --whole")
+
+
+def leave_out(why: str) -> None:
+    """Skips a test for want of something; in the gate it fails."""
+    if is_gate():
+        pytest.fail(why, pytrace=False)
+    pytest.skip(why)
+
+
+def pytest_runtest_setup(item: pytest.Item) -> None:
+    """Skips what is not asked for, and what needs a tool that is missing."""
+    if item.get_closest_marker("whole") and not item.config.getoption("--whole"):
+        pytest.skip("a large size: --whole tries it")
+    missing = lack(*(tool for mark in item.iter_markers("needs") for tool in mark.args))
+    if missing:
+        leave_out(f"needs {missing}")
+
+
+@pytest.fixture(scope="session")
+def program(pytestconfig: pytest.Config) -> Path:
+    """The program that is tried."""
+    found: Path = pytestconfig.getoption("--program").resolve()
+    if not repository.is_program(found):
+        pytest.fail(f"there is no program {found}: bin/build makes it", pytrace=False)
+    return found
+
+
+@pytest.fixture(scope="session")
+def module(program: Path) -> dict[str, str]:
+    """The environment in which `python3 -m tdl` runs this repository's module over the program."""
+    return repository.of_module(program)
+
+
+@pytest.fixture(scope="session")
+def libtdl() -> Any:
+    """The folder of the library for C."""
+    named = os.environ.get("TDL_LIBRARY")
+    try:
+        return Path(named).resolve() if named else library.current()
+    except library.Unbuilt as why:
+        return leave_out(f"needs libtdl: {why}")
