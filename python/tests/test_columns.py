@@ -21,7 +21,7 @@ from tdl.columns.records import Reader  # noqa: E402
 from tdl.columns.translation import translate_csv  # noqa: E402
 from tdl.errors import Wrong  # noqa: E402
 
-OWN = {"env": {**os.environ, "PYTHONPATH": os.environ.get("PYTHONPATH", str(SRC))}, "timeout": 300}
+OWN = {"env": {**os.environ, "PYTHONPATH": os.environ.get("PYTHONPATH", str(SRC))}, "timeout": 900}
 BITS, LINK = "3074257BF7194E4000001A85", "https://id.gs1.org/01/80614141123458/21/6789"
 SHOP = """order,gtin,serial,lot
 1,80614141123458,6789,ABC

@@ -11,7 +11,7 @@ from pathlib import Path
 
 SRC = Path(__file__).resolve().parent.parent / "src"
 BITS, LINK = "3074257BF7194E4000001A85", "https://id.gs1.org/01/80614141123458/21/6789"
-OWN = {"env": {**os.environ, "PYTHONPATH": os.environ.get("PYTHONPATH", str(SRC))}, "check": False, "timeout": 120}
+OWN = {"env": {**os.environ, "PYTHONPATH": os.environ.get("PYTHONPATH", str(SRC))}, "check": False, "timeout": 900}
 
 
 def run(*words, given=b""):

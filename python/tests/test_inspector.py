@@ -465,7 +465,7 @@ class Serving(unittest.TestCase):
 
     def reply(self, method, path, body=None, **headers):
         """The status, the fields and the body of a reply."""
-        connection = http.client.HTTPConnection("127.0.0.1", self.server.server_port, timeout=60)
+        connection = http.client.HTTPConnection("127.0.0.1", self.server.server_port, timeout=900)
         try:
             connection.request(method, path, body, headers={name.replace("_", "-"): value for name, value in headers.items()})
             told = connection.getresponse()

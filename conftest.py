@@ -4,7 +4,8 @@ Options: `--program FILE`, the program that is tried (crates/tdl/out/tdl if it i
 $TDL_LIBRARY is the folder of libtdl (crates/tdl_c/out, where it is built over what `rt ci` left, if it is not given).
 
 Fixtures: `program`, its path; `libtdl`, the library's folder; `module`, an environment in which `python3 -m tdl` runs this repository's module
-over the program. Marks: `needs(TOOL..)`, the tools of a test, by the names of tools/debian.py; `whole`, a test of a large size.
+over the program. Marks: `needs(TOOL..)`, the tools of a test, by the names of tools/debian.py; `whole`, a test of a large size. $TDL, by which the
+module finds its program, is set in each test. tools/tests.py has `same`, `none` and `leave_out`.
 
 A test whose tool is missing is skipped with the name of its package; in the gate (CI=true) it fails. A test waits for what has to happen, for
 at most PATIENCE seconds (tools/common.py), far more than it takes on a slow machine.
@@ -16,7 +17,8 @@ from typing import Any
 import pytest
 
 from tools import library, repository
-from tools.debian import is_gate, lack
+from tools.debian import lack
+from tools.tests import leave_out
 
 
 def pytest_addoption(parser: pytest.Parser) -> None:
@@ -29,13 +31,8 @@ def pytest_configure(config: pytest.Config) -> None:
     """Names the marks of the tests."""
     config.addinivalue_line("markers", "needs(*tools): the tools of a test, by the names of tools/debian.py")
     config.addinivalue_line("markers", "whole: a test of a large size, tried only with --whole")
-
-
-def leave_out(why: str) -> None:
-    """Skips a test for want of something; in the gate it fails."""
-    if is_gate():
-        pytest.fail(why, pytrace=False)
-    pytest.skip(why)
+    # (python/tests take their program from here, some as they are imported)
+    os.environ["TDL"] = str(config.getoption("--program").resolve())
 
 
 def pytest_runtest_setup(item: pytest.Item) -> None:
