@@ -20,6 +20,13 @@ Each file of checks/cases is a list of cases:
            nothing with any other
   status   the status that is wanted
   heavy    true: without proofs it takes minutes, so bin/test leaves it out if nothing is proved
+  for      the public calls of the libraries that the case is for; tools/calls.py counts the cases of each
+  cut      the most bytes of standard input that a read gets
+  broken   true: the read after the input fails. In a case with lines a list of numbers, which stands for a case with each: the read after
+           so many bytes of the input fails, and the lines that end before it are answered
+  room     how many bytes standard output takes before a write fails; a list of them stands for a case with each. Where the output has more,
+           its front is wanted, and status 5
+  unread   true: nothing of standard input is read
 
 A text has one character for each byte (latin-1). It is a string; or [TEXT, N], which is N times the text; or [TEXT, N, FIRST],
 which is N times the text with a number in the place of `{n}`, first FIRST and then one more each time; or a list of texts, which
@@ -38,10 +45,14 @@ Case = dict[str, Any]
 CASES = TOP / "checks" / "cases"
 NEEDED = {"name", "words", "status"}
 KNOWN = NEEDED | {"files", "lent", "sparse", "folders", "input", "stdin", "output", "pattern"}
-KNOWN |= {"lines", "turns", "stdout", "error", "heavy"}
+KNOWN |= {"lines", "turns", "stdout", "error", "heavy", "for", "cut", "broken", "room", "unread"}
 SAID = {2, 4, 5, 6, 8, 9}
 APART = [("input", "stdin"), ("output", "stdout"), ("output", "pattern"), ("pattern", "stdout"), ("lines", "turns")]
 APART += [(pairs, f) for pairs in ("lines", "turns") for f in ("input", "stdin", "output", "pattern", "stdout")]
+APART += [(stream, f) for stream in ("cut", "broken", "unread") for f in ("stdin", "turns")]
+APART += [("cut", "broken"), ("cut", "unread"), ("broken", "unread"), ("room", "stdout"), ("room", "turns"), ("room", "pattern")]
+# the statuses of a read and of a write that failed
+READ_FAULT, WRITE_FAULT = 4, 5
 SHOWN = 200
 
 
@@ -52,12 +63,35 @@ def subjects() -> Iterator[tuple[str, list[Case]]]:
 
 
 def singles(case: Case) -> Iterator[Case]:
-    """Yields a case once for each file of a list of files that are lent, which its name then has too."""
+    """Yields a case once for each file of a list of files that are lent, for each place at which its input breaks, or for each room of its
+    output, which its name then has too."""
     for name, paths in case.get("lent", {}).items():
         if isinstance(paths, list):
             yield from ({**case, "name": f"{case['name']}, by {path}", "lent": {**case["lent"], name: path}} for path in paths)
             return
-    yield case
+    for member, single in (("broken", broken_at), ("room", in_room)):
+        if isinstance(case.get(member), list):
+            yield from (single(case, number) for number in case[member])
+            return
+    yield in_room(case, case["room"]) if "room" in case else case
+
+
+def broken_at(case: Case, place: int) -> Case:
+    """The case whose input breaks at a place: the lines that end before it are answered."""
+    given = joined(case, "input", 0)[:place]
+    answers = [text for _, text in case["lines"][:given.count(b"\n")]]
+    kept = {member: value for member, value in case.items() if member != "lines"}
+    name = f"{case['name']}, broken after {place} bytes"
+    return {**kept, "name": name, "input": given.decode("latin-1"), "output": [[text, "\n"] for text in answers], "broken": True, "status": READ_FAULT}
+
+
+def in_room(case: Case, room: int) -> Case:
+    """The case whose output takes so many bytes."""
+    output = joined(case, "output", 1)
+    kept = {member: value for member, value in case.items() if member != "lines"}
+    kept.update({"input": joined(case, "input", 0).decode("latin-1")} if "lines" in case else {})
+    status = WRITE_FAULT if room < len(output) else case["status"]
+    return {**kept, "name": f"{case['name']}, room for {room} bytes", "room": room, "output": output[:room].decode("latin-1"), "status": status}
 
 
 def bytes_of(text: Any) -> bytes:

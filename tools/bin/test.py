@@ -40,7 +40,7 @@ ALL, CLOCK, PROCESSOR = 300, 3_600, 900
 # the costs (tools/pace.py) of a run of tdl, and of a thousand vectors
 RUN, THOUSAND = 1.2, 10
 # what `rt try` cannot give a program, or does not tell of it, and what takes more than a fifth of PROCESSOR on a slow machine
-BEYOND = {"turns", "sparse", "folders", "stdin", "stdout", "pattern", "heavy"}
+BEYOND = {"turns", "broken", "room", "sparse", "folders", "stdin", "stdout", "pattern", "heavy"}
 MOST_OUTPUT = 1 << 20
 # the file of vectors, and what the program of vectors prints of it last
 SOME, COUNTS = "some.txt", re.compile(r"some.txt: (\d+) answers, (\d+) differ")

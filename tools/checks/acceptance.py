@@ -11,19 +11,16 @@ import os
 import re
 import subprocess
 import tempfile
-from contextlib import ExitStack
 from pathlib import Path
 from select import select
 from time import monotonic
-from typing import IO, Any, Union
+from typing import IO, Union
 
 from tools.cases import SHOWN, Case, bytes_of, difference, form_fault, is_said, joined, lay_out, shown, subjects
 from tools.common import PIPES, begun, there
 from tools.repository import TOP
+from tools.streams import Ended, run
 from tools.trial import PATIENCE, Trial, arguments
-
-# status, output and errors
-Ended = tuple[Union[int, str], bytes, bytes]
 
 # the other checks: of the sources, with their flags, and of the program
 OF_SOURCES = [["tables/make", "--check"], ["checks/definitions", "--check"]]
@@ -65,25 +62,6 @@ def talk(program: Path, case: Case, folder: bytes) -> Ended:
     return talking.returncode, output + rest, error
 
 
-def run(program: Path, case: Case, folder: bytes) -> Ended:
-    """What the program answers: its status, its standard output and its standard error."""
-    streams: dict[str, Any] = {"stdout": subprocess.PIPE, "stderr": subprocess.PIPE}
-    with ExitStack() as opened:
-        if "stdin" in case:
-            streams["stdin"] = os.open(os.path.join(folder, bytes_of(case["stdin"])), os.O_RDONLY)
-            opened.callback(os.close, streams["stdin"])
-        else:
-            streams["input"] = joined(case, "input", 0)
-        if "stdout" in case:
-            streams["stdout"] = os.open(case["stdout"], os.O_WRONLY)
-            opened.callback(os.close, streams["stdout"])
-        try:
-            ended: subprocess.CompletedProcess[bytes] = subprocess.run(words_of(program, case), cwd=folder, timeout=PATIENCE, **streams)
-        except subprocess.TimeoutExpired:
-            return f"none in {PATIENCE} seconds", b"", b""
-    return ended.returncode, ended.stdout or b"", ended.stderr
-
-
 def faults_of(program: Path, case: Case) -> list[str]:
     """How what the program does differs from what a case wants, line by line."""
     fault = form_fault(case)
@@ -92,7 +70,7 @@ def faults_of(program: Path, case: Case) -> list[str]:
     with tempfile.TemporaryDirectory() as room:
         folder = os.fsencode(room)
         lay_out(case, folder)
-        status, output, error = (talk if "turns" in case else run)(program, case, folder)
+        status, output, error = talk(program, case, folder) if "turns" in case else run(words_of(program, case), case, folder, PATIENCE)
     faults = []
     if status != case["status"]:
         faults.append(f"  status wanted {case['status']}\n  status got    {status}")
