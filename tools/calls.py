@@ -12,7 +12,7 @@ from tools.common import parser
 def calls_of(case: Case) -> list[str]:
     """Returns the calls that a case is for."""
     named = case.get("for", [])
-    return [named] if isinstance(named, str) else named
+    return [named] if isinstance(named, str) else list(named)
 
 
 def main() -> int:
