@@ -1,4 +1,4 @@
-// Stands in front of the system's malloc, calloc and realloc: see checks/memory.
+// Stands in front of the system's malloc, calloc and realloc: see tests/test_memory.py.
 #define _GNU_SOURCE
 #include <fcntl.h>
 #include <stddef.h>

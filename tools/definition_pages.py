@@ -101,7 +101,7 @@ class Pages:
     def text(self, page: str) -> str:
         """The text of a page."""
         title, about = PAGES[page]
-        text = [f"# {title}\n\n{about} `checks/definitions` writes this page, and [DEFINITIONS.md](../DEFINITIONS.md) says how to read it.\n"]
+        text = [f"# {title}\n\n{about} `bin/docs --write` writes this page, and [DEFINITIONS.md](../DEFINITIONS.md) says how to read it.\n"]
         for chapter in ("core", "kernel") if page == "kernel" else (page,):
             if page == "kernel":
                 text.append(f"\n## {CHAPTERS[chapter][0]}\n\n{CHAPTERS[chapter][1]}\n")

@@ -1,10 +1,24 @@
-"""Pictures of pages made small: a PNG (ISO/IEC 15948) of true colours as one of a palette of 256."""
+"""The pictures of docs/, which `bin/docs --pictures` writes: a PNG (ISO/IEC 15948) of true colours as one of a palette of 256."""
+import json
 import struct
+import subprocess
+import sys
 import zlib
 from collections import Counter
 from itertools import chain
 from typing import Callable, Iterator
 
+from tools.browser import Browser, browser_path
+from tools.common import begun, ending, there
+from tools.repository import PROGRAM, TOP, of_module
+
+# the fragment of each picture, and the parts of the page that it leaves out
+PICTURES = {
+    "label": ("#text=(01)80614141123458(21)6789&gcp=7&filter=1", "h1, #question, #status, details, .copy, .reading > .list ~ *"),
+    "error": ("#text=https://shop.example/01/09506000134353/10/ABC", "details"),
+}
+WIDTH, HEIGHT = 940, 800
+SETTLED = "document.getElementById('result')?.getAttribute('aria-busy') === 'false'"
 SIGNATURE, SIZE, COLORS = b"\x89PNG\r\n\x1a\n", 3, 256
 
 
@@ -60,3 +74,28 @@ def with_palette(png: bytes) -> bytes:
     head = struct.pack("!IIBBBBB", len(lines[0]), len(lines), 8, 3, 0, 0, 0)
     parts = ((b"IHDR", head), (b"PLTE", b"".join(palette)), (b"IDAT", packed), (b"IEND", b""))
     return SIGNATURE + b"".join(struct.pack("!I", len(content)) + name + content + struct.pack("!I", zlib.crc32(name + content)) for name, content in parts)
+
+
+def pictures(browser: Browser, address: str) -> Iterator[tuple[str, bytes]]:
+    """Yields the name of each picture of the page at an address, and the picture."""
+    browser.call("Emulation.setEmulatedMedia", features=[{"name": "prefers-color-scheme", "value": "light"}])
+    for name, (fragment, hidden) in PICTURES.items():
+        browser.call("Emulation.setDeviceMetricsOverride", width=WIDTH, height=HEIGHT, deviceScaleFactor=1, mobile=False)
+        browser.call("Page.navigate", url="about:blank")
+        browser.wait("location.href === 'about:blank'")
+        browser.call("Page.navigate", url=address + fragment)
+        browser.wait(f"document.readyState === 'complete' && {SETTLED}")
+        browser.value(f"document.querySelectorAll({json.dumps(hidden)}).forEach((it) => {{ it.hidden = true; }})")
+        height = browser.value("document.querySelector('main').offsetHeight")
+        browser.call("Emulation.setDeviceMetricsOverride", width=WIDTH, height=height, deviceScaleFactor=1, mobile=False)
+        yield name, with_palette(browser.picture(WIDTH, height))
+
+
+def main() -> int:
+    """Writes the pictures, as the built program answers, and returns the status."""
+    words = [sys.executable, "-m", "tdl", "inspect", "--port", "0", "--no-open"]
+    with ending(begun(*words, env=of_module(PROGRAM), stdout=subprocess.PIPE, text=True)) as server:
+        with Browser(there(browser_path())) as browser:
+            for name, picture in pictures(browser, there(server.stdout).readline().split(" ")[0]):
+                (TOP / "docs" / f"inspector-{name}.png").write_bytes(picture)
+    return 0

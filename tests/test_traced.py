@@ -1,18 +1,18 @@
-"""traced [PROGRAM]: the values of docs/THEOREM.md, 'One label traced'.
+"""docs/THEOREM.md, 'One label traced', shows the values that its definitions give, written a second time here; vectors and the program give them too.
 
-Each value is computed by the definition that its row names, written a second time here, from the label, the tag and tables/builtin.json.
-The page has to show these values, in this order. Vectors of crates/vectors/data have the values and fields of the tag, and PROGRAM prints
-the lines.
+Each value is computed by the definition that its row names, from the label, the tag and tables/builtin.json.
 """
 import json
 import re
+from pathlib import Path
 from typing import Any, Iterator, Optional
 from urllib.parse import quote
+
+import pytest
 
 from tools import vectors
 from tools.common import run
 from tools.repository import TOP
-from tools.trial import Trial, arguments
 
 Pair = tuple[str, str]
 Elements = tuple[list[Pair], list[Pair], list[Pair]]
@@ -23,12 +23,6 @@ TABLES = json.loads((TOP / "tables" / "builtin.json").read_text("ascii"))
 # the fields that `epc_of` names otherwise than tables do
 NAMES = {"gcp": "prefix"}
 ROW = re.compile(r"^\| [^|]* \| \[`(\w+)`\]\([^)]*\) \| ([^|]*) \|$", re.MULTILINE)
-
-
-def shown() -> list[tuple[str, str]]:
-    """The definitions and the values that the page shows, in its order."""
-    section = (TOP / "docs" / "THEOREM.md").read_text("utf-8").split("\n## One label traced\n", 1)[1].split("\n## ", 1)[0]
-    return ROW.findall(section)
 
 
 def code(*texts: str) -> str:
@@ -141,30 +135,35 @@ def tag_rows(number: int, words: list[str], values: list[str], fields: dict[str,
     yield "canonical_link", code(canonical_link(elements))
 
 
-def main() -> int:
-    """Compares the values with the page, the vectors and the program, and returns the status."""
-    given, results = arguments(__doc__), Trial("traced")
-    number, words, values = one_derivation(f"{int(TAG, 16):0{4 * len(TAG)}b}")
-    option = TABLES["binary"][number]
-    fields = {NAMES.get(item[1], item[1]): value for item, value in zip(option["items"], values) if value}
-    link = canonical_link(elements_of(pairs_of_bracketed(LABEL)))
+NUMBER, WORDS, VALUES = one_derivation(f"{int(TAG, 16):0{4 * len(TAG)}b}")
+OPTION = TABLES["binary"][NUMBER]
+FIELDS = {NAMES.get(item[1], item[1]): value for item, value in zip(OPTION["items"], VALUES) if value}
+LINK = canonical_link(elements_of(pairs_of_bracketed(LABEL)))
+CALLS = {
+    f"gs_grammar_level::read_bits {TAG} {' '.join(map(item_text, OPTION['items']))} | num:8:255": " ".join(["0", *(value or "\\e" for value in VALUES)]),
+    f"gs_epc::read_hex {TAG}": "{kind} {encoding} Some({filter}) {gcp} {prefix} {rest} {serial}".format(**OPTION, **FIELDS),
+    f"gs_epc::identity_of hex {TAG}": LINK,
+}
+ANSWERS = [
+    (LABEL, LINK, "canon bracketed"),
+    (TAG, LINK, "canon hex"),
+    (LABEL, TAG, f"translate bracketed hex --filter {FIELDS['filter']} --gcp {OPTION['gcp']}"),
+]
 
-    wanted, got = [*label_rows(), *tag_rows(number, words, values, fields)], shown()
-    results.compare("the definitions of the rows", [name for name, _ in wanted], [name for name, _ in got])
-    for (name, value), (_, cell) in zip(wanted, got):
-        results.compare(f"docs/THEOREM.md: {name}", value, cell)
 
-    answers = dict(vectors.cases())
-    items = " ".join(map(item_text, option["items"]))
-    known = {
-        f"gs_grammar_level::read_bits {TAG} {items} | num:8:255": " ".join(["0", *(value or "\\e" for value in values)]),
-        f"gs_epc::read_hex {TAG}": "{kind} {encoding} Some({filter}) {gcp} {prefix} {rest} {serial}".format(**option, **fields),
-        f"gs_epc::identity_of hex {TAG}": link,
-    }
-    for call, answer in known.items():
-        results.compare(f"the vector {call}", answer, answers.get(call))
+def test_page() -> None:
+    """The page shows these definitions and values, in this order."""
+    section = (TOP / "docs" / "THEOREM.md").read_text("utf-8").split("\n## One label traced\n", 1)[1].split("\n## ", 1)[0]
+    assert ROW.findall(section) == [*label_rows(), *tag_rows(NUMBER, WORDS, VALUES, FIELDS)]
 
-    filtered = ["--filter", fields["filter"], "--gcp", str(option["gcp"])]
-    for line, answer, *options in ((LABEL, link, "canon", "bracketed"), (TAG, link, "canon", "hex"), (LABEL, TAG, "translate", "bracketed", "hex", *filtered)):
-        results.compare(" ".join(options), (0, f"ok {answer}\n"), run(given.program, *options, input=f"{line}\n"))
-    return results.end()
+
+def test_vectors() -> None:
+    """Vectors have the values and fields of the tag."""
+    known = dict(vectors.cases())
+    assert {call: known.get(call) for call in CALLS} == CALLS
+
+
+@pytest.mark.parametrize("line, answer, words", ANSWERS, ids=[words for _, _, words in ANSWERS])
+def test_program(program: Path, line: str, answer: str, words: str) -> None:
+    """The program prints the lines."""
+    assert run(program, *words.split(), input=f"{line}\n") == (0, f"ok {answer}\n")
