@@ -1,11 +1,8 @@
-"""links [PROGRAM] [--measure]: `python3 -m tdl links`, tables of links made linksets and linksets made tables.
+"""`python3 -m tdl links`: tables of links become linksets, and linksets tables.
 
-Every wrong row of checks/link_tables and of the tables below is named with its column and word, each word that docs/MESSAGES.md has for
-tables, and nothing is written. Tables of 60,000 rows, as CSV and as a workbook, become the linkset that is composed here, and that linkset
-becomes the same table; linksets of every kind of link become tables and the same links again, as `tdl merge` writes them. Templates are
-judged as `tdl check` judges each alone. More than 65,536 links go to tdl-shard.
-
-It prints the processor time and memory of the large tables, too. With --measure it prints these figures, and tries nothing else.
+Every wrong row is named with its column and word, each word that docs/MESSAGES.md has for tables, and nothing is written. Tables of 60,000 rows,
+as CSV and as a workbook, become the linkset that is composed here, and that linkset the same table; linksets of every kind of link become tables
+and the same links again, as `tdl merge` writes them. More than 65,536 links go to tdl-shard.
 """
 import csv
 import io
@@ -20,17 +17,19 @@ import zipfile
 from functools import partial
 from pathlib import Path
 from select import select
-from typing import Any, Optional, Union
+from typing import Any, Union
 
-from tools.common import Word, begun, printed, run, temporary
+import pytest
+
+from tools.common import Word, begun, printed, run
 from tools.measures import costs, path_of
 from tools.messages import rows as messages
-from tools.repository import TOP, of_module
-from tools.trial import Trial, arguments
+from tools.repository import TOP
 
 DATA, SHARD = TOP / "checks/link_tables", TOP / "shard/tdl-shard"
 # (the one for which Debian has openpyxl)
 PYTHON, OPENPYXL = "/usr/bin/python3", "/usr/lib/python3/dist-packages/openpyxl/__init__.py"
+# the rows of a large table, and the most MiB of a run over it
 ROWS, MOST_MEMORY = 60_000, 300
 NAMES = ["anchor", "href", "linkType", "hreflang", "title", "type"]
 ITEM, PAGE = "/01/09506000134352", "https://shop.example/p"
@@ -40,14 +39,13 @@ FAULT = re.compile(r"row (\d+), column ([^:]*): ([\w-]+): .+")
 class Tables:
     """The command in a folder of its own."""
 
-    def __init__(self, program: Path, room: Path) -> None:
-        self.program, self.room = program, room
-        self.env = of_module(program)
+    def __init__(self, program: Path, env: dict[str, str], room: Path) -> None:
+        self.program, self.env, self.room = program, env, room
 
-    def run(self, *words: Word, env: Optional[dict[str, str]] = None) -> tuple[int, str, str]:
+    def run(self, *words: Word) -> tuple[int, str, str]:
         """Runs the command in the folder, and returns its status, output and errors."""
         python = PYTHON if os.path.exists(PYTHON) else sys.executable
-        done = subprocess.run([python, "-m", "tdl", "links", *map(str, words)], cwd=self.room, env=env or self.env, capture_output=True)
+        done = subprocess.run([python, "-m", "tdl", "links", *map(str, words)], cwd=self.room, env=self.env, capture_output=True)
         return done.returncode, done.stdout.decode("utf-8"), done.stderr.decode("utf-8")
 
     def put(self, name: str, content: Union[str, bytes]) -> str:
@@ -61,9 +59,11 @@ class Tables:
         self.put("none.json", '{"linkset":[]}')
         return printed(self.program, "merge", "--links", "linkset.json", "--second", "none.json", cwd=self.room)
 
-    def check(self, *words: str) -> str:
-        """Returns what `tdl check` prints."""
-        return printed(self.program, "check", *words, cwd=self.room)
+
+@pytest.fixture
+def tables(program: Path, module: dict[str, str], tmp_path: Path) -> Tables:
+    """The command in a folder of its own."""
+    return Tables(program, module, tmp_path)
 
 
 # Wrong rows
@@ -113,7 +113,6 @@ FORMULAS = [
 HEAD = "anchor,href,linkType,hreflang\n"
 # tables, each with further words, and the row, column and word of each fault
 Faults = list[tuple[int, str, str]]
-Wrong = tuple[Union[str, bytes], list[str], Faults, str]
 WRONG: list[tuple[str, list[str], Faults]] = [
     ("anchor,page,href,HREF,17,8040,1\n", [], [(1, "page", "column"), (1, "HREF", "column"), (1, "17", "column"), (1, "8040", "column"), (1, "1", "column")]),
     ("title,10,# 01\nA,B,C\n", [], [(1, "anchor", "column"), (1, "href", "column")]),
@@ -139,35 +138,43 @@ WRONG: list[tuple[str, list[str], Faults]] = [
 ROWS_OF_TRIAL = [(3, "01", "check"), (4, "01", "power"), (5, "10", "char"), (6, "linkType", "default-link"), (6, "href", "bad-href"), (7, "01", "key"),
                  (8, "href", "duplicate"), (9, "01", "check")]
 CELLS_OF_TYPES = [(2, "01", "number"), (5, "01", "number"), (5, "10", "number"), (6, "01", "number"), (6, "10", "date"), (7, "01", "number")]
+Wrong = tuple[str, bytes, list[str], Faults]
+BOOKS_OF_ROWS: list[Wrong] = [
+    ("cells.xlsx", (DATA / "cells_of_types.xlsx").read_bytes(), [], CELLS_OF_TYPES),
+    ("formulas.XLSX", workbook(("links", FORMULAS)), [], [(3, "href", "formula"), (4, "href", "formula"), (5, "href", "truth"), (6, "title", "number")]),
+]
+TABLES_OF_ROWS: list[Wrong] = [
+    *((f"wrong{number}.csv", content.encode("utf-8"), more, faults) for number, (content, more, faults) in enumerate(WRONG)),
+    ("rows.csv", (DATA / "wrong_rows.csv").read_bytes(), [], ROWS_OF_TRIAL),
+]
+
+
+def of_books(*cases: Any) -> list[Any]:
+    """Returns cases of a test that need openpyxl."""
+    return [pytest.param(*case, id=case[0], marks=pytest.mark.needs(OPENPYXL)) for case in cases]
 
 
 def faults_in(told: str) -> list[Any]:
-    """Returns the row, column and word of each line, or the line itself."""
-    found = [FAULT.fullmatch(line) for line in told.splitlines()[:-1]]
-    return [(int(it[1]), it[2], it[3]) if it else "a line in another form" for it in found]
+    """Returns the row, column and word of each line but the last, or the line itself."""
+    found = [(line, FAULT.fullmatch(line)) for line in told.splitlines()[:-1]]
+    return [(int(it[1]), it[2], it[3]) if it else line for line, it in found]
 
 
-def try_wrong(tables: Tables, results: Trial) -> None:
-    """Each wrong row is named, and nothing is written."""
-    words: set[str] = set()
-    cases: list[Wrong] = [(content, more, wanted, "wrong.csv") for content, more, wanted in WRONG]
-    cases.append(((DATA / "wrong_rows.csv").read_bytes(), [], ROWS_OF_TRIAL, "rows.csv"))
-    if results.has(OPENPYXL):
-        cases.append(((DATA / "cells_of_types.xlsx").read_bytes(), [], CELLS_OF_TYPES, "cells.xlsx"))
-        cases.append((workbook(("links", FORMULAS)), [],
-                      [(3, "href", "formula"), (4, "href", "formula"), (5, "href", "truth"), (6, "title", "number")], "formulas.XLSX"))
-    for number, (content, more, wanted, name) in enumerate(cases):
-        status, output, told = tables.run(tables.put(name, content), "-o", "out.json", *more)
-        words |= {word for _, _, word in wanted}
-        last = told.splitlines()[-1:]
-        rejected = f"{len({row for row, _, _ in wanted}):,} rejected"
-        is_told = len(last) == 1 and last[0].startswith("nothing is written: ") and last[0].endswith(rejected)
-        results.compare(f"wrong rows {number}, of {name}", (1, "", wanted, True), (status, output, faults_in(told), is_told))
-    results.note("nothing is written of wrong rows", "there is an output" if (tables.room / "out.json").exists() else "")
+@pytest.mark.parametrize("name, content, more, wanted", [*(pytest.param(*case, id=case[0]) for case in TABLES_OF_ROWS), *of_books(*BOOKS_OF_ROWS)])
+def test_names_each_wrong_row(tables: Tables, name: str, content: bytes, more: list[str], wanted: Faults) -> None:
+    status, output, told = tables.run(tables.put(name, content), "-o", "out.json", *more)
+    assert (status, output, faults_in(told)) == (1, "", wanted)
+    last = told.splitlines()[-1]
+    assert last.startswith("nothing is written: ") and last.endswith(f"{len({row for row, _, _ in wanted}):,} rejected")
+    assert not (tables.room / "out.json").exists()
+
+
+def test_each_word_of_the_messages_is_tried() -> None:
     documented = {message.split(": ")[1] for message, _ in messages() if message.startswith("row ")}
     # (those of anchors are the reasons of elements)
     of_elements = {message.split(" ")[1] for message, _ in messages() if message.startswith("no ")}
-    results.compare("the words of docs/MESSAGES.md", documented, words - (of_elements - documented))
+    words = {word for case in (*TABLES_OF_ROWS, *BOOKS_OF_ROWS) for _, _, word in case[3]}
+    assert words - (of_elements - documented) == documented
 
 
 # Tables that are accepted
@@ -202,49 +209,46 @@ def table_of(links: list[list[str]], delimiter: str = ",") -> str:
     return into.getvalue()
 
 
-def try_large(tables: Tables, results: Trial) -> None:
-    """Large tables, as CSV and as a workbook, there and back: the same linkset and the same table."""
+SPELLED = [["(10)A/7b(01)09506000134352", PAGE, "", "en", "Äpfel", ""], [f"https://a.example{ITEM}", PAGE, "https://ref.gs1.org/voc/pip", "", "", ""],
+           ["0109506000134352", PAGE, "gs1:hasRetailers", "", "a", "text/html"]]
+BY_ELEMENTS = "HREF,21,10,# a remark,01,LinkType,Title,hreflang,type\r\n" + "".join(
+    f"{href},,{'A/7b' if place == 0 else ''},x,{'9506000134352' if place else '09506000134352'},{relation},{title}, {languages} ,{media}\n"
+    for place, (_, href, relation, languages, title, media) in enumerate(SPELLED))
+
+
+@pytest.mark.parametrize("content", (
+    pytest.param(table_of(SPELLED), id="commas"), pytest.param(table_of(SPELLED, ";"), id="semicolons"), pytest.param(table_of(SPELLED, "\t"), id="tabs"),
+    pytest.param("\ufeff" + table_of(SPELLED), id="a mark"), pytest.param(table_of(SPELLED).replace("\r\n", "\n"), id="line feeds"),
+    pytest.param(table_of(SPELLED).replace("\r\n", "\r\n,,,,,\r\n\r\n"), id="empty rows"), pytest.param(BY_ELEMENTS, id="elements"),
+))
+def test_a_table_in_each_spelling_gives_one_linkset(tables: Tables, content: str) -> None:
+    status, output, told = tables.run(tables.put("spelled.csv", content))
+    assert status == 0, told
+    assert json.loads(output) == linkset_of([[f"{ITEM}/10/A%2F7b", PAGE, "gs1:defaultLink", "en", "Äpfel", ""], [ITEM, PAGE, "gs1:pip", "", "", ""],
+                                             [ITEM, *SPELLED[2][1:]]])
+
+
+@pytest.mark.needs(OPENPYXL)
+def test_reads_a_named_sheet_with_a_formula(tables: Tables) -> None:
+    tables.put("sheets.xlsx", workbook(("other", [[text("x")]]), ("links", [NAMED, [text(ITEM), FORMULA]])))
+    status, output, told = tables.run("sheets.xlsx", "--sheet", "links")
+    assert status == 0, told
+    assert json.loads(output) == linkset_of([[ITEM, PAGE, "gs1:defaultLink", "", "", ""]])
+
+
+@pytest.mark.parametrize("back", ("back.csv", pytest.param("back.xlsx", marks=pytest.mark.needs(OPENPYXL))))
+def test_large_tables_there_and_back(tables: Tables, back: str) -> None:
     links = draw(ROWS, random.Random(1))
     wanted = linkset_of(links)
+    there = f"{ROWS:,} rows, {len(wanted['linkset']):,} anchors, 0 rejected"
     tables.put("large.csv", table_of(links))
-    anchors = f"{len(wanted['linkset']):,} anchors"
-    runs = [("CSV to a linkset", ["large.csv", "-o", "large.json"], f"{ROWS:,} rows, {anchors}, 0 rejected"),
-            ("a linkset to CSV", ["--back", "large.json", "-o", "back.csv"], f"{ROWS:,} rows"),
-            ("a linkset to a workbook", ["--back", "large.json", "-o", "back.xlsx"], f"{ROWS:,} rows"),
-            ("a workbook to a linkset", ["back.xlsx", "-o", "again.json"], f"{ROWS:,} rows, {anchors}, 0 rejected")]
-    for what, words, told in runs if results.has(OPENPYXL) else runs[:2]:
+    for words, told in ((["large.csv", "-o", "large.json"], there), (["--back", "large.json", "-o", back], f"{ROWS:,} rows"), ([back, "-o", "again.json"], there)):
         spent = costs([PYTHON, "-m", "tdl", "links", *words], cwd=tables.room, env=tables.env)
-        print(f"links: {ROWS:,} rows, {what}: {spent.processor:.1f} s of processor time, {spent.memory:.0f} MiB", flush=True)
-        results.compare(what, (0, [told]), (spent.status, spent.errors))
-        results.note(f"the memory of {what}", "" if spent.memory < MOST_MEMORY else f"{spent.memory:.0f} MiB")
-    results.note("the linkset", "" if json.loads((tables.room / "large.json").read_text("utf-8")) == wanted else "it differs")
-    results.note("the table", "" if (tables.room / "back.csv").read_bytes() == (tables.room / "large.csv").read_bytes() else "it differs")
-    if results.has(OPENPYXL):
-        is_same = (tables.room / "again.json").read_bytes() == (tables.room / "large.json").read_bytes()
-        results.note("the linkset of the workbook", "" if is_same else "it differs")
-
-
-def try_spellings(tables: Tables, results: Trial) -> None:
-    """One table in each spelling gives one linkset."""
-    links = [["(10)A/7b(01)09506000134352", PAGE, "", "en", "Äpfel", ""], [f"https://a.example{ITEM}", PAGE, "https://ref.gs1.org/voc/pip", "", "", ""],
-             ["0109506000134352", PAGE, "gs1:hasRetailers", "", "a", "text/html"]]
-    wanted = [[f"{ITEM}/10/A%2F7b", PAGE, "gs1:defaultLink", "en", "Äpfel", ""], [ITEM, PAGE, "gs1:pip", "", "", ""], [ITEM, *links[2][1:]]]
-    by_elements = "HREF,21,10,# a remark,01,LinkType,Title,hreflang,type\r\n" + "".join(
-        f"{href},,{'A/7b' if place == 0 else ''},x,{'9506000134352' if place else '09506000134352'},{relation},{title}, {languages} ,{media}\n"
-        for place, (_, href, relation, languages, title, media) in enumerate(links))
-    spelled = {
-        "commas": table_of(links), "semicolons": table_of(links, ";"), "tabs": table_of(links, "\t"), "a mark": "\ufeff" + table_of(links),
-        "line feeds": table_of(links).replace("\r\n", "\n"), "empty rows": table_of(links).replace("\r\n", "\r\n,,,,,\r\n\r\n"), "elements": by_elements,
-    }
-    for what, content in spelled.items():
-        status, output, told = tables.run(tables.put("spelled.csv", content))
-        is_right = status == 0 and json.loads(output) == linkset_of(wanted)
-        results.note(f"a table with {what}", "" if is_right else f"status {status}\n{output}{told}")
-    if results.has(OPENPYXL):
-        sheets = [("other", [[text("x")]]), ("links", [NAMED, [text(ITEM), FORMULA]])]
-        tables.put("sheets.xlsx", workbook(*sheets))
-        status, output, told = tables.run("sheets.xlsx", "--sheet", "links")
-        results.compare("a named sheet, a formula", (0, linkset_of([[ITEM, PAGE, "gs1:defaultLink", "", "", ""]])), (status, json.loads(output or "0")))
+        assert (spent.status, spent.errors) == (0, [told])
+        assert spent.memory < MOST_MEMORY, words
+    assert json.loads((tables.room / "large.json").read_text("utf-8")) == wanted or pytest.fail("the linkset differs")
+    for name, same in (("again.json", "large.json"), *([("back.csv", "large.csv")] if back == "back.csv" else [])):
+        assert (tables.room / name).read_bytes() == (tables.room / same).read_bytes() or pytest.fail(f"{name} differs from {same}")
 
 
 # Linksets
@@ -278,57 +282,48 @@ def drawn_target(chance: random.Random) -> dict[str, Any]:
     return {**target, **drawn_one([{}, {"type": "text/html"}, {"type": ["x"]}, {"media": 1}, {"other": "text"}], chance)}
 
 
-def try_linksets(tables: Tables, results: Trial) -> None:
-    """Linksets become tables, these the same links, and their linksets the same tables."""
-    chance = random.Random(2)
-    for number in range(8):
-        linkset = json.dumps(drawn_linkset(chance))
-        _, table, told = tables.run("--back", tables.put("drawn.json", linkset))
-        _, first, more = tables.run(tables.put("drawn.csv", table))
-        _, again, _ = tables.run("--back", tables.put("first.json", first))
-        _, second, _ = tables.run(tables.put("again.csv", again))
-        is_right = first and tables.links(first) == tables.links(linkset) and second == first and sorted(again.splitlines()) == sorted(table.splitlines())
-        results.note(f"linkset {number}", "" if is_right else f"{linkset}\n{told}{table}{more}{first}{again}{second}")
+@pytest.mark.parametrize("number", range(8))
+def test_linksets_become_tables_and_the_same_links(tables: Tables, number: int) -> None:
+    linkset = json.dumps(drawn_linkset(random.Random(number)))
+    table = tables.run("--back", tables.put("drawn.json", linkset))[1]
+    first = tables.run(tables.put("drawn.csv", table))[1]
+    again = tables.run("--back", tables.put("first.json", first))[1]
+    second = tables.run(tables.put("again.csv", again))[1]
+    assert first and tables.links(first) == tables.links(linkset)
+    assert second == first
+    assert sorted(again.splitlines()) == sorted(table.splitlines())
 
 
-# linksets that are rejected, or that no table holds, with the status and a part of what is told
-UNFIT: list[tuple[dict[str, Any], int, str]] = [
+@pytest.mark.parametrize("relations, wanted, part", (
     ({"a b": [{"href": "x", "media": "print"}], "c": [{"href": "y", "title*": [{"value": "z"}]}]}, 2,
      "/linkset/0/a b/0: there is no column for 'media'\n/linkset/0/c/0: there is no column for 'title*'"),
     ({"": [{"href": "x"}]}, 2, "/linkset/0//0: the link type is empty"),
     ({" a/": [{"href": "x", "hreflang": ["en us"], "type": " t"}]}, 2, "/linkset/0/ a~1/0: the link type is empty, or begins or ends with a space"),
     ({"r": [{"href": ""}]}, 3, "the file of --back is rejected: bad-href 0 0 0"),
-]
+), ids=("members", "no link type", "spaces", "no page"))
+def test_names_what_a_table_cannot_hold(tables: Tables, relations: dict[str, Any], wanted: int, part: str) -> None:
+    linkset = json.dumps({"linkset": [{"anchor": ITEM, **relations}]})
+    status, output, told = tables.run("--back", tables.put("unfit.json", linkset), "-o", "unfit.csv")
+    assert (status, output) == (wanted, "") and part in told, told
+    assert not (tables.room / "unfit.csv").exists()
 
 
-def try_unfit(tables: Tables, results: Trial) -> None:
-    """What a table cannot hold is named, and nothing is written."""
-    for number, (relations, wanted, part) in enumerate(UNFIT):
-        linkset = json.dumps({"linkset": [{"anchor": ITEM, **relations}]})
-        status, output, told = tables.run("--back", tables.put("unfit.json", linkset), "-o", "unfit.csv")
-        results.note(f"unfit {number}", "" if (status, output) == (wanted, "") and part in told else f"status {status}\n{told}")
-    results.note("nothing is written of unfit links", "there is an output" if (tables.room / "unfit.csv").exists() else "")
-
-
-def try_more(tables: Tables, results: Trial) -> None:
-    """More links than one process serves are written for tdl-shard, and come back."""
+def test_more_links_go_to_tdl_shard(tables: Tables) -> None:
     links = [[path_of(number), f"https://shop.example/{number}", "gs1:defaultLink", "", "", ""] for number in range(65_537)]
     tables.put("more.csv", table_of(links))
     told = tables.run("more.csv", "-o", "more.json")[2].splitlines()
     advice = "One process serves 65,536 links in 16,777,216 bytes. Split them: tdl-shard --shards auto --out DIR more.json"
-    results.compare("what is told of more links", ["65,537 rows, 65,537 anchors, 0 rejected", advice], told)
+    assert told == ["65,537 rows, 65,537 anchors, 0 rejected", advice]
     _, shards = run(SHARD, "--shards", "auto", "--out", "shards", "more.json", cwd=tables.room, env=tables.env)
-    results.note("tdl-shard", "" if shards.startswith("shards 2 links 65537 ") else shards)
-    tables.run("--back", "more.json", "-o", "more-back.csv")
-    is_same = (tables.room / "more-back.csv").read_bytes() == (tables.room / "more.csv").read_bytes()
-    results.note("the table of more links", "" if is_same else "it differs")
+    assert shards.startswith("shards 2 links 65537 "), shards
+    tables.run("--back", "more.json", "-o", "back.csv")
+    assert (tables.room / "back.csv").read_bytes() == (tables.room / "more.csv").read_bytes()
 
 
 # Templates, files and ends
 
 
-def try_templates(tables: Tables, results: Trial) -> None:
-    """Each template is judged as the program judges it alone."""
+def test_templates_are_judged_as_the_program_judges_each_alone(tables: Tables) -> None:
     chance = random.Random(3)
     pieces = ["{01}", "{10}", "{21}", "{22}", "{254}", "{", "}", "{0}", "{00001}", "{A}", "x", "{{01}}", "%7B", "{17}"]
     hrefs = [f"https://a.example/{number}?" + "".join(chance.choices(pieces, k=chance.randint(0, 3))) for number in range(80)]
@@ -337,15 +332,13 @@ def try_templates(tables: Tables, results: Trial) -> None:
     wanted = []
     for row, link in enumerate(links, 2):
         tables.put("one.json", json.dumps(linkset_of([link])))
-        printed = tables.check("--templates", "yes", "--links", "one.json")
-        wanted += [(row, "href", printed.split(" ")[2])] if printed.startswith("refused ") else []
-    told = tables.run(tables.put("templates.csv", table_of(links)), "--templates", "yes")[2]
-    results.compare("templates", wanted, faults_in(told))
-    results.note("templates of both kinds", "" if 10 < len(wanted) < 70 else f"{len(wanted)} are rejected")
+        judged = printed(tables.program, "check", "--templates", "yes", "--links", "one.json", cwd=tables.room)
+        wanted += [(row, "href", judged.split(" ")[2])] if judged.startswith("refused ") else []
+    assert 10 < len(wanted) < 70
+    assert faults_in(tables.run(tables.put("templates.csv", table_of(links)), "--templates", "yes")[2]) == wanted
 
 
-# files that are no tables, with the words behind them and a part of what is told
-FILES: list[tuple[str, bytes, list[str], str]] = [
+@pytest.mark.parametrize("name, content, words, part", (
     ("table.csv", b"\xff\xfe0\x001\x00", [], "table.csv is UTF-16: save it as CSV in UTF-8"),
     ("table.csv", b"01,href\n09506000134352,https://shop.example/\xfc\n", [], "line 2 is not UTF-8"),
     ("table.csv", b'01,href\n"09506000134352,https://shop.example/\n', [], "row 2 is not CSV"),
@@ -354,56 +347,41 @@ FILES: list[tuple[str, bytes, list[str], str]] = [
     ("table.csv", b"01,href\n", ["--sheet", "links"], "--sheet is an option for workbooks"),
     ("table.csv", b"01,href\n", ["--tables", "table.csv"], "the file of --tables is rejected: json syntax"),
     ("table.csv", b"01,href\n", ["-o", "no/out.json"], "No such file or directory"),
-]
-BOOKS: list[tuple[str, bytes, list[str], str]] = [
-    ("table.xlsx", b"01,href\n", [], "table.xlsx is not an XLSX workbook"),
-    ("table.xlsx", workbook(("one", FORMULAS), ("two", [])), ["--sheet", "three"], "table.xlsx has no sheet three: it has one, two"),
-]
+    *of_books(
+        ("table.xlsx", b"01,href\n", [], "table.xlsx is not an XLSX workbook"),
+        ("table.xlsx", workbook(("one", FORMULAS), ("two", [])), ["--sheet", "three"], "table.xlsx has no sheet three: it has one, two"),
+    ),
+), ids=lambda part: part if isinstance(part, str) else "")
+def test_names_a_file_that_is_no_table(tables: Tables, name: str, content: bytes, words: list[str], part: str) -> None:
+    tables.put("out.json", "before")
+    status, output, told = tables.run(tables.put(name, content), "-o", "out.json", *words)
+    assert status in (2, 3, 4) and not output and part in told, told
+    assert (tables.room / "out.json").read_text("ascii") == "before"
 
 
-def try_files(tables: Tables, results: Trial) -> None:
-    """A file that is not a table is named, and the file that stands there stays."""
-    for name, content, words, part in [*FILES, *(BOOKS if results.has(OPENPYXL) else [])]:
-        tables.put("out.json", "before")
-        status, output, told = tables.run(tables.put(name, content), "-o", "out.json", *words)
-        is_right = status in (2, 3, 4) and not output and part in told and (tables.room / "out.json").read_text("ascii") == "before"
-        results.note(f"a file of which is told {part}", "" if is_right else f"status {status}\n{told}")
+def test_names_the_package_that_a_workbook_needs(tables: Tables) -> None:
     without = "import sys; sys.modules['openpyxl'] = None; from tdl.__main__ import main; sys.exit(main(['links', 'table.xlsx']))"
+    tables.put("table.xlsx", b"01,href\n")
     status, told = run(sys.executable, "-c", without, cwd=tables.room, env=tables.env)
-    is_right = status == 2 and "Debian's package python3-openpyxl" in told and "Traceback" not in told
-    results.note("a workbook without openpyxl", "" if is_right else told)
+    assert status == 2 and "Debian's package python3-openpyxl" in told and "Traceback" not in told, told
 
 
-def try_ended(tables: Tables, results: Trial) -> None:
-    """A run that is ended while the program checks its linkset leaves no file."""
-    place = tables.room / "ended"
+@pytest.mark.parametrize("number", (signal.SIGTERM, signal.SIGINT, signal.SIGKILL), ids=lambda number: str(number.name))
+def test_leaves_no_file_if_it_is_ended(tables: Tables, number: signal.Signals) -> None:
+    place, waits = tables.room / "ended", tables.room / "waits"
     place.mkdir()
     (place / "table.csv").write_text(f"anchor,href\n{ITEM},{PAGE}\n", "ascii")
     os.mkfifo(tables.room / "begun")
     waiting = os.open(tables.room / "begun", os.O_RDWR)
-    waits = tables.room / "waits"
     waits.write_text(f'#!/bin/sh\ncase "$*" in *--links*) echo > {tables.room}/begun; exec sleep 1000 ;; esac\nexec {tables.program} "$@"\n', "ascii")
     waits.chmod(0o755)
-    for number in (signal.SIGTERM, signal.SIGINT, signal.SIGKILL):
-        # (a signal that this check was started to ignore would be ignored by the run too)
-        own = None if number == signal.SIGKILL else partial(signal.signal, number, signal.SIG_DFL)
-        how: dict[str, Any] = {"stderr": subprocess.PIPE, "start_new_session": True, "preexec_fn": own}
-        words = [PYTHON, "-m", "tdl", "links", "table.csv", "-o", "out.json"]
-        with begun(*words, cwd=place, env={**tables.env, "TDL": str(waits)}, **how) as process:
-            if waiting in select([waiting, process.stderr], [], [])[0]:
-                os.read(waiting, 1)
-            os.killpg(process.pid, number)
-            status, left = process.wait(), sorted(path.name for path in place.iterdir())
-        results.note(f"a run that {number.name} ends", "" if status and left == ["table.csv"] else f"status {status}, there is {left}")
-
-
-def main() -> int:
-    """Returns the status."""
-    given, results = arguments(__doc__, "--measure"), Trial("links")
-    trials = [try_large] if given.measure else [try_wrong, try_spellings, try_linksets, try_unfit, try_more, try_templates, try_files, try_ended, try_large]
-    with temporary("tdl-links-") as folder:
-        for trial in trials:
-            room = folder / trial.__name__
-            room.mkdir()
-            trial(Tables(given.program, room), results)
-    return results.end()
+    # (a signal that this process was started to ignore would be ignored by the run too)
+    own = None if number == signal.SIGKILL else partial(signal.signal, number, signal.SIG_DFL)
+    how: dict[str, Any] = {"stderr": subprocess.PIPE, "start_new_session": True, "preexec_fn": own}
+    with begun(PYTHON, "-m", "tdl", "links", "table.csv", "-o", "out.json", cwd=place, env={**tables.env, "TDL": str(waits)}, **how) as process:
+        if waiting in select([waiting, process.stderr], [], [])[0]:
+            os.read(waiting, 1)
+        os.killpg(process.pid, number)
+        status = process.wait()
+    os.close(waiting)
+    assert status and os.listdir(place) == ["table.csv"]
