@@ -5,12 +5,15 @@ $TDL_LIBRARY is the folder of libtdl (crates/tdl_c/out, where it is built over w
 
 Fixtures: `program`, its path; `libtdl`, the library's folder; `module`, an environment in which `python3 -m tdl` runs this repository's module
 over the program. Marks: `needs(TOOL..)`, the tools of a test, by the names of tools/debian.py; `whole`, a test of a large size. $TDL, by which the
-module finds its program, is set in each test. tools/tests.py has `same`, `none` and `leave_out`.
+module finds its program, is set in each test. tools/tests.py has `same`, `none`, `leave_out`, and `once` for what is
+made once for all processes of a run.
 
 A test whose tool is missing is skipped with the name of its package; in the gate (CI=true) it fails. A test waits for what has to happen, for
 at most PATIENCE seconds (tools/common.py), far more than it takes on a slow machine.
 """
 import os
+import shutil
+import tempfile
 from pathlib import Path
 from typing import Any
 
@@ -33,6 +36,16 @@ def pytest_configure(config: pytest.Config) -> None:
     config.addinivalue_line("markers", "whole: a test of a large size, tried only with --whole")
     # (python/tests take their program from here, some as they are imported)
     os.environ["TDL"] = str(config.getoption("--program").resolve())
+    # (of all processes of a run the first makes the folder of what is made once; other users may read it)
+    if not hasattr(config, "workerinput"):
+        os.environ["TDL_TESTS"] = tempfile.mkdtemp(prefix="tdl-tests-")
+        os.chmod(os.environ["TDL_TESTS"], 0o755)
+
+
+def pytest_unconfigure(config: pytest.Config) -> None:
+    """Removes what was made once."""
+    if not hasattr(config, "workerinput"):
+        shutil.rmtree(os.environ["TDL_TESTS"], ignore_errors=True)
 
 
 def pytest_runtest_setup(item: pytest.Item) -> None:

@@ -1,5 +1,8 @@
 """tests: what tests share beside the fixtures of conftest.py."""
-from typing import Iterable
+import fcntl
+import os
+from pathlib import Path
+from typing import Callable, Iterable, Optional
 
 import pytest
 
@@ -25,3 +28,25 @@ def none(faults: Iterable[object], most: int = 25) -> None:
     found = [str(fault) for fault in faults if fault]
     if found:
         pytest.fail("\n".join([*found[:most], f"{len(found)} faults"]), pytrace=False)
+
+
+def once(name: str, make: Callable[[Path], object]) -> Path:
+    """Returns a folder that is made once for all processes of a run of tests, which other users may read."""
+    place = Path(os.environ["TDL_TESTS"], name)
+    with open(f"{place}.lock", "w") as lock:
+        fcntl.flock(lock, fcntl.LOCK_EX)
+        if not place.is_dir():
+            beside = place.with_suffix(".new")
+            beside.mkdir()
+            make(beside)
+            beside.rename(place)
+    return place
+
+
+def library_if_any(request: pytest.FixtureRequest) -> Optional[Path]:
+    """Returns the folder of libtdl, or nothing if there is none, which the tests of what needs it tell."""
+    try:
+        found: Path = request.getfixturevalue("libtdl")
+        return found
+    except (pytest.skip.Exception, pytest.fail.Exception):
+        return None

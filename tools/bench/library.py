@@ -52,7 +52,6 @@ def main() -> int:
         own, pipe = (in_python(room / "wheel", program, engine) for engine in ("library", "pipe"))
         for what, number in (("`translate`", 0), ("`translate_list`", 1)):
             print(f"| Python, the library, {what} | {own[number]:,.0f} |\n| Python, the pipe, {what} | {pipe[number]:,.0f} |", flush=True)
-    for check in ("postgres", "sqlite"):
-        print(printed(TOP / "checks" / check, program, "--measure", check=True), end="", flush=True)
+    print(printed(TOP / "bench/databases", program, check=True), end="", flush=True)
     print(f"\nIn Python the library answers {own[0] / pipe[0]:.1f} times the pipe's single calls, and {own[1] / pipe[1]:.2f} times its lists")
     return 0
