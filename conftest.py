@@ -75,8 +75,7 @@ def module(program: Path) -> dict[str, str]:
 @pytest.fixture(scope="session")
 def libtdl() -> Any:
     """The folder of the library for C."""
-    named = os.environ.get("TDL_LIBRARY")
     try:
-        return Path(named).resolve() if named else library.current()
+        return library.named_or_current()
     except library.Unbuilt as why:
         return leave_out(f"needs libtdl: {why}")

@@ -12,9 +12,9 @@ from tools.tests import library_if_any, once
 
 
 @pytest.fixture(scope="session")
-def make(request: pytest.FixtureRequest, program: Path) -> Any:
+def make(program: Path) -> Any:
     """A function that makes the packages in a folder."""
-    built = library_if_any(request)
+    built = library_if_any()
 
     def made(folder: Path) -> None:
         more: list[Word] = ["--library", built] if built else []

@@ -94,9 +94,9 @@ def test_pip_installs_the_folder(module: Environment, tmp_path: Path) -> None:
 
 
 @pytest.fixture(scope="module")
-def has_part(request: pytest.FixtureRequest) -> bool:
+def has_part() -> bool:
     """Whether the wheel has its part over the library."""
-    return bool(library_if_any(request)) and Path(sysconfig.get_path("include"), "Python.h").is_file()
+    return bool(library_if_any()) and Path(sysconfig.get_path("include"), "Python.h").is_file()
 
 
 @pytest.fixture(scope="module")

@@ -60,11 +60,11 @@ SERIAL = "SET max_parallel_workers_per_gather = 0"
 
 
 @pytest.fixture(scope="module")
-def server(request: pytest.FixtureRequest, program: Path) -> Iterator[Server]:
+def server(program: Path) -> Iterator[Server]:
     """The server, in whose first database is the extension in PL/Python, with a table of tags."""
     # (pytest's own folders are closed to the server's user)
     with temporary("tdl-postgres-") as room:
-        made = Server(room, program, library_if_any(request) if not lack(*OF_THE_LIBRARY) else None)
+        made = Server(room, program, library_if_any() if not lack(*OF_THE_LIBRARY) else None)
         try:
             made.start()
             assert made.ask(CREATED, "SELECT extversion FROM pg_extension WHERE extname = 'tdl'") == "1.0"

@@ -126,3 +126,9 @@ def current() -> Path:
     if not is_there():
         raise Unbuilt("this repository has no crate tdl_c")
     return OUT if is_current() else build()
+
+
+def named_or_current() -> Path:
+    """Returns the folder that $TDL_LIBRARY names, or that of the library. Raises `Unbuilt`."""
+    named = os.environ.get("TDL_LIBRARY")
+    return Path(named).resolve() if named else current()

@@ -6,6 +6,7 @@ from typing import Callable, Iterable, Optional
 
 import pytest
 
+from tools import library
 from tools.cases import difference
 from tools.debian import is_gate
 
@@ -43,10 +44,9 @@ def once(name: str, make: Callable[[Path], object]) -> Path:
     return place
 
 
-def library_if_any(request: pytest.FixtureRequest) -> Optional[Path]:
+def library_if_any() -> Optional[Path]:
     """Returns the folder of libtdl, or nothing if there is none, which the tests of what needs it tell."""
     try:
-        found: Path = request.getfixturevalue("libtdl")
-        return found
-    except (pytest.skip.Exception, pytest.fail.Exception):
+        return library.named_or_current()
+    except library.Unbuilt:
         return None

@@ -1,11 +1,9 @@
-"""shards [PROGRAM] [--whole]: shard/tdl-shard behind real HAProxy and nginx, held against an oracle over the whole linkset.
+"""shard/tdl-shard behind real HAProxy and nginx: each reply is that of one process over the whole linkset, unsharded.
 
-For tables/builtin.json and tables/gs1.json and each of two seeds, linksets of 60,000 links are split, and 20,000 requests are asked of both
-proxies and of one unsharded `tdl serve`. Every reply must be that of the oracle, which is written here apart from the splitter. Then each
-of four single edits of the routing must give other replies, a new linkset in another number of shards is put in place under load, the texts
-of rejected linksets are compared, and so are the files of examples/. It accepts a document if and only if `tdl check` does.
-
-With --whole it splits a million links in 16 shards instead, prints time and memory, and asks 20,000 requests over 200,001 links.
+Linksets of 60,000 links over tables/builtin.json and tables/gs1.json are split, and 20,000 requests are asked of both proxies and of one unsharded
+`tdl serve`; each of four single edits of the routing gives other replies. A new linkset in another number of shards is put in place under load.
+tdl-shard accepts a document if and only if `tdl check` does. With --whole there are more linksets, one of 200,001 links, whose keys four unsharded
+processes share, and a million links are split.
 """
 import json
 import os
@@ -20,29 +18,27 @@ from concurrent.futures import ProcessPoolExecutor, ThreadPoolExecutor
 from pathlib import Path
 from threading import Event, Thread
 from time import sleep
-from typing import IO, Any, Callable, Iterator, Optional, Sequence, Union
-from urllib.parse import unquote_to_bytes
+from typing import IO, Any, Callable, Iterator, NamedTuple, Optional, Sequence, Union
+
+import pytest
 
 from tools import common
-from tools.common import QUIET, Process, Word, begun, end, temporary, there, until
+from tools.common import HOST, PATIENCE, QUIET, Process, Word, begun, end, there, until
 from tools.fronts import listens, nginx_words
 from tools.measures import check_digit, costs
 from tools.repository import TOP
-from tools.trial import HOST, PATIENCE, Trial, arguments
 
-# a code and its value; a relation and its target; method, target and fields; status, `Location`, type and body
+# a code and its value; method, target and fields; status, `Location`, type and body
 Pair = tuple[str, str]
-Link = tuple[str, dict[str, Any]]
 Linkset = dict[str, list[dict[str, Any]]]
-Identity = tuple[Pair, list[Pair], dict[str, str]]
 Request = tuple[str, str, dict[str, str]]
 Reply = tuple[int, str, str, str]
 Difference = tuple[Request, Any, Any]
 
 SHARD, CLIENTS = TOP / "shard/tdl-shard", 4
-REQUESTS, EDITED, SEEDS, ITEMS = 20_000, 1_000, (1, 2), 60_000
-VOCABULARY, STEM = "https://ref.gs1.org/voc/", "https://id.gs1.org"
-JSON, LINKSET, TEXT = "application/json", "application/linkset+json", "application/linkset"
+REQUESTS, EDITED, ITEMS = 20_000, 1_000, 60_000
+STEM = "https://id.gs1.org"
+LINKSET, TEXT = "application/linkset+json", "application/linkset"
 DESCRIPTION = '{"resolverRoot":"https://id.example"}'
 CHARACTERS = "!\"%&'()*+,-./0123456789:;<=>?ABCDEFGHIJKLMNOPQRSTUVWXYZ_abcdefghijklmnopqrstuvwxyz"
 PLAIN = set("0123456789ABCDEFGHIJKLMNOPQRSTUVWXYZabcdefghijklmnopqrstuvwxyz-._")
@@ -51,34 +47,20 @@ BARE = PLAIN | set("!'()*+,:;=")
 LANGUAGES = ["en", "de", "de-AT", "fr", "ja"]
 RELATIONS = ["gs1:defaultLink", "gs1:pip", "https://ref.gs1.org/voc/epil", "related"]
 
-
-# Values and identities
+# Linksets and requests
 
 
 class Tables:
     """The application identifiers of a table document."""
 
-    def __init__(self, path: Path) -> None:
-        self.path = path
-        self.rows = {row["code"]: row for row in json.loads(path.read_text("utf-8"))["ais"]}
+    def __init__(self, name: str) -> None:
+        self.path = TOP / "tables" / f"{name}.json"
+        self.rows = {row["code"]: row for row in json.loads(self.path.read_text("utf-8"))["ais"]}
         self.keys = [code for code, row in self.rows.items() if row["role"] == "key"]
-        self.patterns = {code: re.compile("".join(map(pattern_of, row["parts"]))) for code, row in self.rows.items()}
 
     def listed(self, key: str) -> list[str]:
         """Returns the qualifiers of a key."""
         return list(self.rows[key].get("qualifiers", []))
-
-    def is_valid(self, code: str, value: str) -> bool:
-        """Returns whether a code has this value."""
-        found = self.patterns[code].fullmatch(value)
-        if not found:
-            return False
-        for part, text in zip(self.rows[code]["parts"], found.groups()):
-            if part.endswith("c") and int(text[-1]) != check_digit(text[:-1]):
-                return False
-            if part == "date" and not (1 <= int(text[2:4]) <= 12 and int(text[4:]) <= 31):
-                return False
-        return True
 
     def draw(self, code: str, chance: random.Random) -> str:
         """Draws a value of a code."""
@@ -91,13 +73,6 @@ def bounds_of(part: str) -> tuple[int, int]:
         return (1, 1) if part == "zero" else (6, 6)
     most = int(there(re.search(r"\d+", part))[0])
     return (0 if part.endswith("?") else 1, most) if ".." in part else (most, most)
-
-
-def pattern_of(part: str) -> str:
-    """Returns the pattern of a part."""
-    least, most = bounds_of(part)
-    signs = "0" if part == "zero" else f"[{re.escape(CHARACTERS)}]" if part.startswith("x") else "[0-9]"
-    return f"({signs}{{{least},{most}}})"
 
 
 def drawn_part(part: str, chance: random.Random) -> str:
@@ -121,165 +96,9 @@ def drawn_part(part: str, chance: random.Random) -> str:
     return f"{digits}{check_digit(digits)}"
 
 
-def unescaped(text: str) -> Optional[str]:
-    """Returns the text without its escapes, or `None` if one is invalid."""
-    if re.search("%(?![0-9A-Fa-f]{2})", text):
-        return None
-    return unquote_to_bytes(text).decode("latin-1")
-
-
 def escaped(text: str) -> str:
     """Returns the text as canonical links have it."""
     return "".join(sign if sign in PLAIN else f"%{ord(sign):02X}" for sign in text)
-
-
-def key_path(tables: Tables, path: str) -> Optional[list[Pair]]:
-    """Returns the codes and values of the key path in which a path ends, or `None`."""
-    segments = path.split("/")[1:]
-    pairs: list[Pair] = []
-    while len(segments) > 1:
-        value, code = segments.pop(), segments.pop()
-        pairs.insert(0, (code, value))
-        if code in tables.keys:
-            codes = iter(tables.listed(code))
-            return pairs if all(other in codes for other, _ in pairs[1:]) else None
-    return None
-
-
-def identity_of(tables: Tables, target: str) -> Union[Identity, int]:
-    """Returns the key, the qualifiers and all values of a target, or the status of its error."""
-    path, _, query = target.partition("#")[0].partition("?")
-    pairs = key_path(tables, path)
-    if pairs is None:
-        return 404
-    for part in re.split("[&;]", query):
-        name, _, value = part.partition("=")
-        if re.fullmatch("[0-9]+", name):
-            pairs.append((name, value))
-    found: dict[str, str] = {}
-    for code, text in pairs:
-        value = unescaped(text) if code in tables.rows else None
-        if value is None:
-            return 400
-        if tables.rows[code].get("short") and len(value) in (8, 12, 13) and value.isdigit():
-            value = value.zfill(14)
-        if not tables.is_valid(code, value):
-            return 400
-        if value == tables.rows[code].get("none"):
-            continue
-        if found.setdefault(code, value) != value:
-            return 400
-    keys = [code for code in found if code in tables.keys]
-    if len(keys) != 1:
-        return 400
-    qualifiers = [(code, found[code]) for code in tables.listed(keys[0]) if code in found]
-    return (keys[0], found[keys[0]]), qualifiers, found
-
-
-# The oracle
-
-
-class Oracle:
-    """All links in one place, and the reply to each request."""
-
-    def __init__(self, tables: Tables, linksets: list[Linkset]) -> None:
-        self.tables = tables
-        self.links: dict[tuple[Pair, ...], list[Link]] = {}
-        for linkset in linksets:
-            for context in linkset["linkset"]:
-                anchor = context["anchor"]
-                found = identity_of(tables, anchor[len(STEM):] if anchor.startswith(STEM) else anchor)
-                assert not isinstance(found, int)
-                key, qualifiers, _ = found
-                # (the relations of a context stand in ascending order of name)
-                for relation in sorted(context):
-                    if relation != "anchor":
-                        named = re.sub("^gs1:", VOCABULARY, relation)
-                        self.links.setdefault((key, *qualifiers), []).extend((named, target) for target in context[relation])
-
-    def chosen(self, key: Pair, qualifiers: list[Pair], relation: Optional[str]) -> tuple[tuple[Pair, ...], list[Link]]:
-        """Returns the longest anchor that has links of a relation, or of any for `None`, and these."""
-        for count in range(len(qualifiers), -1, -1):
-            anchor = (key, *qualifiers[:count])
-            found = [link for link in self.links.get(anchor, []) if relation in (None, link[0])]
-            if found:
-                return anchor, found
-        return (), []
-
-    def reply(self, method: str, target: str, fields: dict[str, str]) -> Reply:
-        """Returns status, `Location`, type and body of the reply."""
-        if method not in ("GET", "HEAD"):
-            return 405, "", "", ""
-        if target.partition("?")[0] == "/.well-known/gs1resolver":
-            return 200, "", JSON, "" if method == "HEAD" else DESCRIPTION
-        found = identity_of(self.tables, target)
-        if isinstance(found, int):
-            return found, "", "", ""
-        key, qualifiers, values = found
-        relation, is_text = wanted(target, fields.get("Accept", ""))
-        anchor, links = self.chosen(key, qualifiers, relation)
-        if not links:
-            return 404, "", "", ""
-        if relation is not None:
-            links = narrowed(links, fields.get("Accept-Language"))
-            if len(links) == 1:
-                return 307, filled(links[0][1]["href"], values), "", ""
-        links = [(relation, {**target, "href": filled(target["href"], values)}) for relation, target in links]
-        body = (as_text if is_text and relation is None else as_json)(STEM + "".join(f"/{code}/{escaped(value)}" for code, value in anchor), links)
-        return 300 if relation is not None else 200, "", TEXT if is_text and relation is None else LINKSET, "" if method == "HEAD" else body
-
-
-def wanted(target: str, accept: str) -> tuple[Optional[str], bool]:
-    """Returns the relation that is asked for, or `None` for a linkset, and whether that is sent as text."""
-    types = [part.partition(";")[0].strip(" \t").lower() for part in accept.split(",")]
-    types = [part for part in types if part in (LINKSET, TEXT)]
-    is_text = types[:1] == [TEXT]
-    for part in re.split("[&;]", target.partition("?")[2]):
-        name, _, value = part.partition("=")
-        if name == "linkType":
-            named = unescaped(value) or ""
-            return (None if named in ("linkset", "all") else re.sub("^gs1:", VOCABULARY, named)), is_text
-    return (None if types else f"{VOCABULARY}defaultLink"), is_text
-
-
-def narrowed(links: list[Link], accepted: Optional[str]) -> list[Link]:
-    """Returns the links in the first accepted language that one of them has, or all."""
-    ranges = []
-    for number, part in enumerate((accepted or "").split(",")):
-        name, colon, weight = (text.strip(" \t") for text in part.partition(";"))
-        given = re.fullmatch(r"[qQ]=(0(?:\.[0-9]{0,3})?|1(?:\.0{0,3})?)", weight)
-        if name and (given or not colon) and (not given or float(given[1])):
-            ranges.append((-float(given[1]) if given else -1.0, number, name.lower()))
-    for _, _, name in sorted(ranges):
-        found = [link for link in links if name == "*" or any(f"{tag.lower()}-".startswith(f"{name}-") for tag in link[1].get("hreflang", []))]
-        if found:
-            return found
-    return links
-
-
-def filled(href: str, values: dict[str, str]) -> str:
-    """Returns the reference with its places filled."""
-    return re.sub(r"\{(\d+)\}", lambda place: escaped(values.get(place[1], "")), href)
-
-
-def as_json(anchor: str, links: list[Link]) -> str:
-    """Returns the linkset of an anchor."""
-    context: dict[str, Any] = {"anchor": anchor}
-    for relation, target in links:
-        context.setdefault(relation, []).append(target)
-    return json.dumps({"linkset": [context]}, ensure_ascii=False, sort_keys=True, separators=(",", ":"))
-
-
-def as_text(anchor: str, links: list[Link]) -> str:
-    """Returns the linkset of an anchor as text."""
-    lines = []
-    for relation, target in sorted(links, key=lambda link: link[0]):
-        pairs = [("hreflang", tag) for tag in target.get("hreflang", [])] + [("title", target[name]) for name in target if name == "title"]
-        lines.append(f'<{target["href"]}>; rel="{relation}"; anchor="{anchor}"' + "".join(f'; {name}="{value}"' for name, value in pairs))
-    return ",\n".join(lines)
-
-
-# Linksets and requests
 
 
 def drawn_target(key: str, listed: list[str], number: int, chance: random.Random) -> dict[str, Any]:
@@ -294,12 +113,13 @@ def drawn_target(key: str, listed: list[str], number: int, chance: random.Random
     return target
 
 
-def drawn_context(tables: Tables, number: int, chance: random.Random, keys: list[Pair]) -> tuple[list[Pair], dict[str, Any]]:
-    """Draws a context, of a key that is new or has others."""
+def drawn_context(tables: Tables, number: int, chance: random.Random, keys: list[Pair], taken: set[Pair]) -> tuple[list[Pair], dict[str, Any]]:
+    """Draws a context, of a key that has others or is not one of those taken."""
     key = chance.choice(keys) if keys and chance.random() < 0.3 else None
     if key is None:
-        code = "01" if chance.random() < 0.5 else chance.choice(tables.keys)
-        key = (code, tables.draw(code, chance))
+        while key is None or key in taken:
+            code = "01" if chance.random() < 0.5 else chance.choice(tables.keys)
+            key = (code, tables.draw(code, chance))
         keys.append(key)
     listed = tables.listed(key[0])
     parts = [key] + [(code, tables.draw(code, chance)) for code in listed if chance.random() < 0.3]
@@ -310,19 +130,19 @@ def drawn_context(tables: Tables, number: int, chance: random.Random, keys: list
     return parts, context
 
 
-def drawn_linksets(tables: Tables, links: int, chance: random.Random) -> tuple[list[Linkset], list[list[Pair]]]:
-    """Draws two linksets of so many links or a few more; returns them with the pairs of their anchors."""
+def drawn_linkset(tables: Tables, links: int, chance: random.Random, taken: set[Pair]) -> tuple[Linkset, list[list[Pair]]]:
+    """Draws a linkset of so many links or a few more, and takes its keys; returns it with the pairs of its anchors."""
     contexts: list[dict[str, Any]] = []
     anchors: list[list[Pair]] = []
     keys: list[Pair] = []
     count = 0
     while count < links:
-        parts, context = drawn_context(tables, len(contexts), chance, keys)
+        parts, context = drawn_context(tables, len(contexts), chance, keys, taken)
         contexts.append(context)
         anchors.append(parts)
         count += sum(len(targets) for name, targets in context.items() if name != "anchor")
-    half = len(contexts) // 2
-    return [{"linkset": contexts[:half]}, {"linkset": contexts[half:]}], anchors
+    taken.update(keys)
+    return {"linkset": contexts}, anchors
 
 
 def spelled(value: str, chance: random.Random) -> str:
@@ -568,64 +388,107 @@ def first_of(found: Sequence[Difference], count: int) -> str:
     return f"{len(found)} of {count} replies differ, the first of {method} {target} {fields}\n  wanted {str(want)[:600]}\n  got    {str(got)[:600]}"
 
 
-def make(program: Path, room: Path, tables: Tables, linksets: list[Linkset], shards: Union[int, str], name: str = "shards") -> tuple[Path, tuple[int, str]]:
-    """Writes linksets and splits them; returns the folder and what the splitter prints."""
+def make(program: Path, room: Path, tables: Tables, linksets: list[Linkset], shards: Union[int, str], name: str = "shards") -> Path:
+    """Writes linksets and splits them; returns the folder."""
     paths = [room / f"{name}-{number}.json" for number in range(len(linksets))]
     for path, linkset in zip(paths, linksets):
         path.write_text(json.dumps(linkset), "utf-8")
     (room / "describe.json").write_text(DESCRIPTION, "ascii")
     first, folder = free_ports(64), room / name
     words: list[Word] = ["--shards", shards, "--out", folder, "--tables", tables.path, "--first-port", first, "--front-port", first + 63]
-    return folder, run(program, *words, *paths)
+    status, printed = run(program, *words, *paths)
+    assert status == 0 and re.fullmatch(rf"shards \d+ links {count_of(linksets)} most \d+\n", printed), printed
+    return folder
 
 
-def try_seed(program: Path, room: Path, tables: Tables, seed: int, links: int, shards: Union[int, str], results: Trial) -> None:
-    """Splits a linkset, asks both proxies, an unsharded process and edited proxies."""
-    chance = random.Random(seed)
-    linksets, anchors = drawn_linksets(tables, links, chance)
-    name, count = f"{tables.path.stem}, seed {seed}", sum(len(t) for linkset in linksets for c in linkset["linkset"] for r, t in c.items() if r != "anchor")
-    folder, (status, printed) = make(program, room, tables, linksets, shards)
-    found = re.fullmatch(r"shards (\d+) links (\d+) most \d+\n", printed)
-    results.note(f"{name}: the split", "" if not status and found and int(found[2]) == count else f"status {status}: {printed}")
-    if status:
-        return
-    oracle = Oracle(tables, linksets)
+def count_of(linksets: list[Linkset]) -> int:
+    """Returns the number of links."""
+    return sum(len(targets) for linkset in linksets for context in linkset["linkset"] for name, targets in context.items() if name != "anchor")
+
+
+def halves(linksets: list[Linkset]) -> list[Linkset]:
+    """Returns all contexts as two linksets."""
+    contexts = [context for linkset in linksets for context in linkset["linkset"]]
+    return [{"linkset": contexts[: len(contexts) // 2]}, {"linkset": contexts[len(contexts) // 2 :]}]
+
+
+def unsharded(program: Path, room: Path, tables: Tables, linksets: list[Linkset], requests: list[Request]) -> list[Reply]:
+    """Returns the replies of unsharded processes, one for each linkset. No key has links in two of them, so the one that finds some tells."""
+    room.mkdir()
+    (room / "describe.json").write_text(DESCRIPTION, "ascii")
+    every = []
+    for number, linkset in enumerate(linksets):
+        links, port = room / f"{number}" / "links.json", free_ports(1)
+        links.parent.mkdir()
+        links.write_text(json.dumps(linkset), "utf-8")
+        with Service() as service:
+            service.start(serve_words(program, links, port, tables.path), port)
+            service.wait()
+            every.append([reply for reply, _ in ask_all(port, requests, 1)])
+    return [next((reply for reply in replies if reply[0] != 404), replies[0]) for replies in zip(*every)]
+
+
+class Sharded(NamedTuple):
+    """Running shards of a linkset, with requests and the wanted replies."""
+
+    room: Path
+    folder: Path
+    requests: list[Request]
+    wanted: list[Reply]
+
+    def ask(self, proxy: str, text: str, requests: list[Request]) -> list[tuple[Reply, Optional[str]]]:
+        """Starts a proxy with a configuration, and returns its replies."""
+        return ask_proxy(proxy, self.room, text, requests)
+
+    def configuration(self, proxy: str) -> str:
+        """Returns the configuration of a proxy."""
+        return (self.folder / PROXIES[proxy][0]).read_text("ascii")
+
+
+@pytest.fixture(scope="module", params=[
+    pytest.param(("builtin", 1, 1), marks=pytest.mark.xdist_group("shards 1"), id="builtin"),
+    pytest.param(("gs1", 2, 1), marks=pytest.mark.xdist_group("shards 2"), id="gs1"),
+    pytest.param(("builtin", 2, 1), marks=[pytest.mark.whole, pytest.mark.xdist_group("shards 3")], id="builtin again"),
+    pytest.param(("gs1", 1, 4), marks=[pytest.mark.whole, pytest.mark.xdist_group("shards 4")], id="200,001 links"),
+])
+def sharded(request: pytest.FixtureRequest, program: Path, tmp_path_factory: pytest.TempPathFactory) -> Iterator[Sharded]:
+    """Running shards of a linkset."""
+    name, seed, parts = request.param
+    room, tables, chance = tmp_path_factory.mktemp("shards"), Tables(name), random.Random(seed)
+    taken: set[Pair] = set()
+    drawn = [drawn_linkset(tables, ITEMS if parts == 1 else 50_001, chance, taken) for _ in range(parts)]
+    linksets, anchors = [linkset for linkset, _ in drawn], [anchor for _, some in drawn for anchor in some]
+    folder = make(program, room, tables, halves(linksets), 5 if parts == 1 else "auto")
     requests = [drawn_request(tables, anchors, chance) for _ in range(REQUESTS)]
-    wanted = [oracle.reply(*request) for request in requests]
-    kinds = Counter(want[0] for want in wanted)
-    results.note(f"{name}: replies of each status", "" if all(kinds[status] >= REQUESTS // 200 for status in (200, 300, 307, 400, 404, 405)) else f"{kinds}")
-    if count <= 65_536:
-        hold_oracle(program, room, tables, linksets, requests, wanted, f"{name}: one process", results)
+    wanted = unsharded(program, room / "whole", tables, linksets, requests)
     with Service() as service:
         start_shards(service, program, folder, tables.path)
         service.wait()
-        for proxy in filter(results.has, PROXIES):
-            text = (folder / PROXIES[proxy][0]).read_text("ascii")
-            differ = differences(requests, wanted, ask_proxy(proxy, room, text, requests), "Accept, Accept-Language")
-            results.note(f"{name}: {proxy}", first_of(differ, REQUESTS))
-            if seed == SEEDS[0]:
-                try_edits(proxy, room, text, requests[:EDITED], wanted, name, results)
+        yield Sharded(room, folder, requests, wanted)
 
 
-def hold_oracle(program: Path, room: Path, tables: Tables, linksets: list[Linkset], requests: list[Request], wanted: list[Reply], name: str, results: Trial) -> None:
-    """Holds the oracle against one process over the whole linkset."""
-    whole, port = room / "shards" / "whole.json", free_ports(1)
-    whole.write_text(json.dumps({"linkset": [context for linkset in linksets for context in linkset["linkset"]]}), "utf-8")
-    with Service() as service:
-        service.start(serve_words(program, whole, port, tables.path), port)
-        service.wait()
-        results.note(name, first_of(differences(requests, wanted, ask_all(port, requests, 1), None), len(requests)))
+every_proxy = pytest.mark.parametrize("proxy", [pytest.param(proxy, marks=pytest.mark.needs(proxy)) for proxy in PROXIES])
 
 
-def try_edits(proxy: str, room: Path, text: str, requests: list[Request], wanted: list[Reply], name: str, results: Trial) -> None:
-    """Each edit of the routing gives other replies."""
-    for what, old, new in EDITS[proxy]:
-        if old not in text:
-            results.note(f"{name}: {proxy} without {what}", f"the configuration has no {old}")
-            continue
-        found = differences(requests, wanted, ask_proxy(proxy, room, text.replace(old, new), requests), None)
-        print(f"shards: {name}: {proxy} without {what}: {len(found)} of {len(requests)} replies differ")
-        results.note(f"{name}: {proxy} without {what}", "" if len(found) > len(requests) // 100 else f"only {len(found)} replies differ")
+def test_the_requests_have_replies_of_each_status(sharded: Sharded) -> None:
+    kinds = Counter(want[0] for want in sharded.wanted)
+    assert [status for status in (200, 300, 307, 400, 404, 405) if kinds[status] < REQUESTS // 200] == []
+
+
+@every_proxy
+def test_replies_are_those_of_one_process(sharded: Sharded, proxy: str) -> None:
+    replies = sharded.ask(proxy, sharded.configuration(proxy), sharded.requests)
+    assert not first_of(differences(sharded.requests, sharded.wanted, replies, "Accept, Accept-Language"), REQUESTS)
+
+
+@pytest.mark.parametrize("proxy, old, new", [
+    pytest.param(proxy, old, new, id=f"{proxy} without {what}", marks=pytest.mark.needs(proxy)) for proxy, edits in EDITS.items() for what, old, new in edits
+])
+def test_an_edit_of_the_routing_gives_other_replies(sharded: Sharded, proxy: str, old: str, new: str) -> None:
+    text, requests = sharded.configuration(proxy), sharded.requests[:EDITED]
+    assert old in text
+    found = differences(requests, sharded.wanted, sharded.ask(proxy, text.replace(old, new), requests), None)
+    assert len(found) > len(requests) // 100
 
 
 # A new linkset
@@ -659,57 +522,49 @@ class Load:
         self.thread.join()
 
 
+@every_proxy
+def test_a_new_linkset_under_load(program: Path, tmp_path: Path, proxy: str) -> None:
+    """It comes in another number of shards, with no reply lost and none wrong."""
+    chance, tables = random.Random(3), Tables("gs1")
+    linkset, anchors = drawn_linkset(tables, 4_000, chance, set())
+    later: Linkset = {"linkset": [{**context, "related": [{"href": "https://example.com/new"}]} for context in linkset["linkset"]]}
+    requests = [drawn_request(tables, anchors, chance) for _ in range(2_000)]
+    both = [unsharded(program, tmp_path / name, tables, [one], requests) for name, one in (("before", linkset), ("after", later))]
+    old, new = make(program, tmp_path, tables, halves([linkset]), 3, "old"), make(program, tmp_path, tables, halves([later]), 5, "new")
+    # (the new configuration listens where the old one does)
+    configuration, words, reload = PROXIES[proxy]
+    port = there(re.search(rf"(?:bind|listen) {HOST}:(\d+)", (old / configuration).read_text("ascii")))[1]
+    text = re.sub(rf"(bind|listen) {HOST}:\d+", rf"\1 {HOST}:{port}", (new / configuration).read_text("ascii"))
+    (new / configuration).write_text(text, "ascii")
+    with Service() as front, Service() as before, Service() as after:
+        start_shards(before, program, old, tables.path)
+        before.wait()
+        replace(proxy, tmp_path, old)
+        process = front.start(words(tmp_path), int(port))
+        front.wait()
+        load = [Load(int(port), requests, both) for _ in range(3)]
+        sleep(1)
+        if proxy == "haproxy":
+            before.restart()
+        start_shards(after, program, new, tables.path)
+        after.wait()
+        replace(proxy, tmp_path, new)
+        process.send_signal(reload)
+        sleep(2)
+        before.end()
+        sleep(1)
+        for one in load:
+            one.end()
+        asked, wrong = sum(one.count for one in load), [found for one in load for found in one.wrong]
+        assert not first_of(wrong, asked) and asked > 100
+        assert not first_of(differences(requests, both[1], ask_all(int(port), requests), None), len(requests))
+
+
 def replace(name: str, room: Path, folder: Path) -> None:
     """Puts a folder's configuration in place of the running one by a rename."""
     configuration = PROXIES[name][0]
     shutil.copy(folder / configuration, room / f"{configuration}.new")
     (room / f"{configuration}.new").rename(room / configuration)
-
-
-def try_rollout(program: Path, room: Path, tables: Tables, results: Trial) -> None:
-    """A new linkset in another number of shards is put in place under load, with no reply lost and none wrong."""
-    chance = random.Random(3)
-    linksets, anchors = drawn_linksets(tables, 4_000, chance)
-    later = [{"linkset": [{**context, "related": [{"href": "https://example.com/new"}]} for context in linkset["linkset"]]} for linkset in linksets]
-    requests = [drawn_request(tables, anchors, chance) for _ in range(2_000)]
-    both = [[oracle.reply(*request) for request in requests] for oracle in (Oracle(tables, linksets), Oracle(tables, later))]
-    for proxy in filter(results.has, PROXIES):
-        place = room / proxy
-        place.mkdir()
-        old, told = make(program, place, tables, linksets, 3, "old")
-        new, later_told = make(program, place, tables, later, 5, "new")
-        if told[0] or later_told[0]:
-            results.note(f"{proxy}: a new linkset", f"{told} {later_told}")
-            continue
-        # (the new configuration listens where the old one does)
-        configuration, words, reload = PROXIES[proxy]
-        port = there(re.search(rf"(?:bind|listen) {HOST}:(\d+)", (old / configuration).read_text("ascii")))[1]
-        text = re.sub(rf"(bind|listen) {HOST}:\d+", rf"\1 {HOST}:{port}", (new / configuration).read_text("ascii"))
-        (new / configuration).write_text(text, "ascii")
-        with Service() as front, Service() as before, Service() as after:
-            start_shards(before, program, old, tables.path)
-            before.wait()
-            replace(proxy, place, old)
-            process = front.start(words(place), int(port))
-            front.wait()
-            load = [Load(int(port), requests, both) for _ in range(3)]
-            sleep(1)
-            if proxy == "haproxy":
-                before.restart()
-            start_shards(after, program, new, tables.path)
-            after.wait()
-            replace(proxy, place, new)
-            process.send_signal(reload)
-            sleep(2)
-            before.end()
-            sleep(1)
-            for one in load:
-                one.end()
-            asked, wrong = sum(one.count for one in load), [found for one in load for found in one.wrong]
-            results.note(f"{proxy}: a new linkset under load", first_of(wrong, asked) or ("" if asked > 1_000 else f"only {asked} requests"))
-            print(f"shards: {proxy}: {asked} requests while 3 shards gave way to 5, {len(wrong)} lost or wrong")
-            found = differences(requests, both[1], ask_all(int(port), requests), None)
-            results.note(f"{proxy}: the new linkset", first_of(found, len(requests)))
 
 
 # What the splitter prints
@@ -771,93 +626,81 @@ def documents(chance: random.Random) -> Iterator[str]:
         yield whole[:place] + chance.choice(SPLICES) + whole[place + chance.randint(0, 2):]
 
 
-def try_alike(program: Path, room: Path, results: Trial) -> None:
-    """The splitter accepts the documents that `tdl check` accepts."""
+def test_accepts_the_documents_that_check_accepts(program: Path, tmp_path: Path) -> None:
     texts = list(dict.fromkeys(documents(random.Random(4))))
 
     def is_accepted(number: int) -> bool:
-        path = room / f"alike-{number}.json"
+        path = tmp_path / f"alike-{number}.json"
         path.write_text(texts[number], "utf-8")
-        return run(program, "--shards", "1", "--out", room / f"alike-{number}", path)[0] == 0
+        return run(program, "--shards", "1", "--out", tmp_path / f"alike-{number}", path)[0] == 0
 
     def is_checked(number: int) -> bool:
-        done = subprocess.run([program, "check", "--links", room / f"alike-{number}.json"], stdout=subprocess.DEVNULL)
-        return done.returncode == 0
+        return subprocess.run([program, "check", "--links", tmp_path / f"alike-{number}.json"], stdout=subprocess.DEVNULL).returncode == 0
 
     with ThreadPoolExecutor(os.cpu_count()) as pool:
-        split = list(pool.map(is_accepted, range(len(texts))))
-        checked = list(pool.map(is_checked, range(len(texts))))
-    differ = [text[:200] for text, one, other in zip(texts, split, checked) if one != other]
-    results.note(f"{len(texts)} documents, {sum(checked)} of which are linksets", *differ, "" if 20 < sum(checked) < len(texts) - 20 else "too few of a kind")
+        split, checked = (list(pool.map(each, range(len(texts)))) for each in (is_accepted, is_checked))
+    assert [text[:200] for text, one, other in zip(texts, split, checked) if one != other] == []
+    assert 20 < sum(checked) < len(texts) - 20
 
 
-def try_rejected(program: Path, room: Path, results: Trial) -> None:
-    """What is rejected gets its text and status, and nothing is written."""
-    for number, (linksets, words, status, text) in enumerate(REJECTED):
-        place = room / f"rejected-{number}"
-        place.mkdir()
-        names = [f"{index}.json" for index in range(len(linksets))]
-        for name, linkset in zip(names, linksets):
-            (place / name).write_text(linkset if isinstance(linkset, str) else json.dumps(linkset, separators=(",", ":")), "utf-8")
-        # (of two options with one name the last counts)
-        told = run(program, "--shards", "2", "--out", "new", *names, *words, cwd=place)
-        wanted, got = (status, text, names), (*told, sorted(path.name for path in place.iterdir()))
-        results.note(f"rejected {number}", "" if got == wanted else f"\n  wanted {wanted}\n  got    {got}")
+@pytest.mark.parametrize("linksets, words, status, text", [pytest.param(*case, id=f"{number}") for number, case in enumerate(REJECTED)])
+def test_names_what_it_rejects(program: Path, tmp_path: Path, linksets: list[Any], words: list[str], status: int, text: str) -> None:
+    names = [f"{index}.json" for index in range(len(linksets))]
+    for name, linkset in zip(names, linksets):
+        (tmp_path / name).write_text(linkset if isinstance(linkset, str) else json.dumps(linkset, separators=(",", ":")), "utf-8")
+    # (of two options with one name the last counts)
+    assert run(program, "--shards", "2", "--out", "new", *names, *words, cwd=tmp_path) == (status, text)
+    assert sorted(path.name for path in tmp_path.iterdir()) == names
 
 
-def try_example(program: Path, room: Path, results: Trial) -> None:
-    """The example is split, and an unknown program or a number of shards out of range is told."""
-    wanted = (0, "shards 2 links 9 most 7\n")
-    got = run(program, "--shards", "2", "--out", room / "example", TOP / "examples/keys.json")
-    results.note("the example", "" if got == wanted else f"wanted {wanted}, got {got}")
-    got = run(program, "--shards", "auto", "--out", room / "auto", TOP / "examples/keys.json", TOP / "examples/links.json")
-    results.note("the fewest shards", "" if got == (0, "shards 1 links 12 most 12\n") else f"{got}")
-    names = sorted(path.name for path in (room / "example").glob("*"))
-    listed = ["haproxy.cfg", "nginx.conf", "shard-000.json", "shard-001.json", "shards.json"]
-    results.note("its files", "" if names == listed else f"{names}")
-    got = run("/absent/tdl", "--shards", "2", "--out", room / "none", TOP / "examples/keys.json")
+def test_splits_the_example(program: Path, tmp_path: Path) -> None:
+    assert run(program, "--shards", "2", "--out", tmp_path / "example", TOP / "examples/keys.json") == (0, "shards 2 links 9 most 7\n")
+    names = sorted(path.name for path in (tmp_path / "example").glob("*"))
+    assert names == ["haproxy.cfg", "nginx.conf", "shard-000.json", "shard-001.json", "shards.json"]
+
+
+def test_finds_the_fewest_shards(program: Path, tmp_path: Path) -> None:
+    words: list[Word] = ["--shards", "auto", "--out", tmp_path / "auto", TOP / "examples/keys.json", TOP / "examples/links.json"]
+    assert run(program, *words) == (0, "shards 1 links 12 most 12\n")
+
+
+def test_names_a_program_that_is_missing(tmp_path: Path) -> None:
     wanted = (70, "tdl-shard: /absent/tdl: No such file or directory; put tdl on the PATH, or name it by $TDL\n")
-    results.note("no program", "" if got == wanted else f"{got}")
-    status, printed = run(program, "--shards", "1000", "--out", room / "none", TOP / "examples/keys.json")
-    results.note("shards out of range", "" if status == 2 and "'1000' is not a number from 1 to 999" in printed else f"{status} {printed}")
+    assert run("/absent/tdl", "--shards", "2", "--out", tmp_path / "none", TOP / "examples/keys.json") == wanted
 
 
-def try_progress(program: Path, room: Path, results: Trial) -> None:
-    """Progress is shown only on a terminal."""
-    words = [SHARD, "--shards", "2", "--out", room / "shown", TOP / "examples/keys.json"]
+def test_names_a_number_of_shards_that_is_out_of_range(program: Path, tmp_path: Path) -> None:
+    status, printed = run(program, "--shards", "1000", "--out", tmp_path / "none", TOP / "examples/keys.json")
+    assert status == 2 and "'1000' is not a number from 1 to 999" in printed
+
+
+def test_progress_is_shown_only_on_a_terminal(module: dict[str, str], tmp_path: Path) -> None:
+    words: list[Word] = [SHARD, "--shards", "2", "--out", tmp_path / "shown", TOP / "examples/keys.json"]
     shown, terminal = os.openpty()
-    done = subprocess.run([*map(str, words)], env={**os.environ, "TDL": str(program)}, stdout=subprocess.PIPE, stderr=terminal)
+    done = subprocess.run(common.told(words), env=module, stdout=subprocess.PIPE, stderr=terminal)
     text = os.read(shown, 65_536).decode("ascii")
     os.close(shown)
     os.close(terminal)
-    wanted = "".join(f"\r\x1b[K{line}" for line in (
-        "read 8 contexts", "wrote shard 1 of 2", "wrote shard 2 of 2", "checked shard 1 of 2", "checked shard 2 of 2", ""))
-    results.note("progress", "" if (done.returncode, text) == (0, wanted) else f"{done} {text!r}")
+    lines = ("read 8 contexts", "wrote shard 1 of 2", "wrote shard 2 of 2", "checked shard 1 of 2", "checked shard 2 of 2", "")
+    assert (done.returncode, text) == (0, "".join(f"\r\x1b[K{line}" for line in lines))
 
 
-def try_ended(program: Path, room: Path, results: Trial) -> None:
-    """A splitter that is ended while its shards are checked leaves nothing."""
-    place = room / "ended"
-    place.mkdir()
-    waits = place / "tdl"
-    waits.write_text(f'#!/bin/sh\n{{ [ "$1" = canon ] || [ "$3" = /dev/stdin ]; }} && exec {program} "$@"\ntouch {place}/checks\nexec sleep 60\n', "ascii")
+def test_leaves_nothing_if_it_is_ended_while_shards_are_checked(program: Path, module: dict[str, str], tmp_path: Path) -> None:
+    waits = tmp_path / "tdl"
+    waits.write_text(f'#!/bin/sh\n{{ [ "$1" = canon ] || [ "$3" = /dev/stdin ]; }} && exec {program} "$@"\ntouch {tmp_path}/checks\nexec sleep 60\n', "ascii")
     waits.chmod(0o755)
-    words = [SHARD, "--shards", "2", "--out", place / "new", TOP / "examples/keys.json"]
-    process = subprocess.Popen([*map(str, words)], env={**os.environ, "TDL": str(waits)}, stderr=subprocess.DEVNULL)
-    until((place / "checks").exists, PATIENCE)
-    during = sorted(path.name for path in place.iterdir())
+    words: list[Word] = [SHARD, "--shards", "2", "--out", tmp_path / "new", TOP / "examples/keys.json"]
+    process = begun(*words, env={**module, "TDL": str(waits)}, stderr=subprocess.DEVNULL)
+    assert until((tmp_path / "checks").exists, PATIENCE)
+    assert len(os.listdir(tmp_path)) == 3
     process.terminate()
-    status, left = process.wait(PATIENCE), sorted(path.name for path in place.iterdir())
-    is_good = (status, left) == (130, ["checks", "tdl"]) and len(during) == 3
-    results.note("ended in between", "" if is_good else f"status {status}, before {during}, behind {left}")
+    assert process.wait(PATIENCE) == 130
+    assert sorted(os.listdir(tmp_path)) == ["checks", "tdl"]
 
 
-# A million links
-
-
-def try_million(program: Path, room: Path, results: Trial) -> None:
-    """A million links are split in 16 shards within two minutes and 1 GiB."""
-    path, folder = room / "million.json", room / "million"
+@pytest.mark.whole
+def test_splits_a_million_links_within_two_minutes_and_a_gibibyte(module: dict[str, str], tmp_path: Path) -> None:
+    path = tmp_path / "million.json"
     with open(path, "w", encoding="ascii") as file:
         file.write('{"linkset":[')
         for number in range(1_000_000):
@@ -865,30 +708,5 @@ def try_million(program: Path, room: Path, results: Trial) -> None:
             target = f'{{"href":"https://example.com/{number}","title":"Item {number}","type":"text/html"}}'
             file.write(f'{"," if number else ""}{{"anchor":"/01/{digits}{check_digit(digits)}","gs1:pip":[{target}]}}')
         file.write("]}")
-
-    spent = costs([SHARD, "--shards", "16", "--out", folder, path], env={**os.environ, "TDL": str(program)})
-    print(f"shards: a million links, {path.stat().st_size:,} bytes: {spent.wall:.1f} s, {spent.memory:.0f} MiB, {spent.output.strip()}")
-    is_good = spent.output.startswith("shards 16 links 1000000 ") and spent.wall < 120 and spent.memory < 1024
-    results.note("a million links", "" if is_good else f"{spent}")
-
-
-def main() -> int:
-    """Returns the status."""
-    given, results = arguments(__doc__, "--whole"), Trial("shards")
-    program, every = given.program, [Tables(TOP / "tables" / f"{name}.json") for name in ("builtin", "gs1")]
-    with temporary("tdl-shards-") as room:
-        if given.whole:
-            try_million(program, room, results)
-        else:
-            try_rejected(program, room, results)
-            try_alike(program, room, results)
-            try_example(program, room, results)
-            try_progress(program, room, results)
-            try_ended(program, room, results)
-            try_rollout(program, room, every[1], results)
-        for tables in every:
-            for seed in SEEDS:
-                place = room / f"{tables.path.stem}-{seed}"
-                place.mkdir()
-                try_seed(program, place, tables, seed, 200_001 if given.whole else ITEMS, "auto" if given.whole else 5, results)
-    return results.end()
+    spent = costs([SHARD, "--shards", "16", "--out", tmp_path / "million", path], env=module)
+    assert spent.output.startswith("shards 16 links 1000000 ") and spent.wall < 120 and spent.memory < 1024, spent
