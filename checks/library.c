@@ -1,4 +1,4 @@
-/* library ACTION ..: asks libtdl, for checks/library.
+/* library ACTION ..: asks libtdl, for tests/test_library.py.
 
    answers one|lines FROM TO FILTER GCP KEYS_ONLY ENCODING STEM TABLES PREFIXES: answers the lines of standard input, by a call for each or
      by one for all, as `tdl` prints them; files are named `-` for none. A session that is not opened gives `refused WHICH REASON`.

@@ -1,4 +1,4 @@
-"""The unit's processes behind the shipped fronts, and clients that ask them: what checks/packages tries of nginx and HAProxy.
+"""The unit's processes behind the shipped fronts, and clients that ask them: what tests/test_fronts.py tries of nginx and HAProxy.
 
 Each request has a TLS connection of its own. It is lost if its reply does not come whole.
 """
