@@ -10,6 +10,7 @@ import re
 import shutil
 import signal
 import subprocess
+import sys
 import tempfile
 from pathlib import Path
 from threading import Thread
@@ -130,7 +131,7 @@ class Place:
         self.elsewhere.mkdir()
         self.tools.mkdir()
         for tool in TOOLS:
-            (self.tools / tool).symlink_to(there(shutil.which(tool)))
+            (self.tools / tool).symlink_to(sys.executable if tool == "python3" else there(shutil.which(tool)))
         self.told = Path(room, "temporary", f"tdl-told-{os.getuid()}")
         self.told.parent.mkdir()
         self.told.parent.chmod(0o777)

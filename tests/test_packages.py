@@ -42,12 +42,6 @@ USAGE, SHELLS = 2, ("bash", "zsh", "fish")
 SHORTAGE, FAILING_LOAD, EXPOSURE = 60, 5, 1.5
 
 
-@pytest.fixture(scope="session")
-def root(unpacked: Path) -> Path:
-    """The folder of the unpacked package."""
-    return unpacked
-
-
 # Files
 
 

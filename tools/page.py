@@ -32,8 +32,10 @@ class Page:
 
     def enter(self, text: str, options: Options) -> None:
         """Types a text, sets the controls, and waits for the answer."""
-        self.value(f"({SET})({json.dumps({'text': text, **options})})")
-        self.wait(SETTLED)
+        # (the page offers the encodings of a text that it has read)
+        for _ in range(2 if "encoding" in options else 1):
+            self.value(f"({SET})({json.dumps({'text': text, **options})})")
+            self.wait(SETTLED)
 
     def texts(self, selector: str) -> Any:
         """Returns the texts of the elements that a selector finds."""
