@@ -1,6 +1,7 @@
 """What the tests have in common.
 
-Options: `--program FILE`, the program that is tried (crates/tdl/out/tdl if it is not given), and `--whole`, which tries the large sizes too.
+Options: `--program FILE`, the program that is tried (crates/tdl/out/tdl if it is not given); `--whole`, which tries the large sizes too; and
+`--sources`, which tries only what needs no program.
 $TDL_LIBRARY is the folder of libtdl (crates/tdl_c/out, where it is built over what `rt ci` left, if it is not given).
 
 Fixtures: `program`, its path; `libtdl`, the library's folder; `module`, an environment in which `python3 -m tdl` runs this repository's module
@@ -21,13 +22,17 @@ import pytest
 
 from tools import library, repository
 from tools.debian import lack
+from tools.repository import TOP
 from tools.tests import leave_out
+
+OF_PROGRAM = {"program", "libtdl"}
 
 
 def pytest_addoption(parser: pytest.Parser) -> None:
     """Adds the options of the tests."""
     parser.addoption("--program", type=Path, default=repository.PROGRAM, metavar="FILE", help="the program that is tried")
     parser.addoption("--whole", action="store_true", help="try the large sizes too")
+    parser.addoption("--sources", action="store_true", help="try only what needs no program")
 
 
 def pytest_configure(config: pytest.Config) -> None:
@@ -46,6 +51,12 @@ def pytest_unconfigure(config: pytest.Config) -> None:
     """Removes what was made once."""
     if not hasattr(config, "workerinput"):
         shutil.rmtree(os.environ["TDL_TESTS"], ignore_errors=True)
+
+
+def pytest_collection_modifyitems(config: pytest.Config, items: list[pytest.Item]) -> None:
+    """Keeps the tests that need no program, where only these are asked for."""
+    if config.getoption("--sources"):
+        items[:] = [item for item in items if item.path.is_relative_to(TOP / "tests") and not OF_PROGRAM & {*getattr(item, "fixturenames", [])}]
 
 
 def pytest_runtest_setup(item: pytest.Item) -> None:

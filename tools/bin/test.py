@@ -1,15 +1,16 @@
-"""test [--whole]: tries the program over cases whose answers are known.
+"""test [--whole] [ARGUMENT..]: tries the program by pytest, to which the arguments go, such as `-k NAME` or `tests/test_cases.py`.
 
-If the proved program is no older than its sources, checks/acceptance and the checks that it calls run over it, in about a quarter of an
-hour. Otherwise nothing is proved, and the sources run without proofs by `rt try`, with every check at run time on: some runs of tdl over
-the cases of checks/cases, those with the same words joined, and up to 25 vectors of each public call of the libraries, with answers of the
-standards. It takes as much of that as should end within five minutes here, all of it with --whole, and never a case that is marked heavy.
-Beside them checks/python runs mypy and flake8 over the tools, the module and tdl-shard.
+tests/ and python/tests run side by side over the program that bin/build, or `rt ci` at the top, has built, or over that of `--program FILE`;
+--whole tries the large sizes too. A test whose tool is missing is skipped with the name of its package; in the gate (CI=true) it fails.
 
-The first line says how long it will take. What is left out is named, 'left out: slow here', and so is a run that had not ended after
-an hour; a run that takes a quarter of an hour of processor time has failed. It prints each run that differs, and a last line 'N passed,
-M failed', which counts cases and vectors, with those left out. The status is 1 if one failed, 2 for other arguments, and 70 if the tests
-cannot run.
+Without arguments and without a program that is as new as its sources, nothing is proved: `rt try` runs the sources, with every check at run
+time on, over some cases of checks/cases, those with the same words joined, and up to 25 vectors of each public call of the libraries, with
+answers of the standards. It takes as much of that as should end within five minutes here, all of it with --whole, and never a case that is
+marked heavy. Beside that run the tests that need no program. The first line says how long it will take. What is left out is named, 'left out:
+slow here', and so is a run that had not ended after an hour; a run that takes a quarter of an hour of processor time has failed. The last
+line is 'N passed, M failed'.
+
+The status is 0, 1 if a test failed, another of pytest, or 70 if the tests cannot run.
 """
 import json
 import re
@@ -26,13 +27,15 @@ from typing import Any, Iterator, Optional
 
 from tools import costs, pace, repository, vectors
 from tools.cases import Case, bytes_of, content_of, joined, subjects
-from tools.common import BOTH, PIPES, Process, Word, begun, ending, parser, temporary
+from tools.common import BOTH, PIPES, Process, Word, begun, ending, run, temporary
 from tools.repository import CRATES, GIGABYTE, TOP
 
 Pairs = list[tuple[str, str]]
-
+# cases that passed, failed, and were too slow
+Counts = tuple[int, int, int]
 
 CANNOT = 70
+PYTEST = "Debian's packages python3-pytest and python3-pytest-xdist"
 # how many runs of tdl are taken, how many vectors of each call, and the most lines of `gen`
 RUNS, VECTORS_A_CALL, MOST_LINES = 60, 25, 10_000
 # the seconds that all may take, that a run may take by the clock, and of processor time
@@ -49,9 +52,24 @@ TOO_LATE = re.compile(r"no-answer: .* within the time limit")
 FEW, LINES = 20, 20
 
 
+def say(text: object) -> None:
+    """Writes a line to standard error."""
+    print(f"bin/test: {text}", file=sys.stderr, flush=True)
+
+
+def of_pytest(*words: str) -> Optional[list[str]]:
+    """Returns the command that runs pytest, side by side if it can, or nothing if no Python here has it."""
+    for python in (sys.executable, "/usr/bin/python3"):
+        if not run(python, "-c", "import pytest")[0]:
+            beside = [] if run(python, "-c", "import xdist")[0] else ["-n", "auto", "--dist", "loadgroup"]
+            return [python, "-m", "pytest", "-q", "--tb=short", "-rfEs", *beside, *words]
+    say(f"no Python here has pytest: install {PYTEST}")
+    return None
+
+
 @dataclass
 class Run:
-    """A run of a program: its arguments, files, input, output and status, and the cases that it stands for."""
+    """A run of tdl: its arguments, files, input, output and status, and the cases that it stands for."""
 
     words: list[Any]
     files: dict[str, bytes]
@@ -62,7 +80,7 @@ class Run:
 
 
 def is_within(case: Case) -> bool:
-    """Whether `rt try` can run a case: words are handed on as lines of text."""
+    """Returns whether `rt try` can run a case: words are handed on as lines of text."""
     words = [bytes_of(word) for word in case["words"]]
     is_text = all(word.isascii() and b"\n" not in word and b"{}" not in word for word in words)
     is_long = words[:1] == [b"gen"] and words[1:] and words[1].isdigit() and int(words[1]) > MOST_LINES
@@ -70,37 +88,33 @@ def is_within(case: Case) -> bool:
 
 
 def files_of(case: Case) -> dict[str, bytes]:
-    """The files of a case, by their names there."""
+    """Returns the files of a case, by their names there."""
     files = {name: content_of(file) for name, file in case.get("files", {}).items()}
-    files.update({name: (TOP / path).read_bytes() for name, path in case.get("lent", {}).items()})
-    return files
+    return {**files, **{name: (TOP / path).read_bytes() for name, path in case.get("lent", {}).items()}}
 
 
 def runs_of(subject: str, cases: list[Case]) -> list[Run]:
-    """The runs of a file of cases, those of lines with the same words and files joined; those that stand for the most come first."""
+    """Returns the runs of a file of cases, those of lines with the same words and files joined; those that stand for the most come first."""
     found: dict[str, Run] = {}
     for case in filter(is_within, cases):
-        is_joined = "lines" in case and case["status"] < 2
-        apart = None if is_joined else case["name"]
+        apart = None if "lines" in case and case["status"] < 2 else case["name"]
         key = json.dumps([case["words"], case.get("files"), case.get("lent"), apart], sort_keys=True)
-        run = found.setdefault(key, Run(case["words"], files_of(case)))
-        run.given += joined(case, "input", 0)
-        run.wanted += joined(case, "output", 1)
-        run.status = max(run.status, case["status"])
-        run.names.append(f"{subject}: {case['name']}")
-    taken = (run for run in found.values() if len(run.wanted) <= MOST_OUTPUT)
-    return sorted(taken, key=lambda run: (-len(run.names), -len(run.given)))
+        it = found.setdefault(key, Run(case["words"], files_of(case)))
+        it.given += joined(case, "input", 0)
+        it.wanted += joined(case, "output", 1)
+        it.status = max(it.status, case["status"])
+        it.names.append(f"{subject}: {case['name']}")
+    return sorted((it for it in found.values() if len(it.wanted) <= MOST_OUTPUT), key=lambda it: (-len(it.names), -len(it.given)))
 
 
 def program_runs() -> list[Run]:
-    """The runs of tdl that are taken: of each file of cases the first, then of each the second, and so on."""
+    """Returns the runs of tdl that are taken: of each file of cases the first, then of each the second, and so on."""
     every = [runs_of(subject, cases) for subject, cases in subjects()]
-    rounds = [[runs[number] for runs in every if number < len(runs)] for number in range(max(map(len, every)))]
-    return [run for one_round in rounds for run in one_round][:RUNS]
+    return [runs[number] for number in range(max(map(len, every))) for runs in every if number < len(runs)][:RUNS]
 
 
 def some_vectors() -> Pairs:
-    """Some of the vectors of each call, each a case with its wanted answer."""
+    """Returns some of the vectors of each call, each a case with its wanted answer."""
     by_call: dict[str, Pairs] = {}
     for case, answer in vectors.cases():
         # (calls at the limits take minutes where each check at run time is on)
@@ -109,36 +123,35 @@ def some_vectors() -> Pairs:
     return [pair for some in by_call.values() for pair in some[::-(-len(some) // VECTORS_A_CALL)]]
 
 
+def started(crate: str, *words: Word) -> Process:
+    """Starts `rt try` in a crate; each process that it starts may use PROCESSOR seconds."""
+    how: dict[str, Any] = {**PIPES, "stdin": subprocess.DEVNULL, "text": True, "errors": "replace"}
+    how["preexec_fn"] = lambda: resource.setrlimit(resource.RLIMIT_CPU, (PROCESSOR, PROCESSOR))
+    return begun("rt", "try", "--steps", 1, "--seconds", CLOCK, *words, cwd=CRATES / crate, **how)
+
+
 def begin(runs: list[Run], folder: Path) -> Process:
     """Writes the runs of tdl to a folder, and starts them."""
     data: list[Word] = []
-    for number, run in enumerate(runs):
-        names = {name: f"file-{number}-{place}" for place, name in enumerate(run.files)}
+    (folder / "runs").mkdir()
+    for number, it in enumerate(runs):
+        names = {name: f"file-{number}-{place}" for place, name in enumerate(it.files)}
         for name, given in names.items():
-            (folder / given).write_bytes(run.files[name])
+            (folder / given).write_bytes(it.files[name])
             data += ["--data", f"{given}={folder / given}"]
         of_run = folder / "runs" / f"{number:03}"
-        of_run.parent.mkdir(exist_ok=True)
-        of_run.write_bytes(run.given)
-        Path(f"{of_run}.stdout").write_bytes(run.wanted)
-        if run.words:
-            words = [names.get(word, word) if isinstance(word, str) else word for word in run.words]
+        of_run.write_bytes(it.given)
+        Path(f"{of_run}.stdout").write_bytes(it.wanted)
+        if it.words:
+            words = [names.get(word, word) if isinstance(word, str) else word for word in it.words]
             Path(f"{of_run}.args").write_bytes(b"".join(bytes_of(word) + b"\n" for word in words))
     return started("tdl", *data, "--cases", folder / "runs")
 
 
 def begin_vectors(pairs: Pairs, folder: Path) -> Process:
     """Writes vectors to a file in a folder, and starts the program that compares their answers."""
-    text = "".join(f"{case}\n{vectors.ANSWER}{answer}\n" for case, answer in pairs)
-    (folder / SOME).write_text(text, "latin-1")
+    (folder / SOME).write_text("".join(f"{case}\n{vectors.ANSWER}{answer}\n" for case, answer in pairs), "latin-1")
     return started("vectors", "--data", f"{SOME}={folder / SOME}")
-
-
-def started(crate: str, *words: Word) -> Process:
-    """Starts `rt try` in a crate; each process that it starts may use PROCESSOR seconds."""
-    how: dict[str, Any] = {**PIPES, "stdin": subprocess.DEVNULL, "text": True, "errors": "replace"}
-    how["preexec_fn"] = lambda: resource.setrlimit(resource.RLIMIT_CPU, (PROCESSOR, PROCESSOR))
-    return begun("rt", "try", "--steps", 1, "--seconds", CLOCK, *words, cwd=CRATES / crate, **how)
 
 
 def reports(said: str) -> Iterator[tuple[int, tuple[str, str], str]]:
@@ -152,27 +165,26 @@ def reports(said: str) -> Iterator[tuple[int, tuple[str, str], str]]:
             before = []
 
 
-def count(runs: list[Run], said: str) -> tuple[int, int, int]:
-    """Returns how many cases passed, failed and were too slow, by what `rt try` said; prints those that did not pass."""
+def count(runs: list[Run], said: str) -> Counts:
+    """Returns the counts of cases by what `rt try` said; prints those that did not pass."""
     ended = {number: (got, lines) for number, got, lines in reports(said)}
     passed = failed = slow = 0
-    for number, run in enumerate(runs):
+    for number, it in enumerate(runs):
         (status, output), lines = ended.get(number, (("none", "none"), ""))
-        what = run.names[0] + (f", or one of {len(run.names) - 1} cases behind it" if len(run.names) > 1 else "")
-        if (status, output) == (str(run.status), "expected"):
-            passed += len(run.names)
+        what = it.names[0] + (f", or one of {len(it.names) - 1} cases behind it" if len(it.names) > 1 else "")
+        if (status, output) == (str(it.status), "expected"):
+            passed += len(it.names)
         elif TOO_LATE.search(lines):
-            slow += len(run.names)
+            slow += len(it.names)
             print(f"left out: slow here: {what}")
         else:
-            failed += len(run.names)
-            print(f"failed: {what}\n  status wanted {run.status}, got {status}; output {output}", *(lines or said).splitlines()[-LINES:], sep="\n  ")
+            failed += len(it.names)
+            print(f"failed: {what}\n  status wanted {it.status}, got {status}; output {output}", *(lines or said).splitlines()[-LINES:], sep="\n  ")
     return passed, failed, slow
 
 
-def count_vectors(pairs: Pairs, printed: str, said: str) -> tuple[int, int, int]:
-    """Returns how many vectors passed, failed and were too slow, by what the program printed and `rt try` said; prints those that failed.
-    Without counts all failed."""
+def count_vectors(pairs: Pairs, printed: str, said: str) -> Counts:
+    """Returns the counts of vectors by what the program printed and `rt try` said; prints those that failed. Without counts all failed."""
     *differ, last = printed.splitlines() or [""]
     print(*(f"vectors: {line}" for line in differ), sep="\n", end="\n" if differ else "")
     found = COUNTS.fullmatch(last)
@@ -187,7 +199,7 @@ def count_vectors(pairs: Pairs, printed: str, said: str) -> tuple[int, int, int]
 
 def cost(runs: list[Run], pairs: Pairs, processors: int) -> float:
     """Returns the cost of runs and vectors side by side, on so many processors."""
-    apart = [costs.TRY + RUN * len(runs)] * bool(runs) + [costs.TRY + THOUSAND * len(pairs) / 1000] * bool(pairs)
+    apart = [costs.TRY + RUN * len(runs)] + [costs.TRY + THOUSAND * len(pairs) / 1000] * bool(pairs)
     return max(*apart, (sum(apart) + costs.BESIDE * len(apart)) / processors)
 
 
@@ -196,10 +208,10 @@ def chosen(is_whole: bool) -> tuple[list[Run], Pairs]:
     runs, pairs, processors = program_runs(), some_vectors(), pace.processors()
     rate = pace.clock(processors)
     choices: list[tuple[list[Run], Pairs]] = [(runs, pairs), (runs, []), (runs[:FEW], [])]
-    taken = next((it for it in choices if is_whole or cost(it[0], it[1], processors) * rate <= ALL), choices[-1])
-    low, high = (cost(taken[0], taken[1], processors) * rate * factor for factor in costs.RANGE)
+    taken = next((it for it in choices if is_whole or cost(*it, processors) * rate <= ALL), choices[-1])
     what = f"{len(taken[0])} runs of tdl and {len(taken[1]):,} vectors of its libraries"
-    print(f"bin/test: nothing is proved here, so the sources run without proofs: {what}, in {pace.between(low, high)} here", file=sys.stderr, flush=True)
+    time = pace.between(*(cost(*taken, processors) * rate * factor for factor in costs.RANGE))
+    say(f"nothing is proved here, so the sources run without proofs: {what}, in {time} here")
     left_out = len(runs) - len(taken[0]), len(pairs) - len(taken[1])
     if any(left_out):
         print(f"left out: slow here: {left_out[0]} runs of tdl and {left_out[1]:,} vectors; bin/test --whole takes them", flush=True)
@@ -207,50 +219,56 @@ def chosen(is_whole: bool) -> tuple[list[Run], Pairs]:
 
 
 def lack() -> Optional[str]:
-    """Why the tests cannot run, in a line, or nothing."""
+    """Returns why the tests cannot run, in a line, or nothing."""
     kit = repository.lack_of_kit()
     if kit and kit[1]:
         return kit[0]
     if kit:
-        print(f"bin/test: {kit[0]}", file=sys.stderr)
+        say(kit[0])
     return repository.lack_of_room(tempfile.gettempdir(), GIGABYTE, 3 * GIGABYTE)
 
 
 def test_unproved(is_whole: bool) -> int:
-    """Runs the sources without proofs, and returns the status."""
+    """Runs the sources without proofs, and beside them the tests that need no program, and returns the status."""
     why = lack()
     if why:
-        print(f"bin/test: {why}", file=sys.stderr)
+        say(why)
         return CANNOT
-    start, passed, failed, slow = monotonic(), 0, 0, 0
+    start, total = monotonic(), (0, 0, 0)
     runs, pairs = chosen(is_whole)
+    words = of_pytest("--sources", "-n", "0")
     with ExitStack() as opened:
         room = opened.enter_context(temporary("tdl-test-"))
-        # (what no program is needed for goes on beside)
-        beside = opened.enter_context(ending(begun(TOP / "checks" / "python", **BOTH)))
+        beside = opened.enter_context(ending(begun(*words, cwd=TOP, **BOTH))) if words else None
         both = [opened.enter_context(ending(begin(runs, room)))]
         both += [opened.enter_context(ending(begin_vectors(pairs, room)))] if pairs else []
         for crate, running in zip(("tdl", "vectors"), both):
             printed, said = running.communicate()
             some = count(runs, said) if crate == "tdl" else count_vectors(pairs, printed, said)
-            passed, failed, slow = passed + some[0], failed + some[1], slow + some[2]
+            total = total[0] + some[0], total[1] + some[1], total[2] + some[2]
             print(f"{crate}: {some[0]} passed, {some[1]} failed, after {monotonic() - start:.0f} s", flush=True)
-        print(beside.communicate()[0], end="", flush=True)
-        passed, failed = passed + (not beside.returncode), failed + bool(beside.returncode)
+        if beside:
+            print(beside.communicate()[0], end="", flush=True)
+            total = total[0] + (not beside.returncode), total[1] + bool(beside.returncode), total[2]
     print("nothing was proved; bin/build proves and builds the program, and bin/test then tries that")
-    print(f"{passed} passed, {failed} failed" + (f", {slow} left out: slow here" if slow else ""))
-    return 1 if failed or not passed else 0
+    print(f"{total[0]} passed, {total[1]} failed" + (f", {total[2]} left out: slow here" if total[2] else ""))
+    return 1 if total[1] or not total[0] else 0
 
 
 def main() -> int:
     """Returns the status."""
-    asked = parser(__doc__)
-    asked.add_argument("--whole", action="store_true", help="without proofs, take all runs and vectors, however long that takes")
-    is_whole = asked.parse_args().whole
-    if repository.is_current():
-        return subprocess.run([TOP / "checks" / "acceptance"]).returncode
-    signal.signal(signal.SIGTERM, signal.default_int_handler)
-    try:
-        return test_unproved(is_whole)
-    except KeyboardInterrupt:
-        return 130
+    words = sys.argv[1:]
+    if {"-h", "--help"} & {*words}:
+        print(__doc__)
+        return 0
+    is_current = repository.is_current()
+    if not is_current and words in ([], ["--whole"]):
+        signal.signal(signal.SIGTERM, signal.default_int_handler)
+        try:
+            return test_unproved(bool(words))
+        except KeyboardInterrupt:
+            return 130
+    if not is_current and not any(word.startswith("--program") for word in words):
+        say("there is no program as new as its sources; tests over it fail, or try an older one")
+    command = of_pytest(*words)
+    return subprocess.run(command, cwd=TOP).returncode if command else CANNOT
