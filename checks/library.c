@@ -70,7 +70,7 @@ static uint32_t open_by(tdl_handle *handle, tdl_choice choice, bytes encoding, b
 }
 
 static uint32_t open_plain(tdl_handle *handle, int from, int to) {
-    tdl_choice choice = { (uint8_t)from, (uint8_t)to, TDL_ANY_FILTER, TDL_ANY_GCP, 0 };
+    tdl_choice choice = { sizeof choice, (uint8_t)from, (uint8_t)to, TDL_ANY_FILTER, TDL_ANY_GCP, 0 };
     uint8_t out[1];
     size_t len;
     return tdl_open(handle, &choice, TDL_NONE, TDL_STEM, TDL_NONE, TDL_NONE, out, 0, &len);
@@ -117,7 +117,7 @@ static void answer_all(tdl_handle *handle, bytes lines) {
 }
 
 static void answers(char **words) {
-    tdl_choice choice = { (uint8_t)atoi(words[1]), (uint8_t)atoi(words[2]), (uint8_t)atoi(words[3]), (uint8_t)atoi(words[4]), (uint8_t)atoi(words[5]) };
+    tdl_choice choice = { sizeof choice, (uint8_t)atoi(words[1]), (uint8_t)atoi(words[2]), (uint8_t)atoi(words[3]), (uint8_t)atoi(words[4]), (uint32_t)atoi(words[5]) };
     bytes given[] = { text(words[6]), text(words[7]), file(words[8]), file(words[9]), block(TDL_ROOM), whole(stdin) };
     tdl_handle handle = TDL_CLOSED;
     size_t len = 0;
@@ -180,7 +180,7 @@ static void try_line_lengths(tdl_handle *handle) {
 
 static void try_shut(void) {
     tdl_handle handle = TDL_CLOSED;
-    tdl_choice choice = { TDL_HEX, TDL_LINK, TDL_ANY_FILTER, TDL_ANY_GCP, 0 };
+    tdl_choice choice = { sizeof choice, TDL_HEX, TDL_LINK, TDL_ANY_FILTER, TDL_ANY_GCP, 0 };
     bytes asked = text(HEX), out = block(64);
     memset(out.at, 0xA5, 64);
     for (int again = 0; again < 2; again++) {
@@ -207,19 +207,22 @@ static void try_numbers(tdl_handle *handle) {
     for (int place = 0; place < 5; place++) {
         const int least[] = { 6, 7, 8, 13, 2 };
         for (int number = least[place]; number < 256; number += number < 20 || number > 250 ? 1 : 50) {
-            tdl_choice choice = { TDL_HEX, TDL_LINK, TDL_ANY_FILTER, TDL_ANY_GCP, 0 };
-            uint8_t *numbers[] = { &choice.from, &choice.to, &choice.filter, &choice.gcp, &choice.keys_only };
+            tdl_choice choice = { sizeof choice, TDL_HEX, TDL_LINK, TDL_ANY_FILTER, TDL_ANY_GCP, 0 };
+            uint8_t *numbers[] = { &choice.from, &choice.to, &choice.filter, &choice.gcp };
             size_t len = 1;
             if (place == 2 && number == TDL_ANY_FILTER)
                 continue;
-            *numbers[place] = (uint8_t)number;
+            if (place < 4)
+                *numbers[place] = (uint8_t)number;
+            else
+                choice.flags = (uint32_t)number;
             CHECK(tdl_open(handle, &choice, TDL_NONE, TDL_STEM, TDL_NONE, TDL_NONE, out.at, 256, &len) == TDL_ARGUMENT && len == 0);
             CHECK(tdl_retarget(handle, &choice, TDL_NONE, TDL_STEM) == TDL_ARGUMENT);
         }
     }
     const char *stems[] = { "", "x", "ftp://id.gs1.org", "https://", "https://a.example/", "https://a?b", "https://a#b", "https://\x01" };
     for (size_t n = 0; n < sizeof stems / sizeof *stems; n++) {
-        tdl_choice choice = { TDL_HEX, TDL_LINK, TDL_ANY_FILTER, TDL_ANY_GCP, 0 };
+        tdl_choice choice = { sizeof choice, TDL_HEX, TDL_LINK, TDL_ANY_FILTER, TDL_ANY_GCP, 0 };
         bytes stem = text(stems[n]);
         size_t len = 1;
         CHECK(tdl_open(handle, &choice, TDL_NONE, stem.at, stem.length, TDL_NONE, TDL_NONE, out.at, 256, &len) == TDL_ARGUMENT && len == 0);
@@ -237,7 +240,7 @@ static void try_documents(tdl_handle *handle) {
     const char *documents[] = { "{}", "{", "\xff", "[]", "{\"version\":2}" };
     for (size_t n = 0; n < sizeof documents / sizeof *documents; n++)
         for (int is_prefixes = 0; is_prefixes < 2; is_prefixes++) {
-            tdl_choice choice = { TDL_HEX, TDL_LINK, TDL_ANY_FILTER, TDL_ANY_GCP, 0 };
+            tdl_choice choice = { sizeof choice, TDL_HEX, TDL_LINK, TDL_ANY_FILTER, TDL_ANY_GCP, 0 };
             bytes none = block(0), document = text(documents[n]), stem = text("https://id.gs1.org");
             size_t all = 200;
             for (size_t room = 0; room < all + 3; room++) {
@@ -258,7 +261,7 @@ static void try_documents(tdl_handle *handle) {
 }
 
 static void try_retarget(tdl_handle *handle) {
-    tdl_choice back = { TDL_LINK, TDL_HEX, 3, 7, 0 }, forth = { TDL_HEX, TDL_LINK, TDL_ANY_FILTER, TDL_ANY_GCP, 0 };
+    tdl_choice back = { sizeof back, TDL_LINK, TDL_HEX, 3, 7, 0 }, forth = { sizeof forth, TDL_HEX, TDL_LINK, TDL_ANY_FILTER, TDL_ANY_GCP, 0 };
     bytes hex = text(HEX), link = text(LINK), out = block(256);
     size_t len = 0;
     for (int again = 0; again < 3; again++) {
@@ -274,7 +277,7 @@ static void try_retarget(tdl_handle *handle) {
 }
 
 static void try_share(tdl_handle *handle) {
-    tdl_choice back = { TDL_LINK, TDL_HEX, 3, 7, 0 }, wrong = { 9, 9, 9, 99, 9 };
+    tdl_choice back = { sizeof back, TDL_LINK, TDL_HEX, 3, 7, 0 }, wrong = { sizeof wrong, 9, 9, 9, 99, 9 };
     bytes hex = text(HEX), link = text(LINK), out = block(256);
     tdl_handle none = TDL_CLOSED, others[3] = { TDL_CLOSED, TDL_CLOSED, TDL_CLOSED };
     size_t len = 0;
@@ -325,7 +328,7 @@ static void try_bytes(void) {
 
 static void calls(void) {
     tdl_handle handle = TDL_CLOSED;
-    CHECK(tdl_version() >= 10000);
+    CHECK(tdl_version_number() == TDL_VERSION_NUMBER);
     try_shut();
     CHECK(open_plain(&handle, TDL_HEX, TDL_LINK) == TDL_OK);
     try_lengths(&handle, HEX, TDL_OK);
@@ -363,23 +366,23 @@ static size_t answer_len;
 static uint8_t answer_out[256];
 
 static uint32_t call_open(void) {
-    tdl_choice choice = { TDL_LINK, TDL_HEX, 3, 7, 0 };
+    tdl_choice choice = { sizeof choice, TDL_LINK, TDL_HEX, 3, 7, 0 };
     return tdl_open(&faulted, &choice, TDL_NONE, TDL_STEM, given_tables.at, given_tables.length, given_prefixes.at, given_prefixes.length,
                     answer_out, sizeof answer_out, &answer_len);
 }
 
 static uint32_t call_rejected(void) {
-    tdl_choice choice = { TDL_LINK, TDL_HEX, 3, 7, 0 };
+    tdl_choice choice = { sizeof choice, TDL_LINK, TDL_HEX, 3, 7, 0 };
     return tdl_open(&faulted, &choice, TDL_NONE, TDL_STEM, (const uint8_t *)"{\"version\":2}", 13, TDL_NONE, answer_out, sizeof answer_out, &answer_len);
 }
 
 static uint32_t call_retarget(void) {
-    tdl_choice choice = { TDL_LINK, TDL_HEX, 3, 7, 0 };
+    tdl_choice choice = { sizeof choice, TDL_LINK, TDL_HEX, 3, 7, 0 };
     return tdl_retarget(&faulted, &choice, (const uint8_t *)"sgtin-96", 8, TDL_STEM);
 }
 
 static uint32_t call_share(void) {
-    tdl_choice choice = { TDL_HEX, TDL_LINK, TDL_ANY_FILTER, TDL_ANY_GCP, 0 };
+    tdl_choice choice = { sizeof choice, TDL_HEX, TDL_LINK, TDL_ANY_FILTER, TDL_ANY_GCP, 0 };
     tdl_handle other = TDL_CLOSED;
     uint32_t status = tdl_share(&other, &faulted, &choice, (const uint8_t *)"sgtin-96", 8, TDL_STEM);
     tdl_close(&other);
@@ -462,7 +465,7 @@ static void *work(void *given) {
 }
 
 static void threads(void) {
-    tdl_choice choice = { TDL_HEX, TDL_LINK, TDL_ANY_FILTER, TDL_ANY_GCP, 0 };
+    tdl_choice choice = { sizeof choice, TDL_HEX, TDL_LINK, TDL_ANY_FILTER, TDL_ANY_GCP, 0 };
     CHECK(open_plain(&shared, TDL_HEX, TDL_LINK) == TDL_OK);
     for (how = OWN; how <= SHARED; how++) {
         pthread_t started[THREADS];
@@ -492,7 +495,7 @@ static size_t held(void) {
 }
 
 static void churn(long count, const char *name) {
-    tdl_choice choice = { TDL_HEX, TDL_LINK, TDL_ANY_FILTER, TDL_ANY_GCP, 0 };
+    tdl_choice choice = { sizeof choice, TDL_HEX, TDL_LINK, TDL_ANY_FILTER, TDL_ANY_GCP, 0 };
     bytes tables = file(name), none = block(0), stem = text("https://id.gs1.org"), out = block(256);
     size_t len, before = 0;
     for (long n = 0; n < count; n++) {

@@ -2,11 +2,13 @@ import com.sun.jna.Memory;
 import com.sun.jna.Native;
 import com.sun.jna.Pointer;
 import com.sun.jna.ptr.LongByReference;
+import java.nio.ByteBuffer;
+import java.nio.ByteOrder;
 import java.nio.charset.StandardCharsets;
 
 /** Library TEXT..: the canonical links of pure identity URIs, by libtdl over JNA. */
 public final class Library implements AutoCloseable {
-    private static final int PURE = 2, CANON = 6, ANY_FILTER = 255, ANY_GCP = 0, OK = 0, NO = 1, ROOM = 8192;
+    private static final int PURE = 2, CANON = 6, ANY_FILTER = 255, ANY_GCP = 0, OK = 0, NO = 1, ROOM = 8192, CHOICE = 16;
     private static final byte[] NONE = new byte[1];
 
     static {
@@ -26,7 +28,8 @@ public final class Library implements AutoCloseable {
 
     Library(int from, int to) {
         handle.clear();
-        byte[] choice = {(byte) from, (byte) to, (byte) ANY_FILTER, (byte) ANY_GCP, 0};
+        byte[] choice = ByteBuffer.allocate(CHOICE).order(ByteOrder.nativeOrder()).putLong(CHOICE).put((byte) from).put((byte) to)
+                .put((byte) ANY_FILTER).put((byte) ANY_GCP).putInt(0).array();
         byte[] stem = "https://id.gs1.org".getBytes(StandardCharsets.US_ASCII);
         int status = tdl_open(handle, choice, NONE, 0, stem, stem.length, NONE, 0, NONE, 0, out, ROOM, length);
         if (status != OK) throw new IllegalStateException("tdl_open: status " + status);
