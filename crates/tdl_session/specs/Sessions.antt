@@ -1,8 +1,6 @@
 -- What a session has.
-use Rattle.std.specs.Prelude.{ℕ, List, Option, Some}
-use Rattle.std.specs.Option.{IfSome}
-use Rattle.gs_class.specs.Sets.{ClassRows, IsOfTable}
-use Rattle.gs_tables.specs.Tables.{TableRows}
+use Rattle.std.specs.Prelude.{Option, Some}
+use Rattle.gs_class.specs.Sets.{ClassRows}
 use Rattle.gs_translate.specs.Translations.{Translating}
 
 -- trusted, own: the data of a session: those by which texts are translated, and the classes, if they are loaded

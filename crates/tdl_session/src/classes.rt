@@ -20,11 +20,7 @@ fn classes_of(alloc: Global, ais: &AiTable, bytes: &[u8]) -> Result<ClassSet, Cl
 }
 
 /// Returns the classes, or why they are rejected.
-pub(crate) fn load_classes(
-    alloc: Global,
-    ais: &AiTable,
-    bytes: &[u8],
-) -> Result<ClassSet, Unopened>
+pub(crate) fn load_classes(alloc: Global, ais: &AiTable, bytes: &[u8]) -> Result<ClassSet, Unopened>
     ensures ok { IfOk result (λ set. ClassesGive ais.now bytes.now (Ok set)) }
     ensures of_table { IfOk result (IsOfTable ais.now) }
     ensures rejected { IfErr result (AreClassesRejected ais.now bytes.now) }

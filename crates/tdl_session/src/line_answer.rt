@@ -19,11 +19,11 @@ fn words(line: &[u8]) -> &[u8]
 }
 
 /// Puts the text or the reason of an answer line into the buffer.
-fn put_line(is_rejected: bool, line: &[u8], out: &mut [u8], len: &mut usize) -> u32
-    ensures { (answer : LineAnswer) → line.now ≡ printed answer → is_rejected ≡ is_rejected answer
+fn put_line(is_no: bool, line: &[u8], out: &mut [u8], len: &mut usize) -> u32
+    ensures { (answer : LineAnswer) → line.now ≡ printed answer → is_no ≡ is_rejected answer
         → IsAnswerPut answer out.old out.new len.new result }
 {
-    put_bytes(if is_rejected { NO } else { OK }, words(line), out, len)
+    put_bytes(if is_no { NO } else { OK }, words(line), out, len)
 }
 
 /// Puts an answer to a text into the buffer: its text or its reason.
@@ -38,7 +38,7 @@ pub(crate) fn put_answer_of<A: Answerer>(
 {
     let mut line = Vec::new(alloc);
     match answerer.append_answer(alloc, text, &mut line) {
-        Ok(is_rejected) => put_line(is_rejected, line.as_slice(), out, len),
+        Ok(is_no) => put_line(is_no, line.as_slice(), out, len),
         Err(_) => nothing(MEMORY, len),
     }
 }

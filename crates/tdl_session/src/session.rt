@@ -24,9 +24,7 @@ use gs_translate::{Form, Options, Reason, Target, Translator, reason_text};
 use std::alloc::Global;
 use std::marker::Model;
 use std::sync::Arc;
-use tdl_answers::{
-    ClassCanonLines, ClassUriLines, DumpReadLines, DumpWriteLines, answer_lines,
-};
+use tdl_answers::{ClassCanonLines, ClassUriLines, DumpReadLines, DumpWriteLines, answer_lines};
 
 /// The most bytes that are read or written at once.
 const PIECE: usize = 65_536;
@@ -78,7 +76,7 @@ impl Model for Session {
     } };
 
     ghost invariant = { λ s. AreInOrder s.options
-      × IfSome (arc_value s.classes) (IsOfTable (arc_value s.loads).set.ais) };
+        × IfSome (arc_value s.classes) (IsOfTable (arc_value s.loads).set.ais) };
 }
 
 impl Session {
@@ -230,8 +228,12 @@ impl Session {
         let classes: &Option<ClassSet> = &self.classes;
         match classes {
             Some(set) => {
-                let answerer =
-                    ClassUriLines::new(&loads.set, &loads.prefixes, set, self.options.gcp);
+                let answerer = ClassUriLines::new(
+                    &loads.set,
+                    &loads.prefixes,
+                    set,
+                    self.options.gcp,
+                );
                 put_answer_of(alloc, &answerer, text, out, len)
             }
             None => nothing(CLASSES, len),
