@@ -7,19 +7,20 @@ import ctypes
 import re
 import shutil
 from pathlib import Path
-from typing import Any, Optional
+from typing import Any
 
 import pytest
 
 from tools import cases, interface, library
-from tools.common import PATIENCE, ran
+from tools.common import PATIENCE, Word, ran
 from tools.repository import TOP, VERSION
 
 OK, NO, SMALL, MEMORY, ARGUMENT, TABLES, PREFIXES, SHUT, CLASSES = range(9)
 FORMS = {"hex": 0, "tag": 1, "pure": 2, "raw": 3, "bracketed": 4, "link": 5, "canon": 6}
 ROOM, STEM, LEAST_STACK = 8192, b"https://id.gs1.org", 256 * 1024
 PURE, LINK = b"urn:epc:id:sgtin:0614141.812345.6789", b"https://id.gs1.org/01/80614141123458/21/6789"
-EXAMPLES = TOP / "examples" / "library"
+EXAMPLES, JAVA = TOP / "examples" / "library", TOP / "examples" / "embedding" / "Library.java"
+JNA = "/usr/share/java/jna.jar"
 # what each example is asked, and what it prints: an identity, an empty text, rejections with their reasons, and more texts than threads
 ASKED = [PURE.decode(), "", "urn:epc:id:sgtin:x", "urn:epc:id:sscc:0614141.1234567890", "\u00e4", *[PURE.decode()] * 9]
 ANSWERED = [f"ok {LINK.decode()}", "no reading", "no reading", "ok https://id.gs1.org/00/106141412345678908", "no reading", *[f"ok {LINK.decode()}"] * 9]
@@ -70,7 +71,7 @@ class Session:
 
     def said(self) -> bytes:
         """What the last call has put into the buffer."""
-        return self.out.raw[: self.length.value]
+        return bytes(self.out.raw[: self.length.value])
 
     def close(self) -> None:
         """Closes the session."""
@@ -88,7 +89,7 @@ def option(case: dict[str, Any], name: str) -> bytes:
     if name not in words:
         return b""
     file = words[words.index(name) + 1]
-    return (TOP / case["lent"][file]).read_bytes() if file in case.get("lent", {}) else cases.content_of(case["files"][file])
+    return (TOP / str(case["lent"][file])).read_bytes() if file in case.get("lent", {}) else cases.content_of(case["files"][file])
 
 
 def answered(session: Session, call: str, lines: bytes) -> bytes:
@@ -137,6 +138,33 @@ def test_version(libtdl: Path) -> None:
     assert ctypes.CDLL(str(libtdl / library.SONAME)).tdl_version_number() == number
 
 
+def test_numbers() -> None:
+    """The numbers of forms and statuses stay as they are: programs have them compiled in."""
+    text = re.sub(r"/\*.*?\*/", "", library.HEADER.read_text("ascii"), flags=re.DOTALL)
+    forms, statuses = (re.findall(r"TDL_(\w+)", body) for body in re.findall(r"^enum \{(.*?)\};", text, re.MULTILINE | re.DOTALL))
+    assert forms == [name.upper() for name in FORMS]
+    assert statuses == ["OK", "NO", "SMALL", "MEMORY", "ARGUMENT", "TABLES", "PREFIXES", "SHUT", "CLASSES"]
+
+
+@pytest.mark.needs("cc", "mandoc")
+def test_page(libtdl: Path, tmp_path: Path) -> None:
+    """The manual page has the functions of the header, and an example that prints a link; mandoc finds nothing, and no line is too long."""
+    page = TOP / "packaging" / "man" / "tdl.3"
+    text, header = page.read_text("ascii"), library.HEADER.read_text("ascii")
+    named = re.findall(r"^\w+ (tdl_\w+)\(", header, re.MULTILINE)
+    assert sorted(re.findall(r"^\.F[on] (tdl_\w+)", text.partition(".Sh DESCRIPTION")[0], re.MULTILINE)) == sorted(named)
+    assert set(re.findall(r"TDL_\w+", header)) - set(re.findall(r"TDL_\w+", text)) == {"TDL_H", "TDL_VERSION_NUMBER"}
+    found = ran("mandoc", "-T", "lint", page)
+    assert not [line for line in found.splitlines() if "mandoc" in line and "referenced manual not found" not in line]
+    assert max(map(len, text.splitlines())) <= 80
+    source = re.search(r"^\.Bd -literal -offset indent\n(.*?)^\.Ed", text, re.MULTILINE | re.DOTALL)
+    assert source
+    (tmp_path / "tag.c").write_text(source[1].replace(r"\e", "\\"), "ascii")
+    words: list[Word] = ["cc", "-Wall", "-Werror", "-I", library.HEADER.parent, "-o", tmp_path / "tag", tmp_path / "tag.c", libtdl / library.ARCHIVE]
+    assert ran(*words, timeout=PATIENCE) == ""
+    assert ran(tmp_path / "tag") == f"{LINK.decode()}\n"
+
+
 @pytest.mark.parametrize("size", [0, 9, 10, 11, 12, 15, 16, 17, 24, 2**63, 2**64 - 1])
 def test_sizes(libtdl: Path, size: int) -> None:
     """Of a choice those options count that end within its size; a size that is too small or too large is rejected."""
@@ -177,7 +205,8 @@ def test_no_classes(libtdl: Path, call: str) -> None:
 def test_stack(libtdl: Path, tmp_path: Path) -> None:
     """All calls fit in the stack that tdl.h names, the system's part of a thread included."""
     source = next(path for path in (TOP / "tests" / "library.c", TOP / "checks" / "library.c") if path.is_file())
-    words = ["cc", "-std=c11", "-D_GNU_SOURCE", "-O1", "-I", library.HEADER.parent, "-o", tmp_path / "library", source, libtdl / library.ARCHIVE, "-lpthread"]
+    words: list[Word] = ["cc", "-std=c11", "-D_GNU_SOURCE", "-O1", "-I", library.HEADER.parent, "-o", tmp_path / "library", source]
+    words += [libtdl / library.ARCHIVE, "-lpthread"]
     assert ran(*words, timeout=PATIENCE) == ""
     assert ran(tmp_path / "library", "stack", LEAST_STACK, timeout=PATIENCE) == ""
     assert f"{LEAST_STACK // 1024} KiB of stack" in library.HEADER.read_text("ascii")
@@ -185,7 +214,7 @@ def test_stack(libtdl: Path, tmp_path: Path) -> None:
 
 @pytest.mark.needs("cc", "abidiff")
 def test_binary_interface(tmp_path: Path) -> None:
-    """A program that is compiled by the kept description of the interface runs with the header as it stands; --write of tools/interface keeps it."""
+    """A program that was compiled by the kept description of the interface runs with the library of the header as it stands."""
     described = interface.described(tmp_path)
     assert interface.broken(described) == ""
     assert described == interface.DESCRIPTION.read_text("utf-8"), "the interface has more than its description: python3 -m tools.interface --write"
@@ -214,19 +243,12 @@ def test_symbols(libtdl: Path) -> None:
     assert named <= defined and not [name for name in defined - named if not name.startswith(("rattle", "tdl_"))]
 
 
-def build(name: str, folder: Path, flags: list[str]) -> Optional[list[str]]:
-    """Builds an example as its first lines say, and returns the command that runs it, or nothing if that fails."""
-    for path in EXAMPLES.iterdir():
-        shutil.copy(path, folder)
-    built = {
-        "library.cpp": ["g++", "-std=c++17", "-Wall", "-Wextra", "-Werror", "-o", "a.out", name, *flags, "-pthread"],
-        "library.go": ["go", "build", "-o", "a.out", name],
-        "library.rs": ["rustc", "--edition", "2021", "-O", "-o", "a.out", name, *flags[1:]],
-        "Library.cs": ["mcs", "-warnaserror", "-out:a.exe", name],
-        "library.js": ["gcc", "-shared", "-fPIC", "-Wall", "-Werror", "-I/usr/include/node", "-o", "tdl.node", "node.c", *flags],
-    }[name]
-    assert ran(*built, cwd=folder, env=interface.environment(folder), timeout=PATIENCE) == ""
-    return {"Library.cs": ["mono", "a.exe"], "library.js": ["node", name]}.get(name, [str(folder / "a.out")])
+def as_documented(name: str) -> tuple[str, str]:
+    """The commands of docs/EMBEDDING.md that build and run an example."""
+    rows = [line.split(" | ") for line in (TOP / "docs" / "EMBEDDING.md").read_text("utf-8").splitlines() if f"/{name} |" in line]
+    (row,) = rows
+    built, run = (cell.strip("`| ") for cell in row[2:])
+    return built, run
 
 
 @pytest.mark.parametrize(
@@ -236,6 +258,7 @@ def build(name: str, folder: Path, flags: list[str]) -> Optional[list[str]]:
         pytest.param("library.go", marks=pytest.mark.needs("go", "cc", "pkg-config")),
         pytest.param("library.rs", marks=pytest.mark.needs("rustc", "cc", "pkg-config")),
         pytest.param("Library.cs", marks=pytest.mark.needs("mcs", "mono")),
+        pytest.param("Library.java", marks=pytest.mark.needs("javac", JNA)),
         pytest.param("library.js", marks=pytest.mark.needs("node", "/usr/include/node/node_api.h", "cc", "pkg-config")),
     ],
 )
@@ -244,7 +267,9 @@ def test_example(libtdl: Path, tmp_path: Path, name: str) -> None:
     (tmp_path / "tdl.h").symlink_to(library.HEADER)
     for to in ("libtdl.so", library.SONAME):
         (tmp_path / to).symlink_to(libtdl / library.SONAME)
-    command = build(name, tmp_path, interface.flags(tmp_path, is_static=False))
-    assert command
-    got = ran(*command, *ASKED, cwd=tmp_path, env=interface.environment(tmp_path), timeout=PATIENCE)
-    assert got.splitlines() == ANSWERED
+    for path in [*EXAMPLES.iterdir(), JAVA]:
+        shutil.copy(path, tmp_path)
+    built, run = as_documented(name)
+    how: dict[str, Any] = {"cwd": tmp_path, "env": interface.environment(tmp_path), "timeout": PATIENCE}
+    assert ran("sh", "-c", built, **how) == ""
+    assert ran("sh", "-c", run.replace("TEXT..", '"$@"'), "sh", *ASKED, **how).splitlines() == ANSWERED

@@ -28,7 +28,8 @@ def described(folder: Path) -> str:
     """The description of the header's interface, by `abidw`. Raises `ValueError` with what a tool says if it fails."""
     source, made = folder / "stub.c", folder / library.SONAME
     source.write_text(stub(), "ascii")
-    words: list[Word] = ["cc", "-g", "-shared", "-fPIC", "-w", f"-ffile-prefix-map={folder}=.", f"-Wl,-soname,{library.SONAME}", f"-Wl,--version-script,{library.MAP}"]
+    linked = f"-Wl,-soname,{library.SONAME},--version-script,{library.MAP}"
+    words: list[Word] = ["cc", "-g", "-shared", "-fPIC", "-w", f"-ffile-prefix-map={folder}=.", linked]
     told = ran(*words, "-I", library.HEADER.parent, "-o", made, source)
     if told:
         raise ValueError(told)
