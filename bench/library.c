@@ -46,7 +46,7 @@ static void measure(const char *name, tdl_choice choice, const char *text, size_
 
 int main(int count, char **words) {
     size_t texts = count > 1 ? strtoul(words[1], NULL, 10) : 200000;
-    measure("hex to link", (tdl_choice){ TDL_HEX, TDL_LINK, TDL_ANY_FILTER, TDL_ANY_GCP, 0 }, "3074257BF7194E4000001A85", texts);
-    measure("link to hex", (tdl_choice){ TDL_LINK, TDL_HEX, 3, 7, 0 }, "https://id.gs1.org/01/80614141123458/21/6789", texts);
+    measure("hex to link", (tdl_choice){ sizeof(tdl_choice), TDL_HEX, TDL_LINK, TDL_ANY_FILTER, TDL_ANY_GCP, 0 }, "3074257BF7194E4000001A85", texts);
+    measure("link to hex", (tdl_choice){ sizeof(tdl_choice), TDL_LINK, TDL_HEX, 3, 7, 0 }, "https://id.gs1.org/01/80614141123458/21/6789", texts);
     return 0;
 }

@@ -5,6 +5,7 @@
    calls: calls with buffers of each length around the answer's, handles without a session, numbers out of range, and bytes of all kinds.
    faults STEP: denies each STEPth request for memory in turn (linked with --wrap=malloc, --wrap=realloc).
    threads: eight threads with a handle each, then with handles over the same tables, then with one behind a lock.
+   stack BYTES: makes the calls in a thread with so much stack.
    churn COUNT FILE: opens and closes COUNT sessions of the tables of a file (`-`: the built-in ones); the bytes that are held have to be
      the same after the first and the last. (Blocks that glibc keeps for each thread count as held, so it is told to keep none.)
 
@@ -70,7 +71,7 @@ static uint32_t open_by(tdl_handle *handle, tdl_choice choice, bytes encoding, b
 }
 
 static uint32_t open_plain(tdl_handle *handle, int from, int to) {
-    tdl_choice choice = { (uint8_t)from, (uint8_t)to, TDL_ANY_FILTER, TDL_ANY_GCP, 0 };
+    tdl_choice choice = { sizeof choice, (uint8_t)from, (uint8_t)to, TDL_ANY_FILTER, TDL_ANY_GCP, 0 };
     uint8_t out[1];
     size_t len;
     return tdl_open(handle, &choice, TDL_NONE, TDL_STEM, TDL_NONE, TDL_NONE, out, 0, &len);
@@ -117,7 +118,7 @@ static void answer_all(tdl_handle *handle, bytes lines) {
 }
 
 static void answers(char **words) {
-    tdl_choice choice = { (uint8_t)atoi(words[1]), (uint8_t)atoi(words[2]), (uint8_t)atoi(words[3]), (uint8_t)atoi(words[4]), (uint8_t)atoi(words[5]) };
+    tdl_choice choice = { sizeof choice, (uint8_t)atoi(words[1]), (uint8_t)atoi(words[2]), (uint8_t)atoi(words[3]), (uint8_t)atoi(words[4]), (uint32_t)atoi(words[5]) };
     bytes given[] = { text(words[6]), text(words[7]), file(words[8]), file(words[9]), block(TDL_ROOM), whole(stdin) };
     tdl_handle handle = TDL_CLOSED;
     size_t len = 0;
@@ -180,7 +181,7 @@ static void try_line_lengths(tdl_handle *handle) {
 
 static void try_shut(void) {
     tdl_handle handle = TDL_CLOSED;
-    tdl_choice choice = { TDL_HEX, TDL_LINK, TDL_ANY_FILTER, TDL_ANY_GCP, 0 };
+    tdl_choice choice = { sizeof choice, TDL_HEX, TDL_LINK, TDL_ANY_FILTER, TDL_ANY_GCP, 0 };
     bytes asked = text(HEX), out = block(64);
     memset(out.at, 0xA5, 64);
     for (int again = 0; again < 2; again++) {
@@ -207,19 +208,22 @@ static void try_numbers(tdl_handle *handle) {
     for (int place = 0; place < 5; place++) {
         const int least[] = { 6, 7, 8, 13, 2 };
         for (int number = least[place]; number < 256; number += number < 20 || number > 250 ? 1 : 50) {
-            tdl_choice choice = { TDL_HEX, TDL_LINK, TDL_ANY_FILTER, TDL_ANY_GCP, 0 };
-            uint8_t *numbers[] = { &choice.from, &choice.to, &choice.filter, &choice.gcp, &choice.keys_only };
+            tdl_choice choice = { sizeof choice, TDL_HEX, TDL_LINK, TDL_ANY_FILTER, TDL_ANY_GCP, 0 };
+            uint8_t *numbers[] = { &choice.from, &choice.to, &choice.filter, &choice.gcp };
             size_t len = 1;
             if (place == 2 && number == TDL_ANY_FILTER)
                 continue;
-            *numbers[place] = (uint8_t)number;
+            if (place < 4)
+                *numbers[place] = (uint8_t)number;
+            else
+                choice.flags = (uint32_t)number;
             CHECK(tdl_open(handle, &choice, TDL_NONE, TDL_STEM, TDL_NONE, TDL_NONE, out.at, 256, &len) == TDL_ARGUMENT && len == 0);
             CHECK(tdl_retarget(handle, &choice, TDL_NONE, TDL_STEM) == TDL_ARGUMENT);
         }
     }
     const char *stems[] = { "", "x", "ftp://id.gs1.org", "https://", "https://a.example/", "https://a?b", "https://a#b", "https://\x01" };
     for (size_t n = 0; n < sizeof stems / sizeof *stems; n++) {
-        tdl_choice choice = { TDL_HEX, TDL_LINK, TDL_ANY_FILTER, TDL_ANY_GCP, 0 };
+        tdl_choice choice = { sizeof choice, TDL_HEX, TDL_LINK, TDL_ANY_FILTER, TDL_ANY_GCP, 0 };
         bytes stem = text(stems[n]);
         size_t len = 1;
         CHECK(tdl_open(handle, &choice, TDL_NONE, stem.at, stem.length, TDL_NONE, TDL_NONE, out.at, 256, &len) == TDL_ARGUMENT && len == 0);
@@ -237,7 +241,7 @@ static void try_documents(tdl_handle *handle) {
     const char *documents[] = { "{}", "{", "\xff", "[]", "{\"version\":2}" };
     for (size_t n = 0; n < sizeof documents / sizeof *documents; n++)
         for (int is_prefixes = 0; is_prefixes < 2; is_prefixes++) {
-            tdl_choice choice = { TDL_HEX, TDL_LINK, TDL_ANY_FILTER, TDL_ANY_GCP, 0 };
+            tdl_choice choice = { sizeof choice, TDL_HEX, TDL_LINK, TDL_ANY_FILTER, TDL_ANY_GCP, 0 };
             bytes none = block(0), document = text(documents[n]), stem = text("https://id.gs1.org");
             size_t all = 200;
             for (size_t room = 0; room < all + 3; room++) {
@@ -258,7 +262,7 @@ static void try_documents(tdl_handle *handle) {
 }
 
 static void try_retarget(tdl_handle *handle) {
-    tdl_choice back = { TDL_LINK, TDL_HEX, 3, 7, 0 }, forth = { TDL_HEX, TDL_LINK, TDL_ANY_FILTER, TDL_ANY_GCP, 0 };
+    tdl_choice back = { sizeof back, TDL_LINK, TDL_HEX, 3, 7, 0 }, forth = { sizeof forth, TDL_HEX, TDL_LINK, TDL_ANY_FILTER, TDL_ANY_GCP, 0 };
     bytes hex = text(HEX), link = text(LINK), out = block(256);
     size_t len = 0;
     for (int again = 0; again < 3; again++) {
@@ -274,7 +278,7 @@ static void try_retarget(tdl_handle *handle) {
 }
 
 static void try_share(tdl_handle *handle) {
-    tdl_choice back = { TDL_LINK, TDL_HEX, 3, 7, 0 }, wrong = { 9, 9, 9, 99, 9 };
+    tdl_choice back = { sizeof back, TDL_LINK, TDL_HEX, 3, 7, 0 }, wrong = { sizeof wrong, 9, 9, 9, 99, 9 };
     bytes hex = text(HEX), link = text(LINK), out = block(256);
     tdl_handle none = TDL_CLOSED, others[3] = { TDL_CLOSED, TDL_CLOSED, TDL_CLOSED };
     size_t len = 0;
@@ -294,6 +298,113 @@ static void try_share(tdl_handle *handle) {
     }
     free(hex.at);
     free(link.at);
+    free(out.at);
+}
+
+/* Choices of each size: those options count that end within it. */
+static void try_sizes(void) {
+    tdl_handle handle = TDL_CLOSED;
+    bytes link = text(LINK), out = block(256);
+    for (size_t size = 0; size < 40; size++) {
+        tdl_choice choice = { size, TDL_LINK, TDL_HEX, 3, 7, TDL_KEYS_ONLY };
+        size_t len = 1;
+        uint32_t status = tdl_open(&handle, &choice, NULL, 0, TDL_STEM, NULL, 0, NULL, 0, NULL, 0, &len);
+        CHECK(status == (size < 10 || size > sizeof choice ? TDL_ARGUMENT : TDL_OK) && len == 0);
+        if (status != TDL_OK)
+            continue;
+        status = ask(&handle, link, out, &len);
+        CHECK(status == (size < 12 ? TDL_NO : TDL_OK));
+        const char *wanted = size < 12 ? "missing gcp" : HEX;
+        CHECK(len == strlen(wanted) && !memcmp(out.at, wanted, len));
+    }
+    tdl_close(&handle);
+    free(link.at);
+    free(out.at);
+}
+
+/* Null pointers of length 0. */
+static void try_nulls(void) {
+    tdl_handle handle = TDL_CLOSED, other = TDL_CLOSED;
+    tdl_choice choice = { sizeof choice, TDL_PURE, TDL_CANON, TDL_ANY_FILTER, TDL_ANY_GCP, 0 };
+    uint8_t out[TDL_ROOM];
+    size_t len = 1;
+    CHECK(tdl_open(&handle, &choice, NULL, 0, NULL, 0, NULL, 0, NULL, 0, NULL, 0, &len) == TDL_ARGUMENT && len == 0);
+    CHECK(tdl_open(&handle, &choice, NULL, 0, TDL_STEM, (const uint8_t *)"{}", 2, NULL, 0, NULL, 0, &len) == TDL_TABLES && len > 0);
+    CHECK(tdl_open(&handle, &choice, NULL, 0, TDL_STEM, NULL, 0, NULL, 0, NULL, 0, &len) == TDL_OK && len == 0);
+    CHECK(tdl_retarget(&handle, &choice, NULL, 0, NULL, 0) == TDL_ARGUMENT);
+    CHECK(tdl_retarget(&handle, &choice, NULL, 0, TDL_STEM) == TDL_OK);
+    CHECK(tdl_share(&other, &handle, &choice, NULL, 0, NULL, 0) == TDL_ARGUMENT);
+    CHECK(tdl_share(&other, &handle, &choice, NULL, 0, TDL_STEM) == TDL_OK);
+    CHECK(tdl_load_classes(&handle, NULL, 0, NULL, 0, &len) == TDL_OK && len == 0);
+    uint32_t (*const asked[])(tdl_handle *, const uint8_t *, size_t, uint8_t *, size_t, size_t *) = {
+        tdl_translate, tdl_class_canon, tdl_class_uri, tdl_dump_read, tdl_dump_write };
+    for (size_t n = 0; n < sizeof asked / sizeof *asked; n++) {
+        CHECK(asked[n](&handle, NULL, 0, NULL, 0, &len) == TDL_SMALL && len > 0);
+        size_t room = len;
+        CHECK(asked[n](&handle, NULL, 0, out, sizeof out, &len) == TDL_NO && len == room);
+    }
+    CHECK(tdl_translate_lines(&handle, NULL, 0, NULL, 0, &len) == TDL_OK && len == 0);
+    CHECK(tdl_translate_lines(&handle, (const uint8_t *)"x", 1, NULL, 0, &len) == TDL_SMALL && len > 0);
+    tdl_close(&other);
+    tdl_close(&handle);
+}
+
+/* An answer by buffers of each length around its own. */
+static void try_answer(uint32_t (*asks)(tdl_handle *, const uint8_t *, size_t, uint8_t *, size_t, size_t *), tdl_handle *handle, const char *given,
+                       uint32_t wanted, const char *answer) {
+    bytes asked = text(given);
+    size_t all = strlen(answer);
+    for (size_t room = all > 3 ? all - 3 : 0; room < all + 3; room++) {
+        bytes out = block(room);
+        memset(out.at, 0xA5, room);
+        size_t len = 0;
+        CHECK(asks(handle, asked.at, asked.length, out.at, room, &len) == (room < all ? TDL_SMALL : wanted) && len == all);
+        CHECK(room < all || !memcmp(out.at, answer, all));
+        for (size_t at = room < all ? 0 : all; at < room; at++)
+            CHECK(out.at[at] == 0xA5);
+        free(out.at);
+    }
+    free(asked.at);
+}
+
+/* Classes and dumps: before and after classes are loaded, through a share and a change of forms, and documents that are rejected. */
+static void try_classes(void) {
+    static const char URI[] = "urn:epc:class:lgtin:0614141.812345.A", CLASS[] = "https://id.gs1.org/01/80614141123458/10/A";
+    static const char DUMP[] = "30003074257BF7194E4000001A85", SHOWN[] = "u0 a00 urn:epc:tag:sgtin-96:3.0614141.812345.6789";
+    tdl_handle handle = TDL_CLOSED, other = TDL_CLOSED;
+    tdl_choice choice = { sizeof choice, TDL_LINK, TDL_HEX, 3, 7, 0 };
+    bytes out = block(256);
+    size_t len = 1;
+    CHECK(tdl_load_classes(&handle, NULL, 0, out.at, out.length, &len) == TDL_SHUT && len == 0);
+    CHECK(open_plain(&handle, TDL_LINK, TDL_CANON) == TDL_OK);
+    len = 1;
+    CHECK(tdl_class_canon(&handle, (const uint8_t *)URI, strlen(URI), out.at, out.length, &len) == TDL_CLASSES && len == 0);
+    len = 1;
+    CHECK(tdl_class_uri(&handle, (const uint8_t *)CLASS, strlen(CLASS), out.at, out.length, &len) == TDL_CLASSES && len == 0);
+    try_answer(tdl_dump_read, &handle, "30", TDL_NO, "word");
+    for (int again = 0; again < 2; again++) {
+        CHECK(tdl_load_classes(&handle, NULL, 0, out.at, out.length, &len) == TDL_OK && len == 0);
+        CHECK(tdl_load_classes(&handle, (const uint8_t *)"{\"version\":2,\"classes\":[]}", 26, out.at, out.length, &len) == TDL_CLASSES);
+        CHECK(len == 7 && !memcmp(out.at, "version", 7));
+        try_answer(tdl_class_canon, &handle, URI, TDL_OK, CLASS);
+        try_answer(tdl_class_uri, &handle, CLASS, TDL_NO, "missing gcp");
+        CHECK(tdl_share(&other, &handle, &choice, NULL, 0, TDL_STEM) == TDL_OK);
+        try_answer(tdl_class_uri, &other, CLASS, TDL_OK, URI);
+        CHECK(tdl_retarget(&handle, &choice, NULL, 0, TDL_STEM) == TDL_OK);
+        try_answer(tdl_class_uri, &handle, CLASS, TDL_OK, URI);
+        CHECK(open_plain(&handle, TDL_LINK, TDL_CANON) == TDL_OK);
+        CHECK(tdl_class_canon(&handle, (const uint8_t *)URI, strlen(URI), out.at, out.length, &len) == TDL_CLASSES);
+        try_answer(tdl_class_canon, &other, URI, TDL_OK, CLASS);
+    }
+    CHECK(tdl_load_classes(&other, (const uint8_t *)"{\"version\":1,\"classes\":[]}", 26, out.at, out.length, &len) == TDL_OK);
+    try_answer(tdl_class_canon, &other, URI, TDL_NO, "reading");
+    try_answer(tdl_class_uri, &other, CLASS, TDL_NO, "class");
+    try_answer(tdl_dump_read, &other, DUMP, TDL_OK, SHOWN);
+    try_answer(tdl_dump_write, &other, SHOWN, TDL_OK, DUMP);
+    try_answer(tdl_dump_write, &other, DUMP, TDL_NO, "line");
+    tdl_close(&other);
+    CHECK(tdl_class_canon(&other, (const uint8_t *)URI, strlen(URI), out.at, out.length, &len) == TDL_SHUT && len == 0);
+    tdl_close(&handle);
     free(out.at);
 }
 
@@ -325,7 +436,7 @@ static void try_bytes(void) {
 
 static void calls(void) {
     tdl_handle handle = TDL_CLOSED;
-    CHECK(tdl_version() >= 10000);
+    CHECK(tdl_version_number() == TDL_VERSION_NUMBER);
     try_shut();
     CHECK(open_plain(&handle, TDL_HEX, TDL_LINK) == TDL_OK);
     try_lengths(&handle, HEX, TDL_OK);
@@ -337,6 +448,9 @@ static void calls(void) {
     try_lengths(&handle, HEX, TDL_OK);
     try_retarget(&handle);
     try_share(&handle);
+    try_sizes();
+    try_nulls();
+    try_classes();
     CHECK(open_plain(&handle, TDL_LINK, TDL_CANON) == TDL_OK);
     try_lengths(&handle, "https://shop.example/01/80614141123458/21/%25%26?17=261231", TDL_OK);
     try_bytes();
@@ -363,27 +477,43 @@ static size_t answer_len;
 static uint8_t answer_out[256];
 
 static uint32_t call_open(void) {
-    tdl_choice choice = { TDL_LINK, TDL_HEX, 3, 7, 0 };
+    tdl_choice choice = { sizeof choice, TDL_LINK, TDL_HEX, 3, 7, 0 };
     return tdl_open(&faulted, &choice, TDL_NONE, TDL_STEM, given_tables.at, given_tables.length, given_prefixes.at, given_prefixes.length,
                     answer_out, sizeof answer_out, &answer_len);
 }
 
 static uint32_t call_rejected(void) {
-    tdl_choice choice = { TDL_LINK, TDL_HEX, 3, 7, 0 };
+    tdl_choice choice = { sizeof choice, TDL_LINK, TDL_HEX, 3, 7, 0 };
     return tdl_open(&faulted, &choice, TDL_NONE, TDL_STEM, (const uint8_t *)"{\"version\":2}", 13, TDL_NONE, answer_out, sizeof answer_out, &answer_len);
 }
 
 static uint32_t call_retarget(void) {
-    tdl_choice choice = { TDL_LINK, TDL_HEX, 3, 7, 0 };
+    tdl_choice choice = { sizeof choice, TDL_LINK, TDL_HEX, 3, 7, 0 };
     return tdl_retarget(&faulted, &choice, (const uint8_t *)"sgtin-96", 8, TDL_STEM);
 }
 
 static uint32_t call_share(void) {
-    tdl_choice choice = { TDL_HEX, TDL_LINK, TDL_ANY_FILTER, TDL_ANY_GCP, 0 };
+    tdl_choice choice = { sizeof choice, TDL_HEX, TDL_LINK, TDL_ANY_FILTER, TDL_ANY_GCP, 0 };
     tdl_handle other = TDL_CLOSED;
     uint32_t status = tdl_share(&other, &faulted, &choice, (const uint8_t *)"sgtin-96", 8, TDL_STEM);
     tdl_close(&other);
     return status;
+}
+
+static uint32_t call_classes(void) {
+    return tdl_load_classes(&faulted, NULL, 0, answer_out, sizeof answer_out, &answer_len);
+}
+
+static uint32_t call_class_canon(void) {
+    return tdl_class_canon(&faulted, (const uint8_t *)"urn:epc:class:lgtin:0614141.812345.A", 36, answer_out, sizeof answer_out, &answer_len);
+}
+
+static uint32_t call_class_uri(void) {
+    return tdl_class_uri(&faulted, (const uint8_t *)"https://id.gs1.org/01/80614141123458/10/A", 41, answer_out, sizeof answer_out, &answer_len);
+}
+
+static uint32_t call_dump_read(void) {
+    return tdl_dump_read(&faulted, (const uint8_t *)"30003074257BF7194E4000001A85", 28, answer_out, sizeof answer_out, &answer_len);
 }
 
 static uint32_t call_translate(void) {
@@ -426,6 +556,10 @@ static void faults(long step) {
     deny("tdl_translate_lines", call_lines, TDL_NO, 1);
     deny("tdl_retarget", call_retarget, TDL_OK, 1);
     deny("tdl_share", call_share, TDL_OK, 1);
+    deny("tdl_load_classes", call_classes, TDL_OK, 1);
+    deny("tdl_class_canon", call_class_canon, TDL_OK, 1);
+    deny("tdl_class_uri", call_class_uri, TDL_OK, 1);
+    deny("tdl_dump_read", call_dump_read, TDL_OK, 1);
     deny("tdl_open, rejected", call_rejected, TDL_TABLES, 1);
     deny("tdl_open", call_open, TDL_OK, step);
     tdl_close(&faulted);
@@ -462,7 +596,7 @@ static void *work(void *given) {
 }
 
 static void threads(void) {
-    tdl_choice choice = { TDL_HEX, TDL_LINK, TDL_ANY_FILTER, TDL_ANY_GCP, 0 };
+    tdl_choice choice = { sizeof choice, TDL_HEX, TDL_LINK, TDL_ANY_FILTER, TDL_ANY_GCP, 0 };
     CHECK(open_plain(&shared, TDL_HEX, TDL_LINK) == TDL_OK);
     for (how = OWN; how <= SHARED; how++) {
         pthread_t started[THREADS];
@@ -480,6 +614,22 @@ static void threads(void) {
     tdl_close(&shared);
 }
 
+/* stack BYTES */
+
+static void *call(void *given) {
+    (void)given;
+    calls();
+    return NULL;
+}
+
+static void stack(size_t size) {
+    pthread_attr_t of_thread;
+    pthread_t started;
+    CHECK(!pthread_attr_init(&of_thread) && !pthread_attr_setstacksize(&of_thread, size));
+    CHECK(!pthread_create(&started, &of_thread, call, NULL) && !pthread_join(started, NULL));
+    pthread_attr_destroy(&of_thread);
+}
+
 /* churn COUNT FILE */
 
 static size_t held(void) {
@@ -492,7 +642,7 @@ static size_t held(void) {
 }
 
 static void churn(long count, const char *name) {
-    tdl_choice choice = { TDL_HEX, TDL_LINK, TDL_ANY_FILTER, TDL_ANY_GCP, 0 };
+    tdl_choice choice = { sizeof choice, TDL_HEX, TDL_LINK, TDL_ANY_FILTER, TDL_ANY_GCP, 0 };
     bytes tables = file(name), none = block(0), stem = text("https://id.gs1.org"), out = block(256);
     size_t len, before = 0;
     for (long n = 0; n < count; n++) {
@@ -524,6 +674,8 @@ int main(int count, char **words) {
         faults(count > 2 ? atol(words[2]) : 1);
     else if (!strcmp(action, "threads"))
         threads();
+    else if (!strcmp(action, "stack") && count == 3)
+        stack(strtoul(words[2], NULL, 10));
     else if (!strcmp(action, "churn") && count == 4)
         churn(atol(words[2]), words[3]);
     else

@@ -78,14 +78,16 @@ static int grow(Session *self, size_t needed) {
 }
 
 static PyObject *session_new(PyTypeObject *type, PyObject *args, PyObject *named) {
-    tdl_choice choice;
+    tdl_choice choice = { .size = sizeof choice };
+    unsigned char keys_only;
     const char *encoding, *stem, *tables, *prefixes;
     Py_ssize_t encoding_len, stem_len, tables_len, prefixes_len;
     PyObject *bytes_of_text, *rejected, *refused;
     (void)named;
-    if (!PyArg_ParseTuple(args, "bbbbby#y#y#y#OOO:Session", &choice.from, &choice.to, &choice.filter, &choice.gcp, &choice.keys_only, &encoding,
+    if (!PyArg_ParseTuple(args, "bbbbby#y#y#y#OOO:Session", &choice.from, &choice.to, &choice.filter, &choice.gcp, &keys_only, &encoding,
                           &encoding_len, &stem, &stem_len, &tables, &tables_len, &prefixes, &prefixes_len, &bytes_of_text, &rejected, &refused))
         return NULL;
+    choice.flags = keys_only ? TDL_KEYS_ONLY : 0;
     allocfunc allocate = (allocfunc)PyType_GetSlot(type, Py_tp_alloc);
     Session *self = (Session *)allocate(type, 0);
     if (!self)
@@ -342,7 +344,7 @@ static int fill_module(PyObject *module) {
         Py_DECREF(type);
         return status;
     }
-    return PyModule_AddIntConstant(module, "VERSION", (long)tdl_version());
+    return PyModule_AddIntConstant(module, "VERSION", (long)tdl_version_number());
 }
 
 static PyModuleDef_Slot module_slots[] = { { Py_mod_exec, fill_module }, { 0, NULL } };

@@ -4,7 +4,7 @@
 #include <tdl.h>
 
 int main(int count, char **words) {
-    tdl_choice choice = { TDL_PURE, TDL_CANON, TDL_ANY_FILTER, TDL_ANY_GCP, 0 };
+    tdl_choice choice = { sizeof choice, TDL_PURE, TDL_CANON, TDL_ANY_FILTER, TDL_ANY_GCP, 0 };
     tdl_handle handle = TDL_CLOSED;
     uint8_t out[TDL_ROOM];
     size_t len;

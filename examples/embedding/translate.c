@@ -1,5 +1,7 @@
 /* translate TEXT..: the canonical links of pure identity URIs, by one run of tdl that is kept: $TDL, or tdl on the PATH.
-   All texts are sent at once, and read while they are written, so that no full pipe stops either side. */
+   All texts are sent at once, and read while they are written, so that no full pipe stops either side.
+   Build: gcc -O2 -o translate translate.c */
+#define _GNU_SOURCE 1
 #include <errno.h>
 #include <fcntl.h>
 #include <poll.h>

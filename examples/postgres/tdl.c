@@ -51,7 +51,7 @@ static uint8 number_of(const char *name, int32 given, int32 none, int32 least, i
 
 /* Returns the choice of a call: (value, source, target, filter, gcp, encoding, keys_only, stem, tables, prefixes), or (value, source). */
 static Choice choice_of(FunctionCallInfo fcinfo) {
-    Choice made = { { form_of("source", PG_GETARG_TEXT_PP(1), TDL_LINK), TDL_CANON, TDL_ANY_FILTER, TDL_ANY_GCP, 0 }, { NULL } };
+    Choice made = { { sizeof(tdl_choice), form_of("source", PG_GETARG_TEXT_PP(1), TDL_LINK), TDL_CANON, TDL_ANY_FILTER, TDL_ANY_GCP, 0 }, { NULL } };
     if (PG_NARGS() == 2) {
         made.names[0] = made.names[2] = made.names[3] = cstring_to_text("");
         made.names[1] = cstring_to_text("https://id.gs1.org");
@@ -60,7 +60,7 @@ static Choice choice_of(FunctionCallInfo fcinfo) {
     made.choice.to = form_of("target", PG_GETARG_TEXT_PP(2), TDL_CANON);
     made.choice.filter = number_of("filter", PG_GETARG_INT32(3), -1, 0, 7);
     made.choice.gcp = number_of("gcp", PG_GETARG_INT32(4), 0, 1, 12);
-    made.choice.keys_only = PG_GETARG_BOOL(6);
+    made.choice.flags = PG_GETARG_BOOL(6) ? TDL_KEYS_ONLY : 0;
     made.names[0] = PG_GETARG_TEXT_PP(5);
     for (int n = 1; n < NAMES; n++)
         made.names[n] = PG_GETARG_TEXT_PP(6 + n);

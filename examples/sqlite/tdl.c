@@ -67,8 +67,13 @@ static const char *read_option(sqlite3_value *name, sqlite3_value *value, Choice
         return number_of(value, 0, 7, &choice->choice.filter) ? NULL : "filter is a number from 0 to 7";
     if (!strcmp(word, "gcp"))
         return number_of(value, 1, 12, &choice->choice.gcp) ? NULL : "gcp is a number from 1 to 12";
-    if (!strcmp(word, "keys_only"))
-        return number_of(value, 0, 1, &choice->choice.keys_only) ? NULL : "keys_only is 0 or 1";
+    if (!strcmp(word, "keys_only")) {
+        uint8_t flag;
+        if (!number_of(value, 0, 1, &flag))
+            return "keys_only is 0 or 1";
+        choice->choice.flags = flag ? TDL_KEYS_ONLY : 0;
+        return NULL;
+    }
     if (!strcmp(word, "encoding"))
         return bytes_of(value, &choice->names[ENCODING]) ? NULL : "encoding is the name of a tag's encoding";
     if (!strcmp(word, "stem"))
@@ -81,7 +86,7 @@ static const char *read_option(sqlite3_value *name, sqlite3_value *value, Choice
 }
 
 static const char *read_choice(int count, sqlite3_value **given, sqlite3_value **value, Choice *choice) {
-    static const Choice plain = { { 0, TDL_CANON, TDL_ANY_FILTER, TDL_ANY_GCP, 0 }, { { TDL_NONE }, { TDL_STEM }, { TDL_NONE }, { TDL_NONE } } };
+    static const Choice plain = { { sizeof(tdl_choice), 0, TDL_CANON, TDL_ANY_FILTER, TDL_ANY_GCP, 0 }, { { TDL_NONE }, { TDL_STEM }, { TDL_NONE }, { TDL_NONE } } };
     *choice = plain;
     *value = given[count == 2 ? 1 : 2];
     if (!form_of(given[0], TDL_LINK, &choice->choice.from))

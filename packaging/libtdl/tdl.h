@@ -4,7 +4,7 @@
    ends the program, whatever bytes, lengths and numbers it gets. After TDL_MEMORY the handle is as it was, and works.
 
        tdl_handle handle = TDL_CLOSED;
-       tdl_choice choice = { TDL_HEX, TDL_LINK, TDL_ANY_FILTER, TDL_ANY_GCP, 0 };
+       tdl_choice choice = { sizeof choice, TDL_HEX, TDL_LINK, TDL_ANY_FILTER, TDL_ANY_GCP, 0 };
        uint8_t out[TDL_ROOM];
        size_t len;
 
@@ -15,11 +15,16 @@
 
    What the caller has to keep, since no call can test it:
 
-   - A pointer is not null, even if its length is 0, and leads to as many bytes as its length says. `len` and `handle` lead to one each.
-   - No two buffers of a call overlap, except that those that are only read may.
-   - A handle begins as TDL_CLOSED, is not copied, and is in one call at a time: each thread has its own, or a lock is held.
+   - A pointer leads to as many bytes as its length says. It may be null if its length is 0. `len`, `handle`, `other` and `choice` are not
+     null, and lead to one each.
+   - No two buffers of a call overlap, except that those that are only read may. `tdl_share(&h, &h, ..)` is forbidden: the handles are two.
+   - A handle begins as TDL_CLOSED, is not copied, and is in one call at a time: each thread has its own, or a lock is held. A closed
+     handle gives TDL_SHUT. No other library, and no other version of this one, gets the handle.
+   - A thread has 256 KiB of stack for a call.
    - The calls allocate by `malloc`, `realloc` and `free`, so none is made from a signal handler. In a forked child of a process with
-     threads only handles may be used that no other thread had in a call. */
+     threads only handles may be used that no other thread had in a call.
+
+   A program that is compiled by this header runs with each later libtdl.so.1. */
 #ifndef TDL_H
 #define TDL_H
 #include <stddef.h>
@@ -27,6 +32,9 @@
 #ifdef __cplusplus
 extern "C" {
 #endif
+
+/* The version of this header: 10000 * major + 100 * minor + patch. */
+#define TDL_VERSION_NUMBER 10000
 
 /* A session, or none. */
 typedef struct { void *at; } tdl_handle;
@@ -44,22 +52,26 @@ enum {
     TDL_ARGUMENT,  /* a number of the choice is out of range, or a link cannot have the stem */
     TDL_TABLES,    /* the table document is rejected: the buffer has the reason */
     TDL_PREFIXES,  /* the list of company prefix lengths is rejected: the buffer has the reason */
-    TDL_SHUT       /* the handle has no session */
+    TDL_SHUT,      /* the handle has no session */
+    TDL_CLASSES    /* the class document is rejected: the buffer has the reason; or the session has no classes */
 };
 
 #define TDL_ANY_FILTER 255
 #define TDL_ANY_GCP 0
+#define TDL_KEYS_ONLY 1
 
-/* The forms and options of a session. */
+/* The forms and options of a session. A later version may add options at the end: `size` tells which the caller knows. An option behind
+   `size` has its default, which is TDL_ANY_FILTER, TDL_ANY_GCP or 0. A size below 10 or above that of the library's gives TDL_ARGUMENT. */
 typedef struct {
-    uint8_t from;       /* TDL_HEX to TDL_LINK */
-    uint8_t to;         /* TDL_HEX to TDL_CANON */
-    uint8_t filter;     /* 0 to 7, or TDL_ANY_FILTER */
-    uint8_t gcp;        /* the length of the company prefix, 1 to 12, or TDL_ANY_GCP */
-    uint8_t keys_only;  /* 1: only keys and their serials are translated; otherwise 0 */
+    size_t size;     /* sizeof(tdl_choice) */
+    uint8_t from;    /* TDL_HEX to TDL_LINK */
+    uint8_t to;      /* TDL_HEX to TDL_CANON */
+    uint8_t filter;  /* 0 to 7, or TDL_ANY_FILTER */
+    uint8_t gcp;     /* the length of the company prefix, 1 to 12, or TDL_ANY_GCP */
+    uint32_t flags;  /* TDL_KEYS_ONLY: only keys and their serials are translated; otherwise 0 */
 } tdl_choice;
 
-/* Enough room for each answer and reason, so that TDL_SMALL does not come from tdl_translate. */
+/* Enough room for each answer and reason, so that TDL_SMALL does not come from a call for one text. */
 #define TDL_ROOM 8192
 
 /* No bytes, and the stem of links that GS1 has for all: pairs of a pointer and a length. */
@@ -82,16 +94,16 @@ uint32_t tdl_open(tdl_handle *handle, const tdl_choice *choice,
                   const uint8_t *prefixes, size_t prefixes_len,
                   uint8_t *out, size_t capacity, size_t *len);
 
-/* Gives the session other forms and options. Its tables and company prefix lengths stay, so it takes no load.
+/* Gives the session other forms and options. Its tables, company prefix lengths and classes stay, so it takes no load.
 
    Returns TDL_OK, TDL_ARGUMENT, TDL_MEMORY or TDL_SHUT; after another than TDL_OK the session is as it was. */
 uint32_t tdl_retarget(tdl_handle *handle, const tdl_choice *choice,
                       const uint8_t *encoding, size_t encoding_len,
                       const uint8_t *stem, size_t stem_len);
 
-/* Puts into a handle a session of other forms and options over the tables and company prefix lengths of another handle, which keeps its own. It
-   takes no load, and some hundred bytes; the tables go with the last session that has them. A session that the handle had is closed. Each
-   handle may then be used by a thread of its own, and be closed in any order.
+/* Puts into a handle a session of other forms and options over the tables, company prefix lengths and classes of another handle, which keeps
+   its own. It takes no load, and some hundred bytes; the tables go with the last session that has them. A session that the handle had is
+   closed. Each handle may then be used by a thread of its own, and be closed in any order. `handle` and `other` differ.
 
    Returns TDL_OK, TDL_ARGUMENT, TDL_MEMORY, or TDL_SHUT if the other handle has no session; after another than TDL_OK both are as they were. */
 uint32_t tdl_share(tdl_handle *handle, tdl_handle *other, const tdl_choice *choice,
@@ -112,11 +124,34 @@ uint32_t tdl_translate(tdl_handle *handle, const uint8_t *text, size_t text_len,
 uint32_t tdl_translate_lines(tdl_handle *handle, const uint8_t *lines, size_t lines_len,
                              uint8_t *out, size_t capacity, size_t *len);
 
+/* Gives the session the classes of a document, or the built-in ones if it is empty, in the place of those that it has. tdl_retarget keeps
+   them, and tdl_share passes them on.
+
+   Returns TDL_OK, TDL_CLASSES, TDL_MEMORY or TDL_SHUT; after another than TDL_OK the session is as it was. With TDL_CLASSES the buffer gets
+   the reason as tdl_open puts it. */
+uint32_t tdl_load_classes(tdl_handle *handle, const uint8_t *classes, size_t classes_len,
+                          uint8_t *out, size_t capacity, size_t *len);
+
+/* Answers a text as the command of its name does: `class canon` a class URI by its canonical link, `class uri` a link by its class URI,
+   `dump read` a dump of a tag's EPC memory bank by the line that shows it, and `dump write` such a line by the dump. The session's forms do
+   not matter. The buffer gets the answer (TDL_OK) or the reason why it has none (TDL_NO), and *len the length.
+
+   Returns TDL_OK, TDL_NO, TDL_SMALL, TDL_MEMORY or TDL_SHUT. The calls for classes return TDL_CLASSES, with 0 in *len, if the session has
+   none. */
+uint32_t tdl_class_canon(tdl_handle *handle, const uint8_t *text, size_t text_len,
+                         uint8_t *out, size_t capacity, size_t *len);
+uint32_t tdl_class_uri(tdl_handle *handle, const uint8_t *text, size_t text_len,
+                       uint8_t *out, size_t capacity, size_t *len);
+uint32_t tdl_dump_read(tdl_handle *handle, const uint8_t *text, size_t text_len,
+                       uint8_t *out, size_t capacity, size_t *len);
+uint32_t tdl_dump_write(tdl_handle *handle, const uint8_t *text, size_t text_len,
+                        uint8_t *out, size_t capacity, size_t *len);
+
 /* Closes the session of the handle, if it has one. */
 void tdl_close(tdl_handle *handle);
 
-/* Returns the version of the library: 10000 * major + 100 * minor + patch. */
-uint32_t tdl_version(void);
+/* Returns the version of the library, as TDL_VERSION_NUMBER is that of the header. */
+uint32_t tdl_version_number(void);
 
 #ifdef __cplusplus
 }

@@ -138,6 +138,7 @@ def library_contents(folder: Path, when: int) -> list[Files]:
         f"{LIBRARIES}/{library.ARCHIVE}": ((folder / library.ARCHIVE).read_bytes(), FILE_MODE),
         f"{LIBRARIES}/libtdl.so": (library.SONAME.encode(), LINK_MODE),
         f"{LIBRARIES}/pkgconfig/tdl.pc": (described.encode(), FILE_MODE),
+        "usr/share/man/man3/tdl.3.gz": (packed((HERE / "man" / "tdl.3").read_bytes()), FILE_MODE),
     }
     for name, files in zip(LIBRARY_PACKAGES, (shared, for_compilers)):
         files[f"usr/share/doc/{name}/copyright"] = ((HERE / "libtdl" / "copyright").read_bytes(), FILE_MODE)

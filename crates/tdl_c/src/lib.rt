@@ -3,7 +3,9 @@
 //! - `tdl_open` opens a session into a handle, and `tdl_close` closes it.
 //! - `tdl_translate` translates a text by a session, and `tdl_translate_lines` each line of a text.
 //! - `tdl_retarget` gives a session other forms and options. `tdl_share` opens a session over the tables that another has loaded.
-//! - `tdl_version` is the version of the library.
+//! - `tdl_load_classes` gives a session classes; `tdl_class_canon` and `tdl_class_uri` translate by them. `tdl_dump_read` and
+//!   `tdl_dump_write` answer dumps of tags.
+//! - `tdl_version_number` is the version of the library.
 //!
 //! # Differences from the standards
 //!
@@ -11,7 +13,8 @@
 #![tactic(auto)]
 
 ghost use Rattle.std.specs.Prelude.{◌≡◌, None};
-ghost use Rattle.tdl_c.specs.Calls.{AreCalled, IsBoxed, IsCalled, IsOpening, IsRetargeting, IsShared};
+ghost use Rattle.tdl_c.specs.Calls.{AreCalled, IsAsked, IsBoxed, IsCalled, IsClassing, IsOpening, IsRetargeting, IsShared};
+ghost use Rattle.tdl_session.specs.LineAnswers.{IsClassCanonReply, IsClassUriReply, IsDumpReadReply, IsDumpWriteReply};
 
 mod handle;
 mod parts;
@@ -173,6 +176,120 @@ pub extern "C" fn tdl_translate_lines(
     }
 }
 
+/// Gives the session of the handle the classes of a document, or the built-in ones if it is empty, in the place of those that it
+/// has. Returns `OK`, or `CLASSES`, `MEMORY`, and `CLOSED` if the handle has no session; it is then as it was. The printed reason
+/// against the document is put into `out` if there is room for it, and its length into `len`, which is 0 with any other status.
+#[unsafe(no_mangle)]
+pub extern "C" fn tdl_load_classes(
+    alloc: Global,
+    handle: &mut Handle,
+    classes: &[u8],
+    out: &mut [u8],
+    len: &mut usize,
+) -> u32
+    ensures { IsClassing classes.now handle.old.session handle.new.session out.old out.new len.new result }
+{
+    let Some(mut session) = replace(handle, Handle::closed(alloc)).into_box() else {
+        return nothing(CLOSED, len);
+    };
+    let taken = session.as_mut().take_classes(alloc, classes);
+    *handle = Handle::of(session);
+    match taken {
+        Ok(()) => nothing(OK, len),
+        Err(why) => tell(alloc, why, out, len),
+    }
+}
+
+/// Puts the canonical link of a text, a class URI, into the buffer, as `tdl_translate` puts a translation. Returns one of its statuses,
+/// and `CLASSES` if the session has no classes.
+#[unsafe(no_mangle)]
+pub extern "C" fn tdl_class_canon(
+    alloc: Global,
+    handle: &mut Handle,
+    text: &[u8],
+    out: &mut [u8],
+    len: &mut usize,
+) -> u32
+    ensures same { handle.new.session ≡ handle.old.session }
+    ensures answer { IsAsked IsClassCanonReply handle.old.session text.now out.old out.new len.new result }
+{
+    match replace(handle, Handle::closed(alloc)).into_box() {
+        Some(session) => {
+            let status = session.as_ref().class_canon(alloc, text, out, len);
+            *handle = Handle::of(session);
+            status
+        }
+        None => nothing(CLOSED, len),
+    }
+}
+
+/// Puts the class URI of a text, a link, into the buffer, as `tdl_translate` puts a translation. Returns one of its statuses, and
+/// `CLASSES` if the session has no classes.
+#[unsafe(no_mangle)]
+pub extern "C" fn tdl_class_uri(
+    alloc: Global,
+    handle: &mut Handle,
+    text: &[u8],
+    out: &mut [u8],
+    len: &mut usize,
+) -> u32
+    ensures same { handle.new.session ≡ handle.old.session }
+    ensures answer { IsAsked IsClassUriReply handle.old.session text.now out.old out.new len.new result }
+{
+    match replace(handle, Handle::closed(alloc)).into_box() {
+        Some(session) => {
+            let status = session.as_ref().class_uri(alloc, text, out, len);
+            *handle = Handle::of(session);
+            status
+        }
+        None => nothing(CLOSED, len),
+    }
+}
+
+/// Puts the line that shows a text, a dump, into the buffer, as `tdl_translate` puts a translation. Returns one of its statuses.
+#[unsafe(no_mangle)]
+pub extern "C" fn tdl_dump_read(
+    alloc: Global,
+    handle: &mut Handle,
+    text: &[u8],
+    out: &mut [u8],
+    len: &mut usize,
+) -> u32
+    ensures same { handle.new.session ≡ handle.old.session }
+    ensures answer { IsAsked IsDumpReadReply handle.old.session text.now out.old out.new len.new result }
+{
+    match replace(handle, Handle::closed(alloc)).into_box() {
+        Some(session) => {
+            let status = session.as_ref().dump_read(alloc, text, out, len);
+            *handle = Handle::of(session);
+            status
+        }
+        None => nothing(CLOSED, len),
+    }
+}
+
+/// Puts the dump that a text shows into the buffer, as `tdl_translate` puts a translation. Returns one of its statuses.
+#[unsafe(no_mangle)]
+pub extern "C" fn tdl_dump_write(
+    alloc: Global,
+    handle: &mut Handle,
+    text: &[u8],
+    out: &mut [u8],
+    len: &mut usize,
+) -> u32
+    ensures same { handle.new.session ≡ handle.old.session }
+    ensures answer { IsAsked IsDumpWriteReply handle.old.session text.now out.old out.new len.new result }
+{
+    match replace(handle, Handle::closed(alloc)).into_box() {
+        Some(session) => {
+            let status = session.as_ref().dump_write(alloc, text, out, len);
+            *handle = Handle::of(session);
+            status
+        }
+        None => nothing(CLOSED, len),
+    }
+}
+
 /// Closes the session of the handle, if it has one.
 #[unsafe(no_mangle)]
 pub extern "C" fn tdl_close(alloc: Global, handle: &mut Handle)
@@ -183,7 +300,7 @@ pub extern "C" fn tdl_close(alloc: Global, handle: &mut Handle)
 
 /// Returns the version of the library, as `VERSION` says.
 #[unsafe(no_mangle)]
-pub extern "C" fn tdl_version() -> u32
+pub extern "C" fn tdl_version_number() -> u32
     ensures { result ≡ 10000 }
 {
     VERSION

@@ -1,9 +1,17 @@
 -- The numbers by which a caller chooses.
-use Rattle.std.specs.Prelude.{◌≡◌, ◌≤◌, ℕ, Option, Some, None, Bool, true, false}
+use Rattle.std.specs.Prelude.{◌≡◌, ◌≤◌, ℕ, ◌&&◌, nat_le, if◌then◌else◌, Option, Some, None, Bool, true, false}
 use Rattle.gs_translate.specs.declared.form.Form.{Form}
 use Rattle.gs_translate.specs.declared.form.Form.TheVariants as form
 use Rattle.gs_translate.specs.declared.form.Target.{Target}
 use Rattle.gs_translate.specs.declared.form.Target.TheVariants as target
+
+-- trusted, own: holds if a choice of so many bytes has both forms, and no option that is not known
+abbrev pub is_size : ℕ → Bool
+is_size size = nat_le 10 size && nat_le size 16
+
+-- trusted, own: the number of an option that ends at a byte of a choice, or its default if the choice is shorter
+abbrev pub given : ℕ → ℕ → ℕ → ℕ → ℕ
+given size end code default = if nat_le end size then code else default
 
 -- trusted, own: the number of a form
 abbrev pub form_code : Form → ℕ

@@ -1,6 +1,9 @@
 pub mod Buffers
 pub mod Choices
+pub mod Classes
+pub mod LineAnswers
 pub mod Lines
 pub mod Openings
 pub mod Replies
+pub mod Sessions
 pub mod Tellings

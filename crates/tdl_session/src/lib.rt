@@ -3,7 +3,10 @@
 //! - `open` makes a session of the numbers and bytes that a caller in C gives, or gives the first of them that is rejected, of which
 //!   `tell` says the status and the printed reason.
 //! - `Session::translate` translates a text into a buffer, and `Session::translate_lines` each line of a text.
-//! - `Session::retargeted` makes a session of other forms and options, which shares the tables and the company prefix lengths.
+//! - `Session::retargeted` makes a session of other forms and options, which shares the tables, the company prefix lengths and the
+//!   classes.
+//! - `Session::take_classes` gives a session classes, by which `Session::class_canon` and `Session::class_uri` translate. The answers to
+//!   dumps are `Session::dump_read` and `Session::dump_write`.
 //!
 //! # Differences from the standards
 //!
@@ -12,6 +15,8 @@
 
 mod buffer;
 mod choice;
+mod classes;
+mod line_answer;
 mod line_status;
 mod opening;
 mod session;
@@ -21,5 +26,5 @@ mod told;
 pub use choice::Choice;
 pub use opening::{Unopened, open};
 pub use session::Session;
-pub use status::{ARGUMENT, CLOSED, MEMORY, NO, OK, PREFIXES, SMALL, TABLES};
+pub use status::{ARGUMENT, CLASSES, CLOSED, MEMORY, NO, OK, PREFIXES, SMALL, TABLES};
 pub use told::{nothing, status_of, tell};

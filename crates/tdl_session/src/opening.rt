@@ -5,11 +5,12 @@ ghost use Rattle.gs_chars.specs.Answers.{OrError};
 use crate::choice::{Choice, Chosen, choose};
 use crate::session::Session;
 use gs_chars::Memory;
+use gs_class::ClassLoadFault;
 use gs_prefix::{PrefixFault, PrefixList};
 use gs_tables::{LoadFault, TableSet, builtin};
 use std::alloc::Global;
 
-/// Why a session is not opened.
+/// Why a session is not opened, or its classes are not loaded.
 #[derive(Drop)]
 pub enum Unopened {
     /// A number is out of range, or no link may have the stem.
@@ -18,6 +19,8 @@ pub enum Unopened {
     Tables(LoadFault),
     /// The list of company prefix lengths is rejected, for this reason, which is never out of memory.
     Prefixes(PrefixFault),
+    /// The class document is rejected, for this reason, which is never out of memory.
+    Classes(ClassLoadFault),
     /// Out of memory.
     Memory,
 }

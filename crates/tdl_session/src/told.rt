@@ -3,7 +3,7 @@ ghost use Rattle.tdl_session.specs.Tellings.{IsFaultTold, IsTold, unopened_code}
 
 use crate::buffer::put;
 use crate::opening::Unopened;
-use crate::status::{ARGUMENT, MEMORY, PREFIXES, TABLES};
+use crate::status::{ARGUMENT, CLASSES, MEMORY, PREFIXES, TABLES};
 use std::alloc::Global;
 use tdl_messages::{FileFault, fault_text};
 
@@ -16,6 +16,7 @@ pub fn status_of(why: Unopened) -> u32
         Unopened::Argument => ARGUMENT,
         Unopened::Tables(_) => TABLES,
         Unopened::Prefixes(_) => PREFIXES,
+        Unopened::Classes(_) => CLASSES,
     }
 }
 
@@ -42,7 +43,7 @@ fn tell_fault(alloc: Global, status: u32, fault: &FileFault, out: &mut [u8], len
     }
 }
 
-/// Returns the status of a session that is not opened. Puts the printed reason why its tables or prefixes are rejected into the
+/// Returns the status of a session that is not opened. Puts the printed reason why its tables, prefixes or classes are rejected into the
 /// buffer, if there is room for it, and its length into `len`. Returns `MEMORY` instead if there is no memory for the reason.
 pub fn tell(alloc: Global, why: Unopened, out: &mut [u8], len: &mut usize) -> u32
     ensures { IsTold why out.old out.new len.new result }
@@ -53,6 +54,9 @@ pub fn tell(alloc: Global, why: Unopened, out: &mut [u8], len: &mut usize) -> u3
         Unopened::Tables(error) => tell_fault(alloc, TABLES, &FileFault::Tables(error), out, len),
         Unopened::Prefixes(error) => {
             tell_fault(alloc, PREFIXES, &FileFault::Prefixes(error), out, len)
+        }
+        Unopened::Classes(error) => {
+            tell_fault(alloc, CLASSES, &FileFault::Classes(error), out, len)
         }
     }
 }
