@@ -25,7 +25,7 @@ COMMANDS = {
     "jsonl": ("jsonl", "translate members of JSON lines: each line gets members with the answers or the reason, before the next has come"),
     "links": ("links.command", "make a linkset of a table of links, or a table of a linkset"),
     "inspect": ("inspector.command", "serve a page on 127.0.0.1 that shows what a code says"),
-    "epcis": ("epcis.command", "translate the identifiers of an EPCIS document, JSON-LD or XML, to Digital Links or to EPC URIs"),
+    "epcis": ("events.command", "translate the identifiers of an EPCIS document, JSON-LD or XML, to Digital Links or to EPC URIs"),
 }
 # the command that takes no list of company prefix lengths, and the one that writes no file
 WITHOUT_PREFIXES, WITHOUT_FILES = "links", "inspect"

@@ -16,9 +16,8 @@ from . import interrupts
 # how the name of a draft begins, as long as it has one
 PREFIX = ".tdl-"
 BLOCK = 262_144
-# the names of standard streams, each with the one that this module gives it; `-` is that of a command line
-NAMES_OF_INPUT = dict.fromkeys(("-", "/dev/fd/0", "/proc/self/fd/0"), "/dev/stdin")
-NAMES_OF_OUTPUT = dict.fromkeys(("-", "/dev/fd/1", "/proc/self/fd/1"), "/dev/stdout")
+# the numbers of the standard streams by their names; `-` is the first or the second
+STREAMS = {name: number for number, word in enumerate(("stdin", "stdout", "stderr")) for name in (f"/dev/{word}", f"/dev/fd/{number}", f"/proc/self/fd/{number}")}
 
 
 def keep_standard_streams() -> None:
@@ -71,7 +70,10 @@ def lines_come(file: int, waits: Callable[[int], None] = wait) -> Iterator[bytes
 
 
 def is_same(one: str, other: str) -> bool:
-    """Returns whether two paths name one file, which need not exist yet. A terminal, another device and a pipe take both of what is written."""
+    """Returns whether two paths name one file, which need not exist yet. A terminal, another device and a pipe take both of what is written, and so
+    do two standard streams."""
+    if one in STREAMS and other in STREAMS:
+        return STREAMS[one] == STREAMS[other]
     found = []
     for path in (one, other):
         with suppress(OSError, ValueError):
@@ -81,15 +83,21 @@ def is_same(one: str, other: str) -> bool:
     return not found and os.path.realpath(one) == os.path.realpath(other)
 
 
+def _named(path: str, standard: str) -> str:
+    """Returns a path, or the one name of the standard stream that it names; `-` is a given one."""
+    path = standard if path == "-" else path
+    return f"/dev/fd/{STREAMS[path]}" if path in STREAMS else path
+
+
 def judge_names(read: str, written: Dict[str, Optional[str]], *, is_in_place: bool) -> None:
     """Raises `ValueError` if two of the files that are written, by their options, are one, or one of them is the file that is read. If
     `is_in_place`, the output may be. A name of None is that of no file."""
-    named = {option: NAMES_OF_OUTPUT.get(path, path) for option, path in written.items() if path is not None}
+    named = {option: _named(path, "/dev/stdout") for option, path in written.items() if path is not None}
     for one, other in combinations(named, 2):
         if is_same(named[one], named[other]):
             raise ValueError(f"--{one} and --{other} name the same file")
     for option, path in named.items():
-        if not (is_in_place and option == "output") and is_same(path, NAMES_OF_INPUT.get(read, read)):
+        if not (is_in_place and option == "output") and is_same(path, _named(read, "/dev/stdin")):
             raise ValueError(f"--{option} names the file that is read")
 
 
@@ -184,15 +192,16 @@ def _is_written_directly(path: str) -> bool:
 def writing(*paths: Optional[str], is_synced: bool = True) -> Iterator[Tuple[BinaryIO, ...]]:
     """Opens files that appear together, by renames at the end; `-` is the standard output, and what is written for None goes nowhere.
 
-    The files are on the disk before they appear, and their names before the end, if `is_synced`. A file that is not a regular one, such as
-    /dev/stderr, is written directly.
+    The files are on the disk before they appear, and their names before the end, if `is_synced`. A standard stream, such as /dev/stderr, and a
+    file that is not a regular one are written directly.
     """
     drafts: List[_Draft] = []
     with ExitStack() as opened:
         streams: List[BinaryIO] = []
         for path in paths:
-            if path is not None and NAMES_OF_OUTPUT.get(path, path) == "/dev/stdout":
-                streams.append(opened.enter_context(open(1, "wb", closefd=False)))
+            number = 1 if path == "-" else STREAMS.get(path or "")
+            if number:
+                streams.append(opened.enter_context(open(number, "wb", closefd=False)))
             elif path is None or _is_written_directly(path):
                 streams.append(opened.enter_context(open(path or os.devnull, "wb")))
             else:
