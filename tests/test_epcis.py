@@ -50,7 +50,7 @@ BAD = {
     '{"epcisBody":{"eventList":[]},\n"epcisBody":{}}': ("line 2, column 15:", 'two members "epcisBody"'),
     '{"a":1,}': ("line 1, column 8:", "Expecting"),
     '{"a":1}': ("line 1, column 1:", "not an EPCIS document"),
-    "[]": ("line 1, column 1:", "neither JSON nor XML"),
+    "[1]": ("line 1, column 2:", "not an EPCIS document"),
     "": ("line 1, column 1:", "neither JSON nor XML"),
     XML % "\n<ObjectEvent>": ("line 2, column 16:", "mismatched tag"),
     XML % "\n<x:a/>": ("line 2, column 1:", "unbound prefix"),
@@ -65,8 +65,9 @@ BAD = {
 # what an identifier is that has no translation to a link: the reason, or none if it is not of GS1
 REJECTED: dict[str, Optional[str]] = {
     "urn:epc:id:sgtin:0614141.107346.": "reading",
-    "urn:epc:id:cpi:0614141.123ABC.123456789": "reading",
-    "urn:epc:id:upui:1234567.098765.51qIgY": "reading",
+    "urn:epc:id:cpi:0614141.123ABC.0123": "reading",
+    "urn:epc:id:cpi:0614141.123ABC.123456789": None,
+    "urn:epc:id:upui:1234567.098765.51qIgY": None,
     "urn:epc:tag:sgtin-96:3.0614141.812345.6789": "reading",
     "urn:epc:idpat:sgtin:0614141.112345.5.*": "reading",
     "urn:epc:idpat:grai:4012345.55555.5.*": "reading",

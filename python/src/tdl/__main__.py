@@ -6,7 +6,7 @@ import sys
 
 from . import interrupts
 
-if __name__ == "__main__" and sys.argv[1:2] in (["csv"], ["jsonl"], ["links"]):
+if __name__ == "__main__":
     # (first of all, since imports take time)
     interrupts.end_by_signals()
 
@@ -25,10 +25,10 @@ COMMANDS = {
     "jsonl": ("jsonl", "translate members of JSON lines: each line gets members with the answers or the reason, before the next has come"),
     "links": ("links.command", "make a linkset of a table of links, or a table of a linkset"),
     "inspect": ("inspector.command", "serve a page on 127.0.0.1 that shows what a code says"),
-    "epcis": ("epcis.command", "translate the identifiers of an EPCIS document, JSON-LD or XML, to Digital Links or to EPC URIs"),
+    "epcis": ("events.command", "translate the identifiers of an EPCIS document, JSON-LD or XML, to Digital Links or to EPC URIs"),
 }
-# the command that takes no list of company prefix lengths
-WITHOUT_PREFIXES = "links"
+# the command that takes no list of company prefix lengths, and the one that writes no file
+WITHOUT_PREFIXES, WITHOUT_FILES = "links", "inspect"
 
 
 def module_of(command: str) -> ModuleType:
@@ -42,9 +42,12 @@ def arguments(words: Optional[List[str]]) -> argparse.Namespace:
     commands = parser.add_subparsers(dest="command", required=True)
     files = argparse.ArgumentParser(add_help=False)
     files.add_argument("--prefixes", metavar="FILE", help="a list of company prefix lengths")
+    written = argparse.ArgumentParser(add_help=False)
+    told = "do not wait until the written files are on the disk: a loss of power may lose them"
+    written.add_argument("--no-sync", dest="is_synced", action="store_false", help=told)
     asked = (sys.argv[1:] if words is None else words)[:1]
     for name, (_, purpose) in COMMANDS.items():
-        parents = [] if name == WITHOUT_PREFIXES else [files]
+        parents = [files] * (name != WITHOUT_PREFIXES) + [written] * (name != WITHOUT_FILES)
         one = commands.add_parser(name, parents=parents, help=purpose, description=f"{purpose[0].upper()}{purpose[1:]}.")
         if asked == [name]:
             module_of(name).add(one)
@@ -67,7 +70,7 @@ def main(words: Optional[List[str]] = None) -> int:
     except (RuntimeError, OSError, MemoryError) as error:
         return _failed(asked, str(error), 4)
     except KeyboardInterrupt:
-        return _failed(asked, "interrupted, and nothing was written", 130)
+        return _failed(asked, "interrupted", 130)
 
 
 def _failed(asked: argparse.Namespace, sentence: str, status: int) -> int:

@@ -35,7 +35,7 @@ def _end(number: int, _: object) -> None:
         with suppress(OSError):
             os.unlink(path)
     clear = "\r\033[K" if os.isatty(2) else ""
-    tell(f"{clear}tdl {sys.argv[1]}: ended by {signal.Signals(number).name}{'; no file was written' if DRAFTS else ''}")
+    tell(f"{clear}{' '.join(['tdl', *sys.argv[1:2]])}: ended by {signal.Signals(number).name}{'; no file was written' if DRAFTS else ''}")
     os._exit(128 + number)
 
 

@@ -3,18 +3,17 @@ from __future__ import annotations
 
 import argparse
 import json
-import os
-from contextlib import closing
-from typing import Any, Dict, Iterator, List, NamedTuple, NoReturn, Optional, Tuple
+from contextlib import ExitStack
+from typing import Any, Dict, List, NamedTuple, NoReturn, Optional, Tuple
 
 from .columns.command import add_translation, element, job_of, told
 from .columns.elements import Elements, keys_among
 from .columns.forms import Forms
 from .columns.job import Job, Total
 from .columns.layout import new_names
-from .files import reading, writing
+from .files import lines_come, reading, writing
+from .pool import pool_of
 
-BLOCK = 262_144
 BLANK = b" \t\r\n"
 
 
@@ -53,6 +52,13 @@ def _json(text: bytes) -> bytes:
     return json.dumps(text.decode("utf-8", "surrogateescape")).encode("ascii")
 
 
+class Written(NamedTuple):
+    """Lines with their answers, and the numbers of lines and of rejected ones."""
+
+    data: bytes
+    total: Total
+
+
 class Writer:
     """Writes lines with their answers, by kept runs of the program. A member is its name, or the names on the way to it with dots."""
 
@@ -66,15 +72,14 @@ class Writer:
         *self._added, self._reason = new_names(job, names[0], [])
         self._labels = [_json(name.encode("utf-8", "surrogateescape")) + b":" for name in self._added]
         self._forms = Forms(job, Elements(codes, names, keys) if codes else None)
-        self.total = Total(0, 0)
 
     def close(self) -> None:
         """Ends the runs."""
         self._forms.close()
 
-    def write(self, data: bytes) -> bytes:
+    def write(self, piece: bytes) -> Written:
         """Returns lines with their answers. Blank lines stay as they are."""
-        *raws, last = data.split(b"\n")
+        *raws, last = piece.split(b"\n")
         lines = [self._read(raw + b"\n") for raw in raws] + ([self._read(last)] if last else [])
         wrong = {number: line.reason.encode("utf-8", "surrogateescape") for number, line in enumerate(lines) if line.reason}
         asked = [number for number, line in enumerate(lines) if line.found is not None and not line.reason]
@@ -82,8 +87,7 @@ class Writer:
         cells = dict(zip(asked, zip(*columns)))
         reasons = {**wrong, **{asked[number]: reason for number, reason in found.items()}}
         written = [self._written(line, cells.get(number, ()), reasons.get(number, b"")) for number, line in enumerate(lines)]
-        self.total = Total(self.total.records + sum(1 for line in lines if line.body), self.total.rejected + len(reasons))
-        return b"".join(written)
+        return Written(b"".join(written), Total(sum(1 for line in lines if line.body), len(reasons)))
 
     def _read(self, raw: bytes) -> Line:
         body = raw.rstrip(BLANK)
@@ -124,26 +128,25 @@ class Writer:
         return line.body[:-1].rstrip(BLANK) + b"," * bool(line.found) + b",".join(members) + b"}" + line.end
 
 
-def pieces(file: int) -> Iterator[bytes]:
-    """Yields the whole lines that have come, and at the end the rest."""
-    rest = bytearray()
-    while block := os.read(file, BLOCK):
-        end = block.rfind(b"\n") + 1
-        if end:
-            yield bytes(rest) + block[:end]
-            rest.clear()
-        rest += block[end:]
-    if rest:
-        yield bytes(rest)
-
-
 def translate_jsonl(job: Job, path: str, output: str) -> Total:
     """Translates members of the lines of the file `path`. Each path may be `-`."""
-    with reading(path) as file, writing(output) as (stream,), closing(Writer(job)) as writer:
-        for data in pieces(file):
-            stream.write(writer.write(data))
+    total = Total(0, 0)
+    with ExitStack() as opened:
+        file = opened.enter_context(reading(path))
+        (stream,) = opened.enter_context(writing(output, is_synced=job.is_synced))
+
+        def sink(written: Written) -> None:
+            nonlocal total
+            stream.write(written.data)
             stream.flush()
-    return writer.total
+            total = Total(total.records + written.total.records, total.rejected + written.total.rejected)
+
+        pool = pool_of(job.processes, lambda: Writer(job), sink)
+        opened.callback(pool.close)
+        for lines in lines_come(file, pool.wait):
+            pool.submit(lines)
+        pool.finish()
+    return total
 
 
 def add(parser: argparse.ArgumentParser) -> None:

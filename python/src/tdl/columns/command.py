@@ -4,7 +4,7 @@ from __future__ import annotations
 import argparse
 from typing import List, Tuple
 
-from ..files import is_same
+from ..files import judge_names
 from ..interrupts import tell
 from ..options import FORMS, TARGETS, Target, processes
 from .elements import judged
@@ -49,6 +49,7 @@ def add_translation(parser: argparse.ArgumentParser) -> None:
     parser.add_argument("--encoding", metavar="NAME", help="the name of the encoding of a tag")
     parser.add_argument("--stem", metavar="LINK", help="the stem of a link")
     parser.add_argument("--keys-only", action="store_true", help="keep only the key and its serial")
+    parser.add_argument("-j", "--jobs", type=processes, default=1, metavar="N", help="the number of processes; the output is the same for each")
 
 
 def add(parser: argparse.ArgumentParser) -> None:
@@ -61,7 +62,6 @@ def add(parser: argparse.ArgumentParser) -> None:
     which.add_argument("-e", "--element", dest="elements", action="append", default=[], type=element, metavar="CODE=COLUMN", help=told)
     add_translation(parser)
     parser.add_argument("--rejected", metavar="FILE", help="a second file with the rejected records and their numbers")
-    parser.add_argument("-j", "--jobs", type=processes, default=1, metavar="N", help="the number of processes; the output is the same for each")
     parser.add_argument("-d", "--delimiter", type=delimiter, default=",", metavar="C", help="the character between fields; else a comma")
     parser.add_argument("-H", "--no-header-row", dest="has_header", action="store_false", help="the file has no header: columns are numbers")
 
@@ -77,7 +77,7 @@ def job_of(asked: argparse.Namespace) -> Job:
     options = {name: getattr(asked, name) for name in OPTIONS}
     return Job(
         asked.source or "link", asked.column, tuple(asked.elements), targets, judged(asked.split), asked.name, options=options,
-        delimiter=getattr(asked, "delimiter", ","), has_header=getattr(asked, "has_header", True), processes=getattr(asked, "jobs", 1),
+        delimiter=getattr(asked, "delimiter", ","), has_header=getattr(asked, "has_header", True), processes=asked.jobs, is_synced=asked.is_synced,
     )
 
 
@@ -89,6 +89,5 @@ def told(total: Total, noun: str) -> int:
 
 def run(asked: argparse.Namespace) -> int:
     """Translates a file, and returns the status."""
-    if asked.rejected is not None and is_same(asked.rejected, asked.output):
-        raise ValueError("--output and --rejected name the same file")
+    judge_names(asked.file, {"output": asked.output, "rejected": asked.rejected}, is_in_place=True)
     return told(translate_csv(job_of(asked), asked.file, asked.output, asked.rejected), "record")

@@ -12,7 +12,8 @@ class Job:
     """What is asked for. `options` are those of `Translator`; a column is a name, or a number from 1.
 
     Texts of the form `source` are in `column`, or `elements` has the code of each element with its column; then `source` is `link`. `split`
-    are codes of elements whose values are wanted, `name` is that of the new columns instead of the first column's.
+    are codes of elements whose values are wanted, `name` is that of the new columns instead of the first column's, and `is_synced` says
+    whether the written files are on the disk before the end.
     """
 
     source: Form
@@ -24,6 +25,7 @@ class Job:
     delimiter: str = ","
     has_header: bool = True
     processes: int = 1
+    is_synced: bool = True
     options: Dict[str, Any] = field(default_factory=dict)
 
 

@@ -3,27 +3,15 @@ from __future__ import annotations
 
 import csv
 import os
-import select
 from typing import Callable, Iterator, List, Optional, Tuple
 
 from ..errors import Wrong
+from ..files import is_ready, wait
 from .records import Chunk, count_lines, encoded, lines_of, not_csv
 
 BLOCK = 262_144
 MARK = "\ufeff".encode()
 UTF16 = (b"\xff\xfe", b"\xfe\xff")
-
-
-def is_ready(file: int, milliseconds: Optional[int] = 0) -> bool:
-    """Returns whether something can be read, or the end was reached, now or within some time."""
-    waiting = select.poll()
-    waiting.register(file, select.POLLIN)
-    return bool(waiting.poll(milliseconds))
-
-
-def wait(file: int) -> None:
-    """Waits until something can be read, or the end is reached."""
-    is_ready(file, None)
 
 
 class Source:

@@ -4,13 +4,13 @@ from __future__ import annotations
 import csv
 import sys
 from contextlib import ExitStack
-from typing import BinaryIO, List, Optional, Union
+from typing import BinaryIO, List, Optional
 
 from ..files import reading, writing
+from ..pool import pool_of
 from .elements import Elements, keys_among
 from .job import Job, Total
 from .layout import Layout, layout_of
-from .pool import Alone, Pool
 from .progress import Progress
 from .source import Source
 from .worker import Worker, Written
@@ -48,7 +48,7 @@ def translate_csv(job: Job, path: str, output: str, rejected: Optional[str] = No
     try:
         with ExitStack() as opened:
             file = opened.enter_context(reading(path))
-            answered, refused = opened.enter_context(writing(output, rejected))
+            answered, refused = opened.enter_context(writing(output, rejected, is_synced=job.is_synced))
             out = Output(answered, refused, Progress(file))
             opened.callback(out.progress.end)
             source = Source(file, job.delimiter)
@@ -57,7 +57,7 @@ def translate_csv(job: Job, path: str, output: str, rejected: Optional[str] = No
             def make() -> Worker:
                 return Worker(job, layout, Elements(codes, layout.names, keys) if codes else None)
 
-            pool: Union[Alone, Pool] = Alone(make, out.write) if job.processes == 1 else Pool(job.processes, make, out.write)
+            pool = pool_of(job.processes, make, out.write)
             opened.callback(pool.close)
             out.begin(layout)
             for chunk in source.chunks(pool.wait):

@@ -4,6 +4,8 @@ from __future__ import annotations
 import argparse
 import re
 
+from ..files import judge_names
+
 EPILOG = """\
 Columns, in any order: `anchor` (a link, its path, or an element string), or one for each AI, `01`, `10`, `21` ..; `href`; `linkType`, where
 an empty cell means gs1:defaultLink; `hreflang`, languages separated by spaces; `title`; `type`. Other names begin with #. The status is 1 if
@@ -39,4 +41,5 @@ def run(asked: argparse.Namespace) -> int:
 
     if asked.back is not None and asked.sheet is not None:
         raise ValueError("--sheet names the sheet that is read, and --back reads a linkset")
+    judge_names(asked.back or asked.table, {"output": asked.output}, is_in_place=False)
     return make_linkset(asked) if asked.back is None else make_table(asked)

@@ -26,7 +26,7 @@ def make_linkset(asked: argparse.Namespace) -> int:
             check_part(part, options)
         except FilesRejected as error:
             raise ProgramError(f"`tdl check` rejects the linkset: {error}") from error
-    with writing(asked.output) as (stream,):
+    with writing(asked.output, is_synced=asked.is_synced) as (stream,):
         stream.write(text_of(built.contexts).encode("utf-8"))
     _tell(f"{_count(built.rows, 'row')}, {_count(len(built.contexts), 'anchor')}, 0 rejected")
     if len(parts) > 1:
@@ -38,7 +38,7 @@ def make_linkset(asked: argparse.Namespace) -> int:
 def make_table(asked: argparse.Namespace) -> int:
     """Writes the table of a linkset, and returns the status."""
     rows = table_of(asked.back, _options(asked))
-    with writing(asked.output) as (stream,):
+    with writing(asked.output, is_synced=asked.is_synced) as (stream,):
         stream.write(workbook_of(rows) if is_workbook(asked.output) else csv_of(rows).encode("utf-8"))
     _tell(_count(len(rows) - 1, "row"))
     return 0

@@ -8,7 +8,7 @@ from xml.sax.saxutils import quoteattr
 from ..errors import Wrong
 from .fields import XML_DOCUMENT, XML_EVENTS
 from .parts import CHUNK, LARGEST, Located, Part
-from .xml_locator import Locator
+from .xml_locator import CODEC, Locator
 
 # the encodings whose bytes below 128 are ASCII, so that an identifier can be written in them
 ENCODINGS = {"utf-8": "utf-8", "us-ascii": "us-ascii", "iso-8859-1": "iso-8859-1"}
@@ -23,10 +23,12 @@ class XmlEvents(NamedTuple):
 
     def located(self) -> Located:
         """Returns the identifiers of the events."""
-        locator = Locator(self.encoding, {"x": XML_EVENTS})
+        locator = Locator(self.encoding, {})
         names = (f" xmlns{':' * bool(prefix)}{prefix or ''}={quoteattr(uri)}" for prefix, uri in self.namespaces)
-        before = f"<x{''.join(names)}>".encode("ascii", "xmlcharrefreplace")
+        before = f"<x{''.join(names)}>".encode(self.encoding, "xmlcharrefreplace")
         locator.parser.Parse(before, False)
+        # (the default namespace may be any, and then x would not be found by its name)
+        locator.go_to(XML_EVENTS)
         locator.forget(len(before))
         locator.held = self.text
         locator.parser.Parse(self.text, False)
@@ -45,7 +47,9 @@ class XmlSource:
         self._parser.StartElementHandler = self._root
         self._parser.StartNamespaceDeclHandler, self._parser.EndNamespaceDeclHandler = self._named, self._unnamed
         self._encoding = "utf-8"
+        # the namespaces of the elements that are open, and those in force within the list of events, which each part of it begins with
         self._namespaces: Dict[Optional[str], List[str]] = {}
+        self._inner: List[Tuple[Optional[str], str]] = []
         # where the events are only cut: how many elements are open below their list, -1 outside it, and the parts that are whole
         self._depth, self._is_first, self._ready = -1, True, []  # type: int, bool, List[Part]
 
@@ -62,26 +66,32 @@ class XmlSource:
             self._ready = []
             if not block:
                 break
-            if self._depth < 0:
-                yield locator.located(locator.settled())
-            if len(locator.held) > LARGEST:
-                raise self._wrong(f"what ends after here is longer than {LARGEST:,} bytes")
+            yield from self._settled()
+            end = locator.base + len(locator.held)
+            locator.judge(end)
+            if end - self._parser.CurrentByteIndex > LARGEST:
+                raise locator.wrong(f"the tag or comment that begins here is longer than {LARGEST:,} bytes")
             block = self._stream.read(CHUNK)
         yield locator.located(locator.base + len(locator.held))
 
-    def _wrong(self, why: str) -> Wrong:
-        parser = self._parser
-        return Wrong(f"line {parser.CurrentLineNumber}, column {parser.CurrentColumnNumber + 1}: {why}")
+    def _settled(self) -> Iterator[Part]:
+        """Yields what is read and not part of an event to be cut."""
+        locator, size = self._locator, self._parser.CurrentByteIndex - self._locator.base
+        if self._depth < 0:
+            yield locator.located(locator.settled())
+        elif self._depth == 0 and not self._is_first and size > 0 and locator.held[:size].isspace():
+            yield Located([locator.held[:size].decode(CODEC)], [], [], 0, CODEC)
+            locator.forget(locator.base + size)
 
     def _declaration(self, _: str, encoding: Optional[str], __: int) -> None:
         """Takes the encoding of the XML declaration."""
         name = (encoding or "utf-8").lower()
         if name not in ENCODINGS:
-            raise self._wrong(f"the encoding {encoding} is not one of {', '.join(ENCODINGS)}")
+            raise self._locator.wrong(f"the encoding {encoding} is not one of {', '.join(ENCODINGS)}")
         self._encoding = name
 
     def _doctype(self, *_: object) -> None:
-        raise self._wrong("a document type (DTD) is not allowed")
+        raise self._locator.wrong("a document type (DTD) is not allowed")
 
     def _named(self, prefix: Optional[str], uri: str) -> None:
         self._namespaces.setdefault(prefix, []).append(uri or "")
@@ -91,8 +101,10 @@ class XmlSource:
 
     def _root(self, name: str, attributes: Dict[str, str]) -> None:
         """Enters the root."""
-        if name.rpartition(" ")[2] not in XML_DOCUMENT:
-            raise self._wrong(f"not an EPCIS document: the root is {name.rpartition(' ')[2]}, not {', '.join(XML_DOCUMENT)}")
+        local = name.rpartition(" ")[2]
+        if name not in XML_DOCUMENT and local not in XML_DOCUMENT:
+            roots = ", ".join(root for root in XML_DOCUMENT if " " not in root)
+            raise self._locator.wrong(f"not an EPCIS document: the root is {local}, not {roots} or an envelope of SOAP")
         self._locator.start(name, attributes)
         self._parser.StartElementHandler = self._locator.start if self._is_inline else self._start
 
@@ -103,10 +115,13 @@ class XmlSource:
             self._locator.deaf()
             self._parser.StartElementHandler, self._parser.EndElementHandler = self._deeper, self._higher
             self._depth, self._is_first = 0, True
+            # (expat names those of an element before its start: at the start of one in the list its own are in force already)
+            self._inner = [(prefix, uris[-1]) for prefix, uris in self._namespaces.items() if uris]
 
     def _deeper(self, _: str, __: Dict[str, str]) -> None:
         if self._depth == 0:
             at = self._parser.CurrentByteIndex
+            self._locator.enter()
             if self._is_first:
                 self._ready.append(self._locator.located(at))
                 self._is_first = False
@@ -116,6 +131,8 @@ class XmlSource:
 
     def _higher(self, name: str) -> None:
         self._depth -= 1
+        if self._depth == 0:
+            self._locator.leave()
         if self._depth < 0:
             if not self._is_first:
                 self._cut(self._parser.CurrentByteIndex)
@@ -126,6 +143,5 @@ class XmlSource:
     def _cut(self, at: int) -> None:
         """Makes a part of the events before a place."""
         locator = self._locator
-        inner = [(prefix, uris[-1]) for prefix, uris in self._namespaces.items() if uris]
-        self._ready.append(XmlEvents(locator.held[: at - locator.base], inner, self._encoding))
+        self._ready.append(XmlEvents(locator.held[: at - locator.base], self._inner, self._encoding))
         locator.forget(at)

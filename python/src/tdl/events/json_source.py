@@ -2,22 +2,20 @@
 from __future__ import annotations
 
 from functools import lru_cache
-from itertools import accumulate
 from typing import Any, BinaryIO, Iterator, List, Tuple
 
-from ..errors import Wrong
-from .fields import JSON_DOCUMENT
+from .fields import JSON_DOCUMENT, JSON_EVENTS, TOPS
 from .json_events import JsonEvents
-from .json_text import GAP, SPACE, JsonText, decode, fault, place
+from .json_text import GAP, JsonText, decode, fault
 from .json_walk import CODEC, Walk, Walker
-from .parts import CHUNK, Located, Part, cut
+from .parts import CHUNK, LARGEST, Located, Part, cut
 
 MARK = "\ufeff"
-TOPS = ("epcisBody", "epcisHeader")
+# the longest text between two events that is kept for the next ones
+SHORT = 256
 
 
-@lru_cache(maxsize=1_024)
-def gap_fault(gap: str, is_last: bool) -> Tuple[int, str]:
+def _gap_fault(gap: str, is_last: bool) -> Tuple[int, str]:
     """Returns where and why the decoder rejects the text between two events, or after the last one, or an empty reason."""
     text = f"[0{gap}]" if is_last else f"[0{gap}0]"
     try:
@@ -28,57 +26,53 @@ def gap_fault(gap: str, is_last: bool) -> Tuple[int, str]:
     return 0, ""
 
 
+_short_gap_fault = lru_cache(maxsize=1_024)(_gap_fault)
+
+
+def is_event(found: object) -> bool:
+    """Returns whether a value is an event."""
+    return isinstance(found, dict) and str(found.get("type", "")).endswith("Event")
+
+
+def is_long(text: str) -> bool:
+    """Returns whether an event has too many bytes."""
+    return len(text) > LARGEST or (4 * len(text) > LARGEST and len(text.encode("utf-8", "surrogatepass")) > LARGEST)
+
+
 class JsonSource:
     """The parts of a document. `is_inline` says that this process locates them, so that events need not be decoded twice."""
 
     def __init__(self, stream: BinaryIO, head: bytes, is_inline: bool) -> None:
         self._text = JsonText(stream, head)
-        self._walker = Walker(self._text, self._events)
+        self._walker = Walker(self._text, self._events, self._frame)
         self._is_inline = is_inline
-        # what stands around the events, with the numbers of lines and of columns before it
-        self._frames: List[Tuple[str, Tuple[int, int]]] = []
+        self._has_frames = self._is_list = False
 
     def parts(self) -> Iterator[Part]:
         """Yields the parts in order. Raises `Wrong` for a text that is not JSON or not EPCIS."""
-        source = self._text
+        source, walker = self._text, self._walker
         at = source.skip(len(MARK) if source.text.startswith(MARK) else 0)
-        if source.text[at : at + 1] != "{":
-            source.value(at)
-            raise source.wrong(at, "not an EPCIS document: it is not an object")
-        at = source.skip((yield from self._walker.value(at, JSON_DOCUMENT)))
-        if at < len(source.text):
-            raise source.wrong(at, "not JSON: Extra data")
-        before = len(self._frames)
-        frame = self._frame(at)
-        is_event = self._judged()
+        self._is_list = source.text[at : at + 1] == "["
+        end = source.skip((yield from walker.value(at, JSON_EVENTS if self._is_list else JSON_DOCUMENT)))
+        if end < len(source.text):
+            raise source.wrong(end, "not JSON: Extra data")
+        has_event = not self._has_frames and is_event({"type": walker.type})
+        if not has_event and not self._is_list and not walker.names.intersection(TOPS):
+            there = f"there is none of {', '.join(TOPS)}, and the type is not that of an event"
+            raise source.wrong(at, f"not an EPCIS document: {there}")
+        if has_event and is_long(source.text[at:end]):
+            raise source.too_long(at, LARGEST)
+        frame = self._frame(end)
         one = [(text, 1, field, style) for text, _, field, style in frame.found]
-        yield frame._replace(events=1, found=one) if is_event and not before else frame
+        yield frame._replace(events=1, found=one) if has_event else frame
 
     def _frame(self, at: int) -> Located:
         """Returns the held text before a place, which is no longer held."""
-        text = self._text
-        self._frames.append((text.text[:at], text.place()))
-        located = cut(text.text[:at], self._walker.borders, self._walker.found, 0, CODEC)
+        self._has_frames = True
+        located = cut(self._text.text[:at], self._walker.borders, self._walker.found, 0, CODEC)
         self._walker.borders, self._walker.found = [], []
-        text.drop(at)
+        self._text.drop(at)
         return located
-
-    def _judged(self) -> bool:
-        """Has the decoder judge all that stands around the events. Returns whether the document is a bare event."""
-        whole = "".join(frame for frame, _ in self._frames)
-        begin = len(MARK) if whole.startswith(MARK) else 0
-        try:
-            root, _ = decode(whole, SPACE.match(whole, begin).end())  # type: ignore[union-attr]
-        except (ValueError, RecursionError) as error:
-            at, why = fault(whole, begin, error)
-            ends = list(accumulate(len(frame) for frame, _ in self._frames))
-            number = next((number for number, end in enumerate(ends) if at < end), len(ends) - 1)
-            frame, before = self._frames[number]
-            raise Wrong(f"{place(frame, at - ends[number] + len(frame), *before)}: {why}") from None
-        is_event = str(root.get("type", "")).endswith("Event")
-        if not is_event and not any(name in root for name in TOPS):
-            raise Wrong(f"line 1, column 1: not an EPCIS document: there is neither {' nor '.join(TOPS)}, and the type is not that of an event")
-        return is_event
 
     def _events(self, at: int) -> Walk:
         """Yields the events of an array, many in a part, and returns the place after it."""
@@ -89,7 +83,11 @@ class JsonSource:
         if text.text[at : at + 1] == "]":
             return at + 1
         while True:
-            event, end = text.value(at)
+            event, end = text.value(at, 0, LARGEST)
+            if is_long(text.text[at:end]):
+                raise text.too_long(at, LARGEST)
+            if self._is_list and not is_event(event):
+                raise text.wrong(at, "not an EPCIS document: the type is not that of an event")
             decoded.append(event)
             at, is_last = self._next(end)
             if is_last or at >= CHUNK:
@@ -106,7 +104,8 @@ class JsonSource:
         while at == len(text.text) and text.read():
             at = GAP.match(text.text, at).end()  # type: ignore[union-attr]
         is_last = text.text[at : at + 1] == "]"
-        wrong, why = gap_fault(text.text[end:at], is_last)
+        gap = text.text[end:at]
+        wrong, why = _short_gap_fault(gap, is_last) if len(gap) <= SHORT else _gap_fault(gap, is_last)
         if why:
             raise text.wrong(end + wrong, why)
         return at, is_last

@@ -5,8 +5,9 @@ import re
 from typing import Dict, List, Tuple
 from xml.parsers import expat
 
+from ..errors import Wrong
 from .fields import XML_EVENT, XML_EVENTS, Tree
-from .parts import DIVIDED, FOREIGN, Found, Located, Style, cut, style_of
+from .parts import DIVIDED, FOREIGN, LARGEST, Found, Located, Style, cut, style_of
 
 # the bytes of a document as characters, one each: only what expat decodes is read as text
 CODEC = "latin-1"
@@ -36,6 +37,8 @@ class Locator:
         self._texts: List[str] = []
         self._begin, self._is_cdata = -1, False
         self._events = 0
+        # how many elements are open from one that is right below a list of events on, and where that one begins
+        self._within, self.unit = 0, -1
         self._borders: List[int] = []
         self._found: List[Found] = []
         self.listen()
@@ -57,9 +60,15 @@ class Locator:
         """Returns whether the children of the current element are those of a tree."""
         return self._tree is tree
 
+    def go_to(self, tree: Tree) -> None:
+        """Lets the children of the current element be those of a tree."""
+        self._tree = tree
+
     def start(self, name: str, attributes: Dict[str, str]) -> None:
         """Enters an element. The names of EPCIS have no namespace, or its own if a document makes that the default."""
         tree = self._tree
+        if tree is XML_EVENTS:
+            self.enter()
         node = tree.get(name)
         if node is None and name.startswith(EPCIS):
             node = tree.get(name.rpartition(" ")[2])
@@ -81,11 +90,36 @@ class Locator:
 
     def end(self, _: str) -> None:
         """Leaves an element."""
-        self._tree = self._trees.pop()
+        self._tree = tree = self._trees.pop()
+        if tree is XML_EVENTS:
+            self.leave()
         if self._field:
             self._close()
             self._identifier()
             self._leave()
+
+    def enter(self) -> None:
+        """Enters an element below a list of events."""
+        if not self._within:
+            self.unit = self.parser.CurrentByteIndex
+        self._within += 1
+
+    def leave(self) -> None:
+        """Leaves an element below a list of events."""
+        self._within -= 1
+        if not self._within:
+            # (the place is that of the end tag)
+            self.judge(self.held.find(b">", self.parser.CurrentByteIndex - self.base) + 1 + self.base)
+            self.unit = -1
+
+    def judge(self, end: int) -> None:
+        """Raises `Wrong` if the element that is right below a list of events, and open, is too long where it ends or goes on at a place."""
+        if self.unit >= 0 and end - self.unit > LARGEST:
+            raise self.wrong(f"the event that begins at byte {self.unit + 1:,} is longer than {LARGEST:,} bytes")
+
+    def wrong(self, why: str) -> Wrong:
+        """Returns what is wrong at the current place."""
+        return Wrong(f"line {self.parser.CurrentLineNumber}, column {self.parser.CurrentColumnNumber + 1}: {why}")
 
     def _leave(self) -> None:
         self.parser.CharacterDataHandler = None

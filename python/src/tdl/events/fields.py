@@ -17,9 +17,13 @@ QUANTITIES = ("quantityList", "childQuantityList", "inputQuantityList", "outputQ
 PAIRS = {"bizTransaction": "bizTransactionList", "source": "sourceList", "destination": "destinationList"}
 SINGLE = ("parentID", "transformationID")
 PLACES = ("readPoint", "bizLocation")
-OF_SENSORS = ("deviceID", "dataProcessingMethod")
+OF_SENSORS = ("deviceID", "dataProcessingMethod", "bizRules")
 EVENT_TYPES = ("ObjectEvent", "AggregationEvent", "QuantityEvent", "TransactionEvent", "TransformationEvent", "AssociationEvent")
 VOCABULARY = "vocabularyElementList"
+# the members of a document's root of which one has to be there
+TOPS = ("epcisBody", "epcisHeader", "queryResults", "resultsBody")
+# the namespaces of SOAP 1.1 and 1.2, in whose body the answer to a query comes
+SOAP = ("http://schemas.xmlsoap.org/soap/envelope/", "http://www.w3.org/2003/05/soap-envelope")
 
 
 def _leaves(names: "tuple[str, ...]") -> Tree:
@@ -40,8 +44,8 @@ def _json_document(event: Tree, events: Tree) -> Tree:
     """Returns the tree of a document in JSON-LD, which may be a bare event."""
     vocabularies: Tree = {"vocabularyList": {VOCABULARY: {"id": VOCABULARY, "children": VOCABULARY}}}
     results: Tree = {"eventList": events, **vocabularies}
-    body: Tree = {**results, "queryResults": {"resultsBody": results}}
-    return {**event, "epcisHeader": {"epcisMasterData": vocabularies}, "epcisBody": body}
+    queried: Tree = {"queryResults": {"resultsBody": results}, "resultsBody": results}
+    return {**event, "epcisHeader": {"epcisMasterData": vocabularies}, "epcisBody": {**results, **queried}, **queried}
 
 
 def _xml_event() -> Tree:
@@ -64,8 +68,10 @@ def _xml_document(events: Tree) -> Tree:
     header: Tree = {"EPCISMasterData": vocabularies}
     header["extension"] = header
     results: Tree = {"EventList": events, **vocabularies}
-    parts: Tree = {"EPCISHeader": header, "EPCISBody": {**results, "QueryResults": {"resultsBody": results}}}
-    return {name: parts for name in ("EPCISDocument", "EPCISQueryDocument", "EPCISMasterDataDocument")}
+    queried: Tree = {"QueryResults": {"resultsBody": results}}
+    parts: Tree = {"EPCISHeader": header, "EPCISBody": {**results, **queried}}
+    roots: Tree = {**{name: parts for name in ("EPCISDocument", "EPCISQueryDocument", "EPCISMasterDataDocument")}, **queried}
+    return {**roots, **{f"{soap} Envelope": {f"{soap} Body": roots} for soap in SOAP}}
 
 
 JSON_EVENT = _json_event()

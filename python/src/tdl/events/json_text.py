@@ -5,12 +5,16 @@ import codecs
 import io
 import json
 import re
-from typing import Any, BinaryIO, Callable, Dict, List, Tuple
+from typing import Any, BinaryIO, Callable, Dict, List, Optional, Tuple
 
 from ..errors import Wrong
-from .parts import CHUNK, LARGEST
+from .parts import CHUNK, DEEPEST
 
 SPACE, GAP = re.compile(r"[ \t\n\r]*"), re.compile(r"[ \t\n\r,]*")
+# a number is whole only before a character that no number has
+DIGITS, NUMBER = frozenset("-0123456789"), re.compile(r"[-+.0-9Ee]+")
+# all of a text but its brackets, of which those in strings are none; and a bracket
+PLAIN, BRACKET = re.compile(r'"(?:[^"\\]|\\.)*"|[^][{}"]+', re.DOTALL), re.compile(r'"(?:[^"\\]|\\.)*"|[][{}]', re.DOTALL)
 # an error of the decoder this near to the end of a text may only mean that the text goes on
 NEAR = 32
 
@@ -23,13 +27,18 @@ class _Strict(ValueError):
         self.width = width
 
 
+def said_twice(name: str) -> str:
+    """Returns what is wrong with an object that has two members of one name."""
+    return f"the object that ends here has two members {json.dumps(name)}"
+
+
 def _object(pairs: List[Tuple[str, Any]]) -> Dict[str, Any]:
     """Returns an object. JSON-LD 1.1 (section 9) wants unique names, and a second value would be read by one partner and not by the next."""
     found = dict(pairs)
     if len(found) != len(pairs):
         names = [name for name, _ in pairs]
         twice = next(name for number, name in enumerate(names) if name in names[:number])
-        raise _Strict(f"the object that ends here has two members {json.dumps(twice)}")
+        raise _Strict(said_twice(twice))
     return found
 
 
@@ -49,7 +58,7 @@ def place(text: str, at: int, lines: int = 0, columns: int = 0) -> str:
     return f"line {lines + before + 1}, column {column + 1}"
 
 
-def fault(text: str, at: int, error: Exception) -> Tuple[int, str]:
+def fault(text: str, at: int, error: ValueError) -> Tuple[int, str]:
     """Returns where the value at a place is wrong, and why, for an error of the decoder."""
     if isinstance(error, json.JSONDecodeError):
         return error.pos, f"not JSON: {error.msg}"
@@ -62,12 +71,32 @@ def fault(text: str, at: int, error: Exception) -> Tuple[int, str]:
             has_it = False
         except json.JSONDecodeError:
             has_it = False
-        except (_Strict, RecursionError):
+        except _Strict:
             has_it = True
         least, most = (least, middle) if has_it else (middle + 1, most)
-    if isinstance(error, _Strict):
-        return least - error.width, str(error)
-    return least - 1, "too many arrays and objects in one another"
+    return least - (error.width if isinstance(error, _Strict) else 1), str(error)
+
+
+def is_deeper(text: str, at: int, end: int, most: int) -> bool:
+    """Returns whether more arrays and objects than so many are in one another in a value between two places."""
+    if text.count("[", at, end) + text.count("{", at, end) <= most:
+        return False
+    left = PLAIN.sub("", text[at:end])
+    for _ in range(most):
+        left = left.replace("[]", "").replace("{}", "")
+        if not left:
+            return False
+    return True
+
+
+def too_deep(text: str, at: int, most: int) -> int:
+    """Returns the place of the first bracket of a value that is within so many others, or that of the value."""
+    depth = 0
+    for found in BRACKET.finditer(text, at):
+        depth += {"[": 1, "{": 1, "]": -1, "}": -1}.get(found[0], 0)
+        if depth > most:
+            return found.start()
+    return at
 
 
 class JsonText:
@@ -95,22 +124,29 @@ class JsonText:
 
     def read(self) -> bool:
         """Reads on. Returns whether there was more."""
-        if self.is_whole:
-            return False
-        if len(self.text) > LARGEST:
-            raise self.wrong(0, f"what begins here is longer than {LARGEST:,} characters")
-        self._add(self._stream.read(CHUNK))
+        if not self.is_whole:
+            self._add(self._stream.read(CHUNK))
         return not self.is_whole
+
+    def _read_as_much(self, at: int, most: Optional[int]) -> bool:
+        """Reads as much again as there is after a place, so that the tries to decode it take time by its size. Returns whether there was more."""
+        if most is not None and len(self.text) - at > most:
+            raise self.too_long(at, most)
+        begun = len(self.text)
+        wanted = 2 * begun - at if most is None else min(2 * begun - at, at + most + 1)
+        while len(self.text) < wanted and self.read():
+            pass
+        return len(self.text) > begun
+
+    def too_long(self, at: int, most: int) -> Wrong:
+        """Returns that the event at a place is too long."""
+        return self.wrong(at, f"the event that begins here is longer than {most:,} bytes")
 
     def drop(self, at: int) -> None:
         """Forgets the text before a place."""
         lines = self.text.count("\n", 0, at)
         self._columns = at - (self.text.rfind("\n", 0, at) + 1) + (0 if lines else self._columns)
         self._lines, self.text = self._lines + lines, self.text[at:]
-
-    def place(self) -> Tuple[int, int]:
-        """Returns the numbers of lines and of columns before the held text."""
-        return self._lines, self._columns
 
     def wrong(self, at: int, why: str) -> Wrong:
         """Returns what is wrong at a place of the held text."""
@@ -123,15 +159,33 @@ class JsonText:
             end = SPACE.match(self.text, end).end()  # type: ignore[union-attr]
         return end
 
-    def value(self, at: int) -> Tuple[Any, int]:
-        """Returns the value at a place, and the place after it."""
+    def value(self, at: int, depth: int = 0, most: Optional[int] = None) -> Tuple[Any, int]:
+        """Returns the value at a place, and the place after it. It is within `depth` arrays and objects, and has at most so many bytes."""
         while True:
             try:
                 found, end = decode(self.text, at)
-                if end < len(self.text) or not self.read():
-                    return found, end
-            except (ValueError, RecursionError) as error:
+                if not self._is_number_open(at) or not self._read_as_much(at, most):
+                    break
+            except RecursionError:
+                raise self.too_deep(at, depth) from None
+            except ValueError as error:
                 wrong, why = fault(self.text, at, error)
-                is_cut = isinstance(error, json.JSONDecodeError) and (wrong + NEAR > len(self.text) or self.text[wrong] == '"')
-                if not is_cut or not self.read():
+                if not self._is_cut(wrong, error) or not self._read_as_much(at, most):
                     raise self.wrong(wrong, why) from None
+        if is_deeper(self.text, at, end, DEEPEST - depth):
+            raise self.too_deep(at, depth)
+        return found, end
+
+    def _is_number_open(self, at: int) -> bool:
+        """Returns whether a number at a place may go on after the text."""
+        number = NUMBER.match(self.text, at) if self.text[at] in DIGITS else None
+        return number is not None and number.end() == len(self.text)
+
+    def _is_cut(self, wrong: int, error: ValueError) -> bool:
+        """Returns whether an error at a place may only mean that the text goes on."""
+        is_near = wrong + NEAR > len(self.text)
+        return isinstance(error, json.JSONDecodeError) and (is_near or error.msg.startswith("Unterminated string"))
+
+    def too_deep(self, at: int, depth: int) -> Wrong:
+        """Returns that too many arrays and objects are in one another in a value that is within `depth` others."""
+        return self.wrong(too_deep(self.text, at, DEEPEST - depth), f"too many arrays and objects in one another, more than {DEEPEST}")

@@ -1,4 +1,4 @@
-"""The processes that write records: this one alone, or several others, which end with it."""
+"""Who does the work of a command, piece by piece: this process alone, or several others, which end with it."""
 from __future__ import annotations
 
 import fcntl
@@ -7,30 +7,40 @@ import pickle
 import select
 import signal
 from contextlib import suppress
-from typing import Callable, Dict, List, NoReturn, Optional, Tuple, Union
+from typing import Callable, Dict, Generic, List, NoReturn, Optional, Protocol, Tuple, TypeVar, Union
 
-from .. import interrupts
-from ..errors import ProgramError
-from .records import Chunk
-from .source import wait
-from .worker import Worker, Written
+from . import interrupts
+from .errors import ProgramError
+from .files import wait
 
 PIPE_SIZE, F_SETPIPE_SZ = 1_048_576, 1031
 AHEAD = 4
-Make = Callable[[], Worker]
-Sink = Callable[[Written], None]
+Piece = TypeVar("Piece")
+Done = TypeVar("Done")
+_Piece = TypeVar("_Piece", contravariant=True)
+_Done = TypeVar("_Done", covariant=True)
 
 
-class Alone:
-    """Writes each chunk in this process."""
+class Worker(Protocol[_Piece, _Done]):
+    """What does the work, by kept runs of the program."""
 
-    def __init__(self, make: Make, sink: Sink) -> None:
+    def write(self, piece: _Piece) -> _Done:
+        """Returns what becomes of a piece."""
+
+    def close(self) -> None:
+        """Ends the runs."""
+
+
+class Alone(Generic[Piece, Done]):
+    """Does each piece in this process."""
+
+    def __init__(self, make: Callable[[], Worker[Piece, Done]], sink: Callable[[Done], None]) -> None:
         self._worker, self._sink = make(), sink
         self.wait = wait
 
-    def submit(self, chunk: Chunk) -> None:
-        """Writes a chunk."""
-        self._sink(self._worker.write(chunk))
+    def submit(self, piece: Piece) -> None:
+        """Does a piece."""
+        self._sink(self._worker.write(piece))
 
     def close(self) -> None:
         """Ends the runs of the program."""
@@ -46,62 +56,64 @@ def _pipe() -> Tuple[int, int]:
     return ends
 
 
-def _found(worker: Worker, chunk: Chunk) -> Union[Written, Exception]:
+def _done(worker: Worker[Piece, Done], piece: Piece) -> Union[Done, Exception]:
     try:
-        return worker.write(chunk)
+        return worker.write(piece)
     except Exception as error:
         return error
 
 
-def _serve(make: Make, given: int, found: int, others: List[int]) -> NoReturn:
-    """Writes the chunks that come by a pipe until it is closed, which it is when the parent ends."""
+def _serve(make: Callable[[], Worker[Piece, Done]], given: int, done: int, others: List[int]) -> NoReturn:
+    """Does the pieces that come by a pipe until it is closed, which it is when the parent ends."""
+    status = 1
     try:
         interrupts.leave_to_parent()
         for file in others:
             os.close(file)
         worker = make()
-        with open(given, "rb") as chunks, open(found, "wb") as written, suppress(EOFError, BrokenPipeError):
+        with open(given, "rb") as pieces, open(done, "wb") as written, suppress(EOFError, BrokenPipeError):
             while True:
-                pickle.dump(_found(worker, pickle.load(chunks)), written, pickle.HIGHEST_PROTOCOL)
+                pickle.dump(_done(worker, pickle.load(pieces)), written, pickle.HIGHEST_PROTOCOL)
                 written.flush()
         worker.close()
+        status = 0
     finally:
-        os._exit(0)
+        os._exit(status)
 
 
-class Child:
-    """A process that was forked off. It has at most one chunk, whose number is `number`."""
+class Child(Generic[Piece, Done]):
+    """A process that was forked off. It has at most one piece, whose number is `number`."""
 
-    def __init__(self, make: Make, others: List["Child"]) -> None:
+    def __init__(self, make: Callable[[], Worker[Piece, Done]], others: List[Child[Piece, Done]]) -> None:
         given, given_to = _pipe()
-        found_by, found = _pipe()
+        done_by, done = _pipe()
         with interrupts.held():
             self._pid = os.fork()
             if not self._pid:
-                _serve(make, given, found, [given_to, found_by, *(file for other in others for file in other.files())])
+                _serve(make, given, done, [given_to, done_by, *(file for other in others for file in other.files())])
             interrupts.CHILDREN.add(self._pid)
         os.close(given)
-        os.close(found)
-        self._given, self._found = open(given_to, "wb"), open(found_by, "rb")
+        os.close(done)
+        self._given, self._done = open(given_to, "wb"), open(done_by, "rb")
         self.number: Optional[int] = None
 
     def files(self) -> Tuple[int, int]:
-        """Returns the ends of the pipes in this process: the first takes chunks, the second has what became of them."""
-        return self._given.fileno(), self._found.fileno()
+        """Returns the ends of the pipes in this process: the first takes pieces, the second has what became of them."""
+        return self._given.fileno(), self._done.fileno()
 
-    def send(self, number: int, chunk: Chunk) -> None:
-        """Gives the process a chunk."""
+    def send(self, number: int, piece: Piece) -> None:
+        """Gives the process a piece."""
         self.number = number
         with suppress(BrokenPipeError):
-            pickle.dump(chunk, self._given, pickle.HIGHEST_PROTOCOL)
+            pickle.dump(piece, self._given, pickle.HIGHEST_PROTOCOL)
             self._given.flush()
 
-    def receive(self) -> Union[Written, Exception]:
-        """Returns what became of the chunk. Raises `ProgramError` if the process has ended."""
+    def receive(self) -> Union[Done, Exception]:
+        """Returns what became of the piece. Raises `ProgramError` if the process has ended."""
         self.number = None
         try:
-            found: Union[Written, Exception] = pickle.load(self._found)
-            return found
+            done: Union[Done, Exception] = pickle.load(self._done)
+            return done
         except (EOFError, pickle.UnpicklingError):
             status = self.end()
         how = f"was ended by {signal.Signals(-status).name}" if status < 0 else f"ended with status {status}"
@@ -119,37 +131,37 @@ class Child:
         with interrupts.held():
             interrupts.CHILDREN.discard(pid)
         status = os.waitstatus_to_exitcode(os.waitpid(pid, 0)[1])
-        self._found.close()
+        self._done.close()
         return status
 
 
-class Pool:
-    """Writes chunks in several processes, and gives them to `sink` in order."""
+class Pool(Generic[Piece, Done]):
+    """Does pieces in several processes, and gives what becomes of them to `sink` in order."""
 
-    def __init__(self, processes: int, make: Make, sink: Sink) -> None:
+    def __init__(self, processes: int, make: Callable[[], Worker[Piece, Done]], sink: Callable[[Done], None]) -> None:
         # (wrong options are an error before a process is made)
         make().close()
         self._sink = sink
-        self._children: List[Child] = []
+        self._children: List[Child[Piece, Done]] = []
         for _ in range(processes):
             self._children.append(Child(make, self._children))
-        self._done: Dict[int, Union[Written, Exception]] = {}
+        self._done: Dict[int, Union[Done, Exception]] = {}
         self._begun = self._ended = 0
 
-    def submit(self, chunk: Chunk) -> None:
-        """Gives a chunk to a process, and waits for one if each has a chunk."""
+    def submit(self, piece: Piece) -> None:
+        """Gives a piece to a process, and waits for one if each has a piece."""
         while len(self._busy()) == len(self._children) or self._begun - self._ended >= AHEAD * len(self._children):
             self._receive()
         child = next(child for child in self._children if child.number is None)
-        child.send(self._begun, chunk)
+        child.send(self._begun, piece)
         self._begun += 1
 
     def wait(self, file: int) -> None:
-        """Takes what the processes have written, until the file can be read."""
+        """Takes what the processes have done, until the file can be read."""
         while file not in self._receive(file):
             pass
 
-    def _busy(self) -> List[Child]:
+    def _busy(self) -> List[Child[Piece, Done]]:
         return [child for child in self._children if child.number is not None]
 
     def _receive(self, *files: int) -> List[int]:
@@ -162,11 +174,11 @@ class Pool:
             if (number := child.number) is not None and child.files()[1] in ready:
                 self._done[number] = child.receive()
         while self._ended in self._done:
-            found = self._done.pop(self._ended)
-            if isinstance(found, Exception):
-                raise found
+            done = self._done.pop(self._ended)
+            if isinstance(done, Exception):
+                raise done
             self._ended += 1
-            self._sink(found)
+            self._sink(done)
         return ready
 
     def finish(self) -> None:
@@ -180,3 +192,8 @@ class Pool:
         """Ends the processes, whatever they do."""
         for child in self._children:
             child.end(is_killed=True)
+
+
+def pool_of(processes: int, make: Callable[[], Worker[Piece, Done]], sink: Callable[[Done], None]) -> Union[Alone[Piece, Done], Pool[Piece, Done]]:
+    """Returns this process alone, or several others."""
+    return Alone(make, sink) if processes == 1 else Pool(processes, make, sink)

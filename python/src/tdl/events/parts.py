@@ -5,8 +5,10 @@ import re
 from enum import IntEnum
 from typing import Dict, List, NamedTuple, Protocol, Tuple
 
-# the most that is held of a document for one event or one other piece of it, in characters of JSON or bytes of XML
+# the most bytes of an event, or in XML of a tag or a comment
 LARGEST = 1 << 24
+# the most arrays and objects of JSON in one another, from an event's or, outside the events, from the document's on
+DEEPEST = 256
 # the size of a part
 CHUNK = 1 << 20
 # how a text begins that is an EPC or may be a Digital Link

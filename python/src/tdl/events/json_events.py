@@ -28,11 +28,11 @@ class JsonEvents(NamedTuple):
         for number, event in enumerate(decoded, 1):
             json_identifiers(event, JSON_EVENT, number, found)
         candidates = [f'"{text}"' for text, _, _, style in found if style is STRING]
-        kept = _around(self.text, candidates)
+        kept = around(self.text, candidates)
         return _walked(self.text, self.size) if kept is None else Located(kept, candidates, found, len(decoded), CODEC)
 
 
-def _around(text: str, candidates: List[str]) -> Optional[List[str]]:
+def around(text: str, candidates: List[str]) -> Optional[List[str]]:
     """Returns the texts around the candidates, or None if one of them stands elsewhere too or has escapes.
 
     Without a backslash each match is a whole string, and each string that begins as a candidate does is matched.
