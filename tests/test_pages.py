@@ -14,8 +14,8 @@ DIFFERS = re.compile(r"^# Differences from the (standards?|system)$", re.MULTILI
 WRONG_BODY = re.compile(r"^\| `(\w+)/(\w+)` \|", re.MULTILINE)
 # the libraries of the program of vectors, and the callers that docs/LIBRARY.md shows, are not part of tdl
 BESIDE = ("vectors_", "uses")
-# the objects of the system and the handles of C are in no case: adapter_tests and tests/test_library.py try them
-WITHOUT_EXAMPLE = {"gs_port_system", "tdl_c", "tdl_session"}
+# the objects of the system, their records and the handles of C are in no case: adapter_tests and tests/test_library.py try them
+WITHOUT_EXAMPLE = {"gs_history", "gs_port_system", "tdl_c", "tdl_session"}
 # the call of the crate is for what a load has accepted, or takes a request, so its case goes through the call of this one
 THROUGH = {"gs_tables_migration": "gs_tables", "tdl_loads": "tdl_run"}
 KNOWN = set(cases())

@@ -10,8 +10,8 @@ use scripted::{
     a_connection_has_a_budget_of_time, a_scripted_door_answers_by_its_script,
     an_accept_goes_on_after_errors_of_the_network, an_accept_waits_for_what_the_system_lacks,
     each_connection_has_a_budget_of_its_own, interrupted_calls_of_a_connection_are_made_again,
-    scripted_files_answer_by_their_script, scripted_streams_answer_by_their_script,
-    the_first_error_and_the_last_name_are_kept,
+    records_take_no_bytes, scripted_files_answer_by_their_script,
+    scripted_streams_answer_by_their_script, the_first_error_and_the_last_name_are_kept,
 };
 use std::io;
 use system::{
@@ -84,6 +84,7 @@ fn try_scripted(rt: HostRuntime) -> io::Result<()> {
             "the first error and the last name are kept",
             the_first_error_and_the_last_name_are_kept(rt.alloc()),
         ),
+        ("records take no bytes", records_take_no_bytes()),
     ];
     for (name, passed) in tests {
         say(rt, name, Ok(passed))?;

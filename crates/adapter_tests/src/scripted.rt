@@ -1,10 +1,12 @@
 //! The objects over scripted calls of the system. The test gives the answer to each call.
 
 use crate::exchanges::{echo_once, moves_of, outcome};
+use gs_history::{History, Names};
 use gs_port::{AcceptAnswer, Door, Files, OpenAnswer, ReadAnswer, Sink, Source, WriteAnswer};
 use gs_port_system::{HostFiles, ScriptedAnswer, ScriptedCalls, StdinSource, StdoutSink, TcpDoor};
 use std::alloc::Global;
 use std::io::{Error, ErrorKind};
+use std::mem::size_of;
 
 /// Returns a script of these first answers, which then fails for ever.
 fn script(first: ScriptedAnswer, second: ScriptedAnswer, third: ScriptedAnswer) -> ScriptedCalls {
@@ -171,4 +173,9 @@ pub fn a_scripted_door_answers_by_its_script() -> bool {
     matches!(first_accept(again), AcceptAnswer::Accepted)
         && matches!(first_accept(failing), AcceptAnswer::Failed)
         && matches!(TcpDoor::new(closed).open("here"), OpenAnswer::Memory)
+}
+
+/// Tests that what contracts alone know of moved bytes and names takes no bytes.
+pub fn records_take_no_bytes() -> bool {
+    size_of::<History>() == 0 && size_of::<Names>() == 0
 }

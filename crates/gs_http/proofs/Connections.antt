@@ -6,7 +6,7 @@ use Rattle.std.proofs.lemmas.Bool.{cases_order, eq-eqb, false≢true, ne_eqb}
 use Rattle.gs_ai.specs.declared.row.AiRow.{AiRow}
 use Rattle.gs_chars.proofs.TruthsAndLists.{or_first}
 use Rattle.gs_links.specs.declared.link.Link.{Link}
-use Rattle.gs_port.specs.Contents.{append_known, append_nothing, append_twice, prepend_known, prepend_nothing, prepend_twice}
+use Rattle.gs_port.specs.Contents.{prepend_known, prepend_nothing, prepend_twice}
 use Rattle.gs_port.specs.Counts.{count_if}
 use Rattle.gs_port.specs.States.{ConnState}
 use Rattle.gs_http.specs.declared.buffer.Filled.TheVariants as filled
@@ -98,8 +98,8 @@ module _ (table : List AiRow) (links : List Link) (settings : Settings) where
     pub are : AreReplies table links settings n heads replies
     pub stay : has_closing replies ≡ false
     pub moved : before.left ≡ prepend_known (bytes_of heads ++ bytes) now.left
-    pub took : now.taken ≡ append_known before.taken (bytes_of heads ++ bytes)
-    pub wrote : now.held ≡ append_known before.held (all_bytes replies)
+    pub took : now.taken ≡ before.taken ++ (bytes_of heads ++ bytes)
+    pub wrote : now.held ≡ before.held ++ (all_bytes replies)
     pub rest : now ≡ moved_on errored now before
     pub cut : (more : List ℕ) → heads_of n ((bytes_of heads ++ bytes) ++ more) ≡ heads ++ heads_of (n - i) (bytes ++ more)
     pub few : length bytes ≤ 12287
@@ -113,8 +113,8 @@ module _ (table : List AiRow) (links : List Link) (settings : Settings) where
     are = tt;
     stay = refl;
     moved = sym (prepend_nothing conn.left);
-    took = sym (append_nothing conn.taken);
-    wrote = sym (append_nothing conn.held);
+    took = sym (append-nil conn.taken);
+    wrote = sym (append-nil conn.held);
     rest = refl;
     cut = λ more. let e : n ≡ n - 0 = omega arith in ap (λ k. heads_of k more) e;
     few = omega arith;
@@ -135,11 +135,11 @@ module _ (table : List AiRow) (links : List Link) (settings : Settings) where
         stay = x.stay;
         moved = x.moved ∙ ap (prepend_known (bytes_of x.heads ++ bytes)) r.moved ∙ prepend_twice
             (bytes_of x.heads ++ bytes) r.bytes now.left ∙ ap (λ front. prepend_known front now.left) all;
-        took = ap (λ (s : ConnState). s.taken) r.rest ∙ ap (λ known. append_known known r.bytes) x.took
-            ∙ append_twice first.taken (bytes_of x.heads ++ bytes) r.bytes ∙ ap (append_known first.taken) all;
+        took = ap (λ (s : ConnState). s.taken) r.rest ∙ ap (λ known. known ++ r.bytes) x.took
+            ∙ append_assoc first.taken (bytes_of x.heads ++ bytes) r.bytes ∙ ap (λ more. first.taken ++ more) all;
         wrote = ap (λ (s : ConnState). s.held) r.rest ∙ x.wrote;
         rest = ap (λ (s : ConnState). record s { left = now.left; taken = now.taken; held = now.held })
-            (r.rest ∙ ap (λ (s : ConnState). record s { left = now.left; taken = append_known before.taken r.bytes; reads = count_if errored s.reads }) x.rest);
+            (r.rest ∙ ap (λ (s : ConnState). record s { left = now.left; taken = before.taken ++ r.bytes; reads = count_if errored s.reads }) x.rest);
         cut = λ more.
             let whole : (bytes_of x.heads ++ bytes) ++ (r.bytes ++ more) ≡ (bytes_of x.heads ++ grown) ++ more =
             sym (append_assoc (bytes_of x.heads ++ bytes) r.bytes more) ∙ ap (λ front. front ++ more) all in
@@ -174,11 +174,11 @@ module _ (table : List AiRow) (links : List Link) (settings : Settings) where
         are = are_append table links settings n x.heads (Some head ∷ []) x.replies (reply ∷ []) x.are (is_last, tt);
         stay = closing_append x.replies (reply ∷ []) x.stay ∙ rw stays refl;
         moved = x.moved ∙ ap (λ front. prepend_known front before.left) all;
-        took = x.took ∙ ap (append_known first.taken) all;
-        wrote = ap (λ known. append_known known reply.bytes) x.wrote ∙ append_twice first.held (all_bytes x.replies) reply.bytes
-            ∙ ap (λ more. append_known first.held (all_bytes x.replies ++ more)) (sym (append-nil reply.bytes)) ∙ ap (append_known first.held)
+        took = x.took ∙ ap (λ more. first.taken ++ more) all;
+        wrote = ap (λ known. known ++ reply.bytes) x.wrote ∙ append_assoc first.held (all_bytes x.replies) reply.bytes
+            ∙ ap (λ more. first.held ++ (all_bytes x.replies ++ more)) (sym (append-nil reply.bytes)) ∙ ap (λ more. first.held ++ more)
             (sym (all_append x.replies (reply ∷ [])));
-        rest = ap (λ (s : ConnState). record s { held = append_known before.held reply.bytes }) x.rest;
+        rest = ap (λ (s : ConnState). record s { held = before.held ++ reply.bytes }) x.rest;
         cut = λ more.
             let here = heads_headed n i bytes more len low ends in
             ap (λ front. heads_of n (front ++ more)) (sym all) ∙ x.cut more
@@ -219,7 +219,7 @@ module _ (table : List AiRow) (links : List Link) (settings : Settings) where
           answered = i;
           moved = x.moved;
           took = x.took;
-          wrote = ap (λ known. append_known known part) x.wrote ∙ append_twice first.held (all_bytes x.replies) part;
+          wrote = ap (λ known. known ++ part) x.wrote ∙ append_assoc first.held (all_bytes x.replies) part;
           is_rest = rest_is before.left;
           are_replies = subst (λ (heads : List (Option (List ℕ))). AreReplies table links settings n heads (x.replies ++ tail)) (sym cut) all;
           begun = (begins.0, replied ∙ ap (λ more. all_bytes x.replies ++ more) begins.1 ∙ sym (append_assoc (all_bytes x.replies) part begins.0));
@@ -230,7 +230,7 @@ module _ (table : List AiRow) (links : List Link) (settings : Settings) where
               let same : length (bytes_of (take i (heads_of n (read ++ rest)))) ≡ length (bytes_of x.heads) = ap (λ heads. length (bytes_of heads)) taken_heads in
               omega arith;
         },
-        ap (λ (s : ConnState). record s { held = append_known before.held part; writes = count_if faulted s.writes }) x.rest,
+        ap (λ (s : ConnState). record s { held = before.held ++ part; writes = count_if faulted s.writes }) x.rest,
       )
     where
       done : (served : Served) (a tail : List Reply) (part : List ℕ) → replies_of (a ++ tail) ≡ all_bytes a ++ replies_of tail → has_closing a ≡ false

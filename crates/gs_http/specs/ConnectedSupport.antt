@@ -1,6 +1,6 @@
 -- Definitions for proofs and private functions, in addition to ServedStreams.antt.
 use Rattle.std.specs.Prelude.{◌≡◌, ◌≢◌, ◌<◌, ◌≤◌, ◌⊎◌, ⊤, ℕ, Bool, true, false, List, [], ◌++◌, length, take, Option, Some, None, IfSome}
-use Rattle.gs_port.specs.Contents.{append_known, prepend_known}
+use Rattle.gs_port.specs.Contents.{prepend_known}
 use Rattle.gs_port.specs.Counts.{count_if}
 use Rattle.gs_port.specs.States.{ConnState}
 use Rattle.gs_port.specs.declared.sink.Whole.{Whole}
@@ -13,7 +13,7 @@ use Rattle.gs_http.specs.Streams.{head_end}
 
 -- the connection with these bytes after those written to it, and one more failed write if one was counted
 abbrev pub sent_to : ConnState → List ℕ → Bool → ConnState
-sent_to conn bytes errored = record conn { held = append_known conn.held bytes; writes = count_if errored conn.writes }
+sent_to conn bytes errored = record conn { held = conn.held ++ bytes; writes = count_if errored conn.writes }
 
 -- holds if all of these bytes were written with `Done`, and otherwise a prefix of them; only `SinkFault` counted an error
 abbrev pub Sends : Whole → List ℕ → ConnState → ConnState → Type 0
@@ -26,7 +26,7 @@ pub record Fetches (held held' : List ℕ) (errored : Bool) (before now : ConnSt
   pub bytes : List ℕ
   pub grown : held' ≡ held ++ bytes
   pub moved : before.left ≡ prepend_known bytes now.left
-  pub rest : now ≡ record before { left = now.left; taken = append_known before.taken bytes; reads = count_if errored before.reads }
+  pub rest : now ≡ record before { left = now.left; taken = before.taken ++ bytes; reads = count_if errored before.reads }
 
 -- holds if nothing is left, if that is known
 abbrev pub NothingLeft : Option (List ℕ) → Type 0

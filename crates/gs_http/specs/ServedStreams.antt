@@ -2,7 +2,7 @@
 use Rattle.std.specs.Prelude.{◌≡◌, ◌⊎◌, ◌≤◌, ⊤, ℕ, ◌+◌, true, List, [], ◌++◌, length, take, IfSome}
 use Rattle.gs_ai.specs.declared.row.AiRow.{AiRow}
 use Rattle.gs_links.specs.declared.link.Link.{Link}
-use Rattle.gs_port.specs.Contents.{append_known, prepend_known}
+use Rattle.gs_port.specs.Contents.{prepend_known}
 use Rattle.gs_port.specs.Counts.{counted}
 use Rattle.gs_port.specs.States.{ConnState}
 use Rattle.gs_http.specs.declared.connection.Served.{Served}
@@ -57,8 +57,8 @@ pub record IsServed (most : ℕ) (table : List AiRow) (links : List Link) (setti
   pub replies : List Reply
   pub answered : ℕ
   pub moved : before.left ≡ prepend_known read now.left
-  pub took : now.taken ≡ append_known before.taken read
-  pub wrote : now.held ≡ append_known before.held written
+  pub took : now.taken ≡ before.taken ++ read
+  pub wrote : now.held ≡ before.held ++ written
   pub is_rest : IfSome now.left (λ bytes. bytes ≡ rest)
   -- the replies are those of the stream, however it was cut
   pub are_replies : AreReplies table links settings most (heads_of most (read ++ rest)) replies

@@ -3,8 +3,8 @@ ghost use Rattle.std.specs.Bool.{OnTrue};
 ghost use Rattle.gs_port.specs.Counts.{count_if};
 ghost use Rattle.gs_port.specs.Outputs.{Writes};
 ghost use Rattle.gs_translate.specs.Translations.{AreInOrder, translating_by};
-ghost use Rattle.tdl_lines.specs.Inputs.{IsAtEnd, TakesAtMost, TakesMoreThan};
-ghost use Rattle.tdl_lines.specs.Outputs.{WritesAnswers};
+ghost use Rattle.tdl_lines.specs.Inputs.{IsReadToEnd, TakesAtMost, TakesMoreThan};
+ghost use Rattle.tdl_lines.specs.Outputs.{AnswersMoved, WritesAnswers};
 ghost use Rattle.tdl_lines.specs.Statuses.{is_answered, is_status};
 ghost use Rattle.tdl_answers.specs.TranslatedAnswers.{IsTranslatedLine};
 ghost use Rattle.tdl_answers.specs.LongLines.{long_translated};
@@ -77,11 +77,15 @@ pub fn answer_lines<S: Source, K: Sink>(
         (K.state output.old) (K.state output.new) (λ out.
         WritesAnswers (IsTranslatedLine (translating_by set.now prefixes.now options.now from to)) limit
         (S.state input.old).left (S.state input.new).left out result) }
+
+    // The same of the bytes that the reads moved, whether or not the input is known.
+    ensures moved { AnswersMoved (IsTranslatedLine (translating_by set.now prefixes.now options.now from to)) limit result
+        (S.state input.old).moved (S.state input.new).moved (K.state output.old) (K.state output.new) }
     ensures no_usage { result ≢ Status.Usage }
     ensures no_rejection { result ≢ Status.Refused }
 
     // The bytes taken.
-    ensures read_to_end { OnTrue (is_answered result) (IsAtEnd (S.state input.new).left) }
+    ensures read_to_end { OnTrue (is_answered result) (IsReadToEnd (S.state input.new)) }
     ensures input_long { OnTrue (is_status result Status.InputLong)
         (TakesMoreThan limit (S.state input.old).left (S.state input.new).left) }
     ensures few { TakesAtMost (limit + 1) (S.state input.old).left (S.state input.new).left }

@@ -1,7 +1,7 @@
 -- What a run takes from the load of its files.
-use Rattle.std.proofs.Common.{◌≡◌, ◌⊎◌, ℕ, ◌≤◌, List, ap, inl, inr, refl, ◌∙◌, arith}
+use Rattle.std.proofs.Common.{◌≡◌, ◌⊎◌, ℕ, ◌≤◌, ap, inl, inr, ◌∙◌, arith}
 use Rattle.std.proofs.lemmas.Grind.{common_steps}
-use Rattle.std.specs.Prelude.{Bool, true, false, Result, Ok, Err}
+use Rattle.std.specs.Prelude.{Bool, true, false, Result, Err}
 use Rattle.gs_port.specs.Counts.{Rises, count_if}
 use Rattle.gs_port.specs.States.{FilesState}
 use Rattle.tdl_messages.specs.declared.file_kind.FileKind.{FileKind}
@@ -9,21 +9,15 @@ use Rattle.tdl_arguments.specs.Requests.{Asked, names_in_order}
 use Rattle.tdl_loads.specs.declared.loads.Loaded.{Loaded}
 use Rattle.tdl_loads.specs.declared.loads.Unloaded.{Unloaded}
 use Rattle.tdl_loads.specs.declared.loads.Unloaded.TheVariants as unloaded
-use Rattle.tdl_loads.specs.Loads.{FilesGive, OpensUpTo, Stop, is_load_short, kind_of, missing, named_up_to}
+use Rattle.tdl_loads.specs.Loads.{FilesGive, OpensUpTo, Stop, missing, named_up_to}
 use Rattle.tdl_loads.specs.LoadsSupport.{LoadedBy, Loads, after_load}
-use Rattle.tdl_loads.proofs.OpenedNames.{opens_as}
-use Rattle.gs_port.specs.Files.{FilesHeld}
 
--- ---- the names that were opened, if memory that was lost in the load was lost in the run
+-- ---- the names that were opened
 
-pub opens_up_to : {As : Type 0} {before now : FilesState} (lost : Bool) (asked : Asked) (answer : Result Loaded Unloaded)
-    → (is_load_short answer ≡ true → lost ≡ true)
+pub opens_up_to : {As : Type 0} {before now : FilesState} (asked : Asked) (answer : Result Loaded Unloaded)
     → Loads (λ known. FilesGive known asked) (λ k. named_up_to k asked.files) (names_in_order asked.files) As before now answer
-    → OpensUpTo lost before.files asked before.opened now.opened
-opens_up_to {before = before} {now = now} lost asked answer also l = record {
-  first = opens_as (is_load_short answer) lost (names_in_order asked.files) before.opened now.opened also l.opened;
-  decided = λ known stop is gives. opens_as (is_load_short answer) lost (named_up_to (kind_of stop) asked.files) before.opened now.opened also (l.decided known stop is gives);
-}
+    → OpensUpTo before.files asked before.opened now.opened
+opens_up_to asked answer l = record { first = l.opened; decided = l.decided }
 
 -- ---- the count of errors of the files
 

@@ -1,13 +1,12 @@
 -- The effect of a load on the files, by that of its steps.
-use Rattle.std.proofs.Common.{ℕ, ◌+◌, ◌≤◌, List, Option, Some, None, [], ◌++◌, ◌∷◌, ◌≡◌, ◌⊎◌, suc, zero, take, length, refl, sym, ap, subst, ◌∙◌, inl, inr, arith}
+use Rattle.std.proofs.Common.{ℕ, ◌+◌, ◌≤◌, List, Option, Some, None, [], ◌++◌, ◌∷◌, ◌≡◌, ◌⊎◌, suc, zero, take, length, refl, sym, ap, subst, ◌∙◌, inl, inr, append-nil, arith}
 use Rattle.std.proofs.lemmas.Grind.{common_steps}
 use Rattle.std.specs.Prelude.{Bool, true, false, Result, Ok, Err}
 use Rattle.gs_port.specs.Answers.{after_file}
 use Rattle.gs_port.specs.Counts.{count_if}
-use Rattle.gs_port.specs.Files.{AddsNames, BeginsFile, IsAbsent, IsFile, counted_if_found, counted_if_there, file_of, with_names, FilesHeld}
+use Rattle.gs_port.specs.Files.{BeginsFile, IsAbsent, IsFile, counted_if_found, counted_if_there, file_of, FilesHeld}
 use Rattle.gs_port.specs.States.{FilesState}
 use Rattle.gs_port.specs.declared.files.FileFault.TheVariants as file
-use Rattle.gs_port.proofs.Names.{surely_added}
 use Rattle.gs_translate.specs.Steps.{Then, goes_on, rejects}
 use Rattle.tdl_messages.specs.declared.file_kind.FileKind.{FileKind}
 use Rattle.tdl_messages.specs.declared.rejection.FileFault.{FileFault}
@@ -16,11 +15,11 @@ use Rattle.tdl_messages.specs.declared.rejection.Rejection.{Rejection}
 use Rattle.tdl_messages.specs.Rejections.{file_limit}
 use Rattle.tdl_loads.specs.declared.loads.Unloaded.{Unloaded}
 use Rattle.tdl_loads.specs.declared.loads.Unloaded.TheVariants as unloaded
-use Rattle.tdl_loads.specs.Loads.{BytesGive, FileGives, Gives, Opens, OpensFirst, StandsFor, Stop, absent, is_load_short, is_short, judged, kind_of, missing, of_verdict, rejected, too_large}
+use Rattle.tdl_loads.specs.Loads.{BytesGive, FileGives, Gives, OpensFirst, StandsFor, Stop, absent, judged, kind_of, missing, of_verdict, rejected, too_large}
 use Rattle.tdl_loads.specs.LoadsSupport.{AreBytes, LoadedBy, Loads, LoadsOne, after_load}
 use Rattle.tdl_loads.proofs.FileLoads.{loads_on, not_loaded}
 use Rattle.tdl_loads.proofs.LoadLemmas.{AreAlikeAll, not_alike, same_given}
-use Rattle.tdl_loads.proofs.OpenedNames.{added_both, adds_given, adds_none, opens_all, opens_anyway, opens_both, whatever_given}
+use Rattle.tdl_loads.proofs.OpenedNames.{added_both, adds_given, opens_all, opens_both, whatever_given}
 
 -- ---- the bytes of a file that is named
 
@@ -100,36 +99,26 @@ failed A u = Err u
 same_error : {A B : Type 0} (u v : Unloaded) → failed A u ≡ failed A v → failed B u ≡ failed B v
 same_error {A = A} {B = B} u v e = let f : u ≡ v = cc in ap (failed B) f
 
-all_by : {A : Type 0} (names : List (List ℕ)) (before now : Option (List (List ℕ))) (answer : Result A Unloaded)
-    → AddsNames (is_load_short answer) before names now → Opens names before now answer
-all_by names before now (Ok a) adds = surely_added before now names adds
-all_by names before now (Err u) adds = tt
-
-rejected_by : {A : Type 0} (names : List (List ℕ)) (before now : Option (List (List ℕ))) (answer : Result A Unloaded) (rejection : Rejection)
-    → AddsNames (is_load_short answer) before names now → answer ≡ Err (unloaded.Refused rejection) → now ≡ with_names before names
-rejected_by {A = A} names before now answer rejection adds is =
-    surely_added before now names (subst (λ (answer : Result A Unloaded). AddsNames (is_load_short answer) before names now) is adds)
-
 module _ {A : Type 0} (Give : Option FilesHeld → Result A Stop → Type 0) (names : List (List ℕ)) (As : Type 0) (before now : FilesState) where
   loads_by : (answer : Result A Unloaded) (errored : Bool) → now ≡ after_load errored now before
       → (errored ≡ true → answer ≡ Err unloaded.ReadFault) → LoadedBy (Give before.files) errored answer
-      → AddsNames (is_load_short answer) before.opened names now.opened → (names ≡ [] → As) → LoadsOne Give names As before now answer
+      → now.opened ≡ before.opened ++ names → (names ≡ [] → As) → LoadsOne Give names As before now answer
   loads_by answer errored rest faulted loaded adds unopened = record {
     errored = errored;
     rest = rest;
     faulted = faulted;
     loaded = loaded;
-    opened = opens_all (is_load_short answer) names before.opened now.opened adds;
-    all_opened = all_by names before.opened now.opened answer adds;
-    to_rejected = λ rejection is. rejected_by names before.opened now.opened answer rejection adds is;
-    decided = λ known stop is gives. opens_all (is_load_short answer) names before.opened now.opened adds;
+    opened = opens_all names before.opened now.opened adds;
+    all_opened = whatever_given answer _ adds;
+    to_rejected = λ rejection is. adds;
+    decided = λ known stop is gives. opens_all names before.opened now.opened adds;
     unopened = unopened;
   }
 
 -- no file was named
 pub loads_none : (kind : FileKind) (As : Type 0) (files : FilesState) → As → LoadsOne (λ known. BytesGive known kind None) [] As files files (Ok None)
 loads_none kind As files unchanged =
-    loads_by (λ known. BytesGive known kind None) [] As files files (Ok None) false refl (λ e. absurd cc) (record { verdict = Ok None; judged = refl; is = refl }) (adds_none false files.opened) (λ none. unchanged)
+    loads_by (λ known. BytesGive known kind None) [] As files files (Ok None) false refl (λ e. absurd cc) (record { verdict = Ok None; judged = refl; is = refl }) (sym (append-nil files.opened)) (λ none. unchanged)
 
 -- the count of errors after a file could not be read
 failed_by : (files : Option FilesHeld) (name : List ℕ) (count : ℕ) → (errored : Bool) × (counted_if_there files name count ≡ count_if errored count) × ((errored ≡ true) ⊎ IsAbsent files name)
@@ -150,23 +139,23 @@ module _ (kind : FileKind) (name : List ℕ) (As : Type 0) (before now : FilesSt
   is_named none = absurd (let e : name ∷ [] ≡ [] = none in cc)
 
   pub loads_read : (bytes : List ℕ) → IsFile before.files name bytes → length bytes ≤ file_limit kind
-      → AddsNames false before.opened (name ∷ []) now.opened → now ≡ after_load false now before → OfFile (Ok (Some bytes))
+      → now.opened ≡ before.opened ++ name ∷ [] → now ≡ after_load false now before → OfFile (Ok (Some bytes))
   loads_read bytes is few adds rest =
       loads_by (λ known. BytesGive known kind (Some name)) (name ∷ []) As before now (Ok (Some bytes)) false rest (λ e. absurd cc)
       (judged bytes (Ok (Some bytes)) is few refl refl) adds is_named
 
   pub loads_over : (bytes : List ℕ) → BeginsFile before.files name bytes → length bytes ≡ file_limit kind + 1
-      → AddsNames false before.opened (name ∷ []) now.opened → now ≡ after_load false now before
+      → now.opened ≡ before.opened ++ name ∷ [] → now ≡ after_load false now before
       → OfFile (Err (unloaded.Refused (record { kind = kind; error = Over })))
   loads_over bytes begins over adds rest =
       loads_by (λ known. BytesGive known kind (Some name)) (name ∷ []) As before now (Err (unloaded.Refused (record { kind = kind; error = Over }))) false rest (λ e. absurd cc)
       (too_large (bytes ++ begins.0) begins.1 (grind (arith, common_steps)) refl) adds is_named
 
-  pub loads_short : AddsNames true before.opened (name ∷ []) now.opened → now ≡ after_load false now before → OfFile (Err unloaded.Memory)
+  pub loads_short : now.opened ≡ before.opened ++ name ∷ [] → now ≡ after_load false now before → OfFile (Err unloaded.Memory)
   loads_short adds rest =
       loads_by (λ known. BytesGive known kind (Some name)) (name ∷ []) As before now (Err unloaded.Memory) false rest (λ e. absurd cc) tt adds is_named
 
-  pub loads_failed : AddsNames false before.opened (name ∷ []) now.opened → now ≡ after_file (Err file.Failed) name now before
+  pub loads_failed : now.opened ≡ before.opened ++ name ∷ [] → now ≡ after_file (Err file.Failed) name now before
       → OfFile (Err unloaded.ReadFault)
   loads_failed adds rest =
       let f = failed_by before.files name before.errors in
@@ -189,10 +178,10 @@ module _ {A B : Type 0} {Give : Option FilesHeld → Result A Stop → Type 0} {
     rest = l.rest;
     faulted = no_fault a l.errored result l.faulted;
     loaded = g;
-    opened = opens_anyway (is_load_short result) names before.opened now.opened l.opened;
+    opened = l.opened;
     all_opened = whatever_given result _ l.all_opened;
     to_rejected = λ rejection is. l.all_opened;
-    decided = λ known stop is gives. opens_anyway (is_load_short result) names before.opened now.opened l.opened;
+    decided = λ known stop is gives. l.opened;
     unopened = l.unopened;
   }
 
@@ -218,11 +207,10 @@ first_of_both [] other (suc count) = (0, refl)
 first_of_both (x ∷ one) other zero = (0, refl)
 first_of_both (x ∷ one) other (suc count) = let m = first_of_both one other count in (suc m.0, ap (λ xs. x ∷ xs) m.1)
 
-opens_fewer : (lost : Bool) (one other : List (List ℕ)) (before now : Option (List (List ℕ))) → OpensFirst lost one before now
-    → OpensFirst lost (one ++ other) before now
-opens_fewer lost one other before now o =
+opens_fewer : (one other before now : List (List ℕ)) → OpensFirst one before now → OpensFirst (one ++ other) before now
+opens_fewer one other before now o =
     let m = first_of_both one other o.0 in
-    (m.0, subst (λ names. AddsNames lost before names now) (sym m.1) o.1)
+    (m.0, o.1 ∙ ap (λ names. before ++ names) (sym m.1))
 
 no_name : (one other : List (List ℕ)) → one ++ other ≡ [] → (one ≡ []) × (other ≡ [])
 no_name [] other e = (refl, e)
@@ -250,21 +238,21 @@ module _ {A B : Type 0} {First : Option FilesHeld → Result A Stop → Type 0} 
     rest = l.rest;
     faulted = λ e. same_error u unloaded.ReadFault (l.faulted e);
     loaded = not_loaded (First before.files) (Next before.files) l.errored u l.loaded;
-    opened = opens_fewer (is_short u) one other before.opened now.opened l.opened;
+    opened = opens_fewer one other before.opened now.opened l.opened;
     all_opened = tt;
     to_rejected = to_rejected;
     decided = decided;
     unopened = λ none. l.unopened (no_name one other none).0;
   }
     where
-      to_rejected : (rejection : Rejection) → failed B u ≡ failed B (unloaded.Refused rejection) → now.opened ≡ with_names before.opened (up rejection.kind)
+      to_rejected : (rejection : Rejection) → failed B u ≡ failed B (unloaded.Refused rejection) → now.opened ≡ before.opened ++ up rejection.kind
       to_rejected rejection is =
           let same : u ≡ unloaded.Refused rejection = cc in
           let gives : First before.files (Err (rejected rejection)) = subst (λ (v : Unloaded). LoadedBy (First before.files) l.errored (Err v)) same l.loaded in
-          l.to_rejected rejection (ap Err same) ∙ ap (with_names before.opened) (sym (row.first before.files (rejected rejection) gives))
+          l.to_rejected rejection (ap Err same) ∙ ap (λ names. before.opened ++ names) (sym (row.first before.files (rejected rejection) gives))
 
       decided : (known : FilesHeld) (stop : Stop) → before.files ≡ Some known → Then (First before.files) (Next before.files) (Err stop)
-          → OpensFirst (is_short u) (up (kind_of stop)) before.opened now.opened
+          → OpensFirst (up (kind_of stop)) before.opened now.opened
       decided known stop is (rejects stop' gives e) =
           let given : Result B Stop = Err stop in
           let f : given ≡ Err stop' = e in
@@ -272,7 +260,7 @@ module _ {A B : Type 0} {First : Option FilesHeld → Result A Stop → Type 0} 
           let g : First before.files (Err stop) = rw same gives in
           rw (row.first before.files stop g) (l.decided known stop is g)
       decided known stop is (goes_on a gives n) = rw (row.next before.files a stop n)
-          (opens_fewer (is_short u) one (up_next (kind_of stop)) before.opened now.opened l.opened)
+          (opens_fewer one (up_next (kind_of stop)) before.opened now.opened l.opened)
 
   -- the first gives something
   pub next_loads : {X : Type 0} {x y z : X} {before between now : FilesState} {other : List (List ℕ)} (a : A) (answer : Result B Unloaded)
@@ -283,7 +271,7 @@ module _ {A B : Type 0} {First : Option FilesHeld → Result A Stop → Type 0} 
     rest = m.rest ∙ ap (after_load m.errored now) (l.rest ∙ ap (λ errored. after_load errored between before) (error_free a l.errored l.faulted));
     faulted = m.faulted;
     loaded = loads_on (First before.files) (Next before.files) m.errored a answer l.loaded next;
-    opened = opens_both (is_load_short answer) before.opened between.opened now.opened one other l.all_opened m.opened;
+    opened = opens_both before.opened between.opened now.opened one other l.all_opened m.opened;
     all_opened = adds_given answer before.opened between.opened now.opened one other l.all_opened m.all_opened;
     to_rejected = to_rejected;
     decided = decided;
@@ -296,24 +284,24 @@ module _ {A B : Type 0} {First : Option FilesHeld → Result A Stop → Type 0} 
       next : LoadedBy (Next before.files a) m.errored answer
       next = subst (λ files. LoadedBy (Next files a) m.errored answer) same_files m.loaded
 
-      to_rejected : (rejection : Rejection) → answer ≡ Err (unloaded.Refused rejection) → now.opened ≡ with_names before.opened (up rejection.kind)
+      to_rejected : (rejection : Rejection) → answer ≡ Err (unloaded.Refused rejection) → now.opened ≡ before.opened ++ up rejection.kind
       to_rejected rejection is =
           let gives : Next before.files a (Err (rejected rejection)) = subst (λ (v : Result B Unloaded). LoadedBy (Next before.files a) m.errored v) is next in
           added_both before.opened between.opened now.opened one (up_next rejection.kind) l.all_opened (m.to_rejected rejection is)
-          ∙ ap (with_names before.opened) (sym (row.next before.files a (rejected rejection) gives))
+          ∙ ap (λ names. before.opened ++ names) (sym (row.next before.files a (rejected rejection) gives))
 
       moved : (known : FilesHeld) (answer : Result A Stop) → before.files ≡ Some known → First before.files answer → First (Some known) answer
       moved known answer is gives = rw is at gives
 
       decided : (known : FilesHeld) (stop : Stop) → before.files ≡ Some known → Then (First before.files) (Next before.files) (Err stop)
-          → OpensFirst (is_load_short answer) (up (kind_of stop)) before.opened now.opened
+          → OpensFirst (up (kind_of stop)) before.opened now.opened
       decided known stop is (rejects stop' gives e) =
           absurd (not_alike stop' a (row.alike known (Ok a) (Err stop') (moved known (Ok a) is l.loaded) (moved known (Err stop') is gives)))
       decided known stop is (goes_on a' gives n) =
           let same : a ≡ a' = same_given a a' (row.alike known (Ok a) (Ok a') (moved known (Ok a) is l.loaded) (moved known (Ok a') is gives)) in
           let here : Next before.files a (Err stop) = rw same n in
           let later : Next between.files a (Err stop) = rw same_files here in
-          rw (row.next before.files a stop here) (opens_both (is_load_short answer) before.opened between.opened now.opened one (up_next (kind_of stop)) l.all_opened (m.decided known stop (same_files ∙ is) later))
+          rw (row.next before.files a stop here) (opens_both before.opened between.opened now.opened one (up_next (kind_of stop)) l.all_opened (m.decided known stop (same_files ∙ is) later))
 
 -- ---- a load, and a last step that reads no file
 

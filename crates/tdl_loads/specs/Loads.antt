@@ -21,7 +21,7 @@ use Rattle.gs_linktext.specs.ReadAnswers.{IsReadAs, IsReadError}
 use Rattle.gs_linktext_grammar.specs.declared.error.LinkTextFault.{LinkTextFault}
 use Rattle.gs_linktext_grammar.specs.declared.error.LinkTextFault.TheVariants as text
 use Rattle.gs_merge.specs.MergedDocuments.{merge_answer}
-use Rattle.gs_port.specs.Files.{AddsNames, IsAbsent, IsFile, with_names, FilesHeld}
+use Rattle.gs_port.specs.Files.{IsAbsent, IsFile, FilesHeld}
 use Rattle.gs_prefix.specs.Answers.{load_answer}
 use Rattle.gs_prefix.specs.declared.entry.PrefixEntry.{PrefixEntry}
 use Rattle.gs_tables.specs.Shapes.{BuiltInAnswer, HasMemory, LoadAnswer}
@@ -40,7 +40,6 @@ use Rattle.tdl_arguments.specs.Requests.{Asked, FileNames, LinksName, as_text, d
 use Rattle.tdl_loads.specs.declared.loads.Loaded.{Loaded}
 use Rattle.tdl_loads.specs.declared.loads.TablesWithSource.{TablesWithSource}
 use Rattle.tdl_loads.specs.declared.loads.Unloaded.{Unloaded}
-use Rattle.tdl_loads.specs.declared.loads.Unloaded.TheVariants.{Refused, ReadFault, Memory as OutOfMemory}
 
 -- trusted, own: the reason why a run stops at its files: the file of a kind is missing, or one is rejected
 pub data Stop : Type 0 where
@@ -229,21 +228,9 @@ Loading files asked Fact = (loaded : Loaded) × FilesGive files asked (Ok loaded
 abbrev pub Stopping : Option FilesHeld → Asked → (Stop → Type 0) → Type 0
 Stopping files asked Fact = (stop : Stop) × FilesGive files asked (Err stop) × Fact stop
 
--- trusted, own: holds if files are not loaded because memory ran out
-abbrev pub is_short : Unloaded → Bool
-is_short (Refused rejection) = false
-is_short ReadFault = false
-is_short OutOfMemory = true
-
--- trusted, own: holds if memory ran out in a load
-abbrev pub is_load_short : {A : Type 0} → Result A Unloaded → Bool
-is_load_short (Ok a) = false
-is_load_short (Err unloaded) = is_short unloaded
-
--- trusted, own: Holds if only the first of `names` were opened, in their order. The opened ones may be unknown instead only if
--- `lost` is true.
-abbrev pub OpensFirst : Bool → List (List ℕ) → Option (List (List ℕ)) → Option (List (List ℕ)) → Type 0
-OpensFirst lost names before now = (count : ℕ) × AddsNames lost before (take count names) now
+-- trusted, own: holds if only the first of `names` were opened, in their order
+abbrev pub OpensFirst : List (List ℕ) → List (List ℕ) → List (List ℕ) → Type 0
+OpensFirst names before now = (count : ℕ) × (now ≡ before ++ take count names)
 
 -- trusted, own: the names of the files up to the one of a kind, in their order; second and third links are merged after both are
 -- loaded
@@ -257,14 +244,14 @@ named_up_to kind.Classes files = names_in_order files
 named_up_to other files = tables_named files ++ links_named files
 
 -- trusted, own: Holds if only the first of the named files were opened, in their order. If the files are known, none was opened
--- after the one at which the run stops. The opened ones may be unknown instead only if `lost` is true.
-pub record OpensUpTo (lost : Bool) (files : Option FilesHeld) (asked : Asked) (before now : Option (List (List ℕ))) : Type 0 where
-  pub first : OpensFirst lost (names_in_order asked.files) before now
-  pub decided : (known : FilesHeld) (stop : Stop) → files ≡ Some known → FilesGive files asked (Err stop) → OpensFirst lost (named_up_to (kind_of stop) asked.files) before now
+-- after the one at which the run stops.
+pub record OpensUpTo (files : Option FilesHeld) (asked : Asked) (before now : List (List ℕ)) : Type 0 where
+  pub first : OpensFirst (names_in_order asked.files) before now
+  pub decided : (known : FilesHeld) (stop : Stop) → files ≡ Some known → FilesGive files asked (Err stop) → OpensFirst (named_up_to (kind_of stop) asked.files) before now
 
 -- trusted, own: holds if, once the load succeeded, all of `names` and no others were opened, in their order
-abbrev pub Opens : {A : Type 0} → List (List ℕ) → Option (List (List ℕ)) → Option (List (List ℕ)) → Result A Unloaded → Type 0
-Opens names before now answer = IfOk answer (λ _. now ≡ with_names before names)
+abbrev pub Opens : {A : Type 0} → List (List ℕ) → List (List ℕ) → List (List ℕ) → Result A Unloaded → Type 0
+Opens names before now answer = IfOk answer (λ _. now ≡ before ++ names)
 
 -- trusted, own: The place of an ambiguity, at which a text has two derivations. It is a level of the tables and a pair of its
 -- options, or a pair of classes.

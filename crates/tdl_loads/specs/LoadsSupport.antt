@@ -7,7 +7,7 @@ use Rattle.gs_links.specs.declared.link.Link.{Link}
 use Rattle.gs_linkset.specs.declared.link_types.Context.{Context}
 use Rattle.gs_linkset.specs.Answers.{read_answer}
 use Rattle.gs_port.specs.Counts.{count_if}
-use Rattle.gs_port.specs.Files.{with_names, FilesHeld}
+use Rattle.gs_port.specs.Files.{FilesHeld}
 use Rattle.gs_port.specs.States.{FilesState}
 use Rattle.gs_prefix.specs.Answers.{load_answer}
 use Rattle.gs_prefix.specs.declared.entry.PrefixEntry.{PrefixEntry}
@@ -26,7 +26,7 @@ use Rattle.tdl_loads.specs.declared.loads.Tabled.{Tabled}
 use Rattle.tdl_loads.specs.declared.loads.TablesWithSource.{TablesWithSource}
 use Rattle.tdl_loads.specs.declared.loads.Unloaded.{Unloaded}
 use Rattle.tdl_loads.specs.declared.loads.Unloaded.TheVariants.{Refused, ReadFault, Memory}
-use Rattle.tdl_loads.specs.Loads.{BytesGive, ClassesGive, LinksGive, Opens, OpensFirst, OtherGives, PrefixesGive, StandsFor, Stop, TablesGive, UnnamedClasses, is_load_short, is_of_classes, kind_of, links_verdict, merging, missing, of_verdict, other_verdict, rejected}
+use Rattle.tdl_loads.specs.Loads.{BytesGive, ClassesGive, LinksGive, Opens, OpensFirst, OtherGives, PrefixesGive, StandsFor, Stop, TablesGive, UnnamedClasses, is_of_classes, kind_of, links_verdict, merging, missing, of_verdict, other_verdict, rejected}
 use Rattle.tdl_messages.specs.declared.rejection.FileFault.TheVariants.{Prefixes}
 
 -- ---- the results of the files, part by part: tables and prefixes, links, settings, classes
@@ -151,17 +151,16 @@ after_load errored now files =
 -- trusted, own: Holds if `answer`, of a load of the files `names` between two moments, is the result of the files. An error was
 -- counted only with a read fault. The first of the names were opened, in their order: all if the load succeeded, and those up
 -- to the rejected file if one is rejected. The function `up_to` gives the names up to the file of a kind. No file was opened after
--- the one at which the load stops, if the files are known. The opened names may be unknown only if memory ran out. If there are
--- no names, the files are unchanged.
+-- the one at which the load stops, if the files are known. If there are no names, the files are unchanged.
 pub record Loads {A : Type 0} (Give : Option FilesHeld → Result A Stop → Type 0) (up_to : FileKind → List (List ℕ)) (names : List (List ℕ)) (AsTheyWere : Type 0) (before now : FilesState) (answer : Result A Unloaded) : Type 0 where
   pub errored : Bool
   pub rest : now ≡ after_load errored now before
   pub faulted : errored ≡ true → answer ≡ Err ReadFault
   pub loaded : LoadedBy (Give before.files) errored answer
-  pub opened : OpensFirst (is_load_short answer) names before.opened now.opened
+  pub opened : OpensFirst names before.opened now.opened
   pub all_opened : Opens names before.opened now.opened answer
-  pub to_rejected : (rejection : Rejection) → answer ≡ Err (Refused rejection) → now.opened ≡ with_names before.opened (up_to rejection.kind)
-  pub decided : (known : FilesHeld) (stop : Stop) → before.files ≡ Some known → Give before.files (Err stop) → OpensFirst (is_load_short answer) (up_to (kind_of stop)) before.opened now.opened
+  pub to_rejected : (rejection : Rejection) → answer ≡ Err (Refused rejection) → now.opened ≡ before.opened ++ up_to rejection.kind
+  pub decided : (known : FilesHeld) (stop : Stop) → before.files ≡ Some known → Give before.files (Err stop) → OpensFirst (up_to (kind_of stop)) before.opened now.opened
   pub unopened : names ≡ [] → AsTheyWere
 
 -- holds if `answer` is that of a load of one file, or of none

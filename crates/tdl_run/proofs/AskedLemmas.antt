@@ -1,5 +1,5 @@
 -- The outcome of a request, by how its files were loaded and how its command ran.
-use Rattle.std.proofs.Common.{◌≡◌, ◌≢◌, ◌⊎◌, inl, inr, ℕ, ◌+◌, ◌≤◌, Bool, true, false, List, [], Option, refl, sym, ap, ◌∙◌, arith}
+use Rattle.std.proofs.Common.{◌≡◌, ◌≢◌, ◌⊎◌, inl, inr, ℕ, ◌+◌, ◌++◌, ◌≤◌, Bool, false, List, [], Option, refl, sym, ap, arith, append-nil}
 use Rattle.std.specs.Prelude.{Result, Ok, Err}
 use Rattle.std.specs.Bool.{OnTrue}
 use Rattle.tdl_lines.specs.declared.status.Status.{Status}
@@ -7,7 +7,6 @@ use Rattle.tdl_lines.specs.declared.status.Status.TheVariants as status
 use Rattle.tdl_lines.specs.Printers.{IsInitialPart, PrintedAs}
 use Rattle.tdl_lines.specs.Statuses.{is_answered, is_cut_short, is_status, is_written}
 use Rattle.tdl_lines.proofs.StatusLemmas.{when_always, when_map}
-use Rattle.gs_port.specs.Contents.{append_known}
 use Rattle.gs_port.specs.Counts.{Rises}
 use Rattle.gs_port.specs.States.{ConnState, FilesState, SinkState, SourceState}
 use Rattle.gs_translate.specs.StepsSupport.{HasSome}
@@ -19,13 +18,13 @@ use Rattle.tdl_arguments.specs.Requests.{Asked, names_in_order}
 use Rattle.tdl_loads.specs.declared.loads.Loaded.{Loaded}
 use Rattle.tdl_loads.specs.declared.loads.Unloaded.{Unloaded}
 use Rattle.tdl_loads.specs.declared.loads.Unloaded.TheVariants as unloaded
-use Rattle.tdl_loads.specs.Loads.{FilesGive, Stop, is_short, missing, named_up_to, rejected}
+use Rattle.tdl_loads.specs.Loads.{FilesGive, Stop, missing, named_up_to, rejected}
 use Rattle.tdl_loads.specs.LoadsSupport.{LoadedBy, Loads, after_load}
 use Rattle.tdl_loads.proofs.ClassLoads.{classes_kept}
 use Rattle.tdl_loads.proofs.LoadFacts.{fault_cause, no_fewer, opens_up_to}
 use Rattle.tdl_loads.proofs.LoadLemmas.{files_some}
 use Rattle.tdl_loads.proofs.ReadLemmas.{loaded_of}
-use Rattle.tdl_run.specs.CommandRuns.{BeginsOne, CutShort}
+use Rattle.tdl_run.specs.CommandRuns.{BeginsOne, CutShort, with_left}
 use Rattle.tdl_run.specs.RanSupport.{AskedEnded, AskedRun, CommandEnded, CommandLeft, CommandRan, CommandRun, Ends, LeavesOutcome}
 use Rattle.tdl_run.specs.Requests.{AskedRan, IsReport, Reports, RequestRan, world_at}
 use Rattle.tdl_run.specs.Runs.{Moment, World, WritesAfterError, moment_of, stopped}
@@ -91,8 +90,8 @@ asked_of_command asked files files' before now loaded outcome gives counts r =
     }
 
 -- the output of a request after a read error
-ended_asked : (Same A : Type 0) (asked : Asked) (files : Option (List (List ℕ × List ℕ))) (before now held holds : Option (List ℕ)) (loaded : Loaded) (output : List ℕ)
-    → FilesGive files asked (Ok loaded) → holds ≡ append_known held output
+ended_asked : (Same A : Type 0) (asked : Asked) (files : Option (List (List ℕ × List ℕ))) (before now : Option (List ℕ)) (held holds : List ℕ) (loaded : Loaded) (output : List ℕ)
+    → FilesGive files asked (Ok loaded) → holds ≡ held ++ output
     → (Same × (output ≡ [])) ⊎ (A × CommandEnded asked.command asked.values loaded before now output)
     → (Same × Appends held holds (λ out. out ≡ [])) ⊎ (A × Appends held holds (AskedEnded asked files before now))
 ended_asked Same A asked files before now held holds loaded output gives wrote (inl both) = inl (both.0, (output, wrote, both.1))
@@ -122,9 +121,18 @@ pub request_of_command : (asked : Asked) (SameFiles SameInput SameDoor : Type 0)
 request_of_command asked SameFiles SameInput SameDoor files files' before now loaded s l none same r =
     let a = r.ran in
     let w = a.2 in
-    let left = door_left (is_status s status.Memory) before.door now.door (uses_door asked.command) asked.values.listen none (λ unused. same (r.unserved unused)) r.used in
+    let left = door_left before.door now.door (uses_door asked.command) asked.values.listen none (λ unused. same (r.unserved unused)) r.used in
     record {
       ran = (a.0, a.1, (w.0, w.1, asked_of_command asked files files' before now loaded _ l.loaded (no_fewer l.errored files files' l.rest) w.2));
+      moved = λ lines. let m = r.moved lines in let b = m.2 in let v = b.2 in
+          let first : Ends = record before { input = with_left m.0 before.input } in let last : Ends = record now { input = with_left [] now.input } in (
+            m.0,
+            m.1,
+            (
+              (b.0, b.1, (v.0, v.1, asked_of_command asked files files' first last loaded _ l.loaded (no_fewer l.errored files files' l.rest) v.2)),
+              ended_of_command SameInput asked files.files first last loaded s l.loaded r.unread b,
+            ),
+          );
       read_error = ended_of_command SameInput asked files.files before now loaded s l.loaded r.unread r.ran;
       served = λ heads. inl (loaded, l.loaded, r.served heads);
       unread = r.unread;
@@ -136,7 +144,7 @@ request_of_command asked SameFiles SameInput SameDoor files files' before now lo
       waiting = left.1;
       listens = λ uses. let used = r.used uses in inl used.listens;
       door_counts = r.door_counts;
-      opened = opens_up_to (is_status s status.Memory) asked (Ok loaded) (λ e. absurd (let f : false ≡ true = e in cc)) l;
+      opened = opens_up_to asked (Ok loaded) l;
       all_opened = when_always (is_answered s) l.all_opened;
       unopened = l.unopened;
       known = ap (λ (f : FilesState). f.files) l.rest;
@@ -224,15 +232,9 @@ reports_unanswered (unloaded.Refused rejection) out s r = rejection_unanswered (
 reports_unanswered unloaded.ReadFault out s r = ap is_answered r.0
 reports_unanswered unloaded.Memory out s r = ap is_answered r.0
 
--- memory that ran out in a load is reported
-reports_short : (why : Unloaded) (out : List ℕ) (s : Status) → IsReport why out s → is_short why ≡ true → is_status s status.Memory ≡ true
-reports_short (unloaded.Refused rejection) out s r e = absurd (let f : false ≡ true = e in cc)
-reports_short unloaded.ReadFault out s r e = absurd (let f : false ≡ true = e in cc)
-reports_short unloaded.Memory out s r e = ap (λ (ending : Status). is_status ending status.Memory) r.0
-
 -- nothing was written after a read error
-reports_nothing : (Same Counted : Type 0) (IsEnded : List ℕ → Type 0) (why : Unloaded) (out : List ℕ) (s : Status) (held held' : Option (List ℕ))
-    → Same → held' ≡ append_known held out → IsReport why out s
+reports_nothing : (Same Counted : Type 0) (IsEnded : List ℕ → Type 0) (why : Unloaded) (out : List ℕ) (s : Status) (held held' : List ℕ)
+    → Same → held' ≡ held ++ out → IsReport why out s
     → OnTrue (is_status s status.ReadFault) (WritesAfterError Same Counted held held' IsEnded)
 reports_nothing Same Counted IsEnded (unloaded.Refused rejection) out s held held' same wrote r = no_read_error _ (rejected_line rejection) out s r
 reports_nothing Same Counted IsEnded unloaded.ReadFault out s held held' same wrote r = rw r.0 (inl (same, (out, wrote, r.1)))
@@ -247,6 +249,15 @@ request_of_report asked SameFiles SameInput SameDoor files files' input output o
     record {
       ran = leaves_door output output' door s (AskedRan asked (moment_of files input output door) (moment_of files' input output' door))
           (w.0, w.1, asked_of_report asked files files' input output output' door (no_fewer l.errored files files' l.rest) l.errored why w.0 s l.rest l.loaded w.2);
+      moved = λ lines. (
+        [],
+        sym (append-nil input.moved),
+        (
+          leaves_door output output' door s (AskedRan asked (moment_of files (with_left [] input) output door) (moment_of files' (with_left [] input) output' door))
+              (w.0, w.1, asked_of_report asked files files' (with_left [] input) output output' door (no_fewer l.errored files files' l.rest) l.errored why w.0 s l.rest l.loaded w.2),
+          reports_nothing SameInput _ _ why w.0 s output.held output'.held same_input (ap (λ (sink : SinkState). sink.held) w.1) w.2,
+        ),
+      );
       read_error = reports_nothing SameInput _ _ why w.0 s output.held output'.held same_input (ap (λ (sink : SinkState). sink.held) w.1) w.2;
       served = λ heads. inr (same_input, unanswered);
       unread = λ unused. same_input;
@@ -258,7 +269,7 @@ request_of_report asked SameFiles SameInput SameDoor files files' input output o
       waiting = none_finish door.aside;
       listens = λ uses. inr (refl, unanswered);
       door_counts = omega arith;
-      opened = opens_up_to (is_status s status.Memory) asked (Err why) (reports_short why w.0 s w.2) l;
+      opened = opens_up_to asked (Err why) l;
       all_opened = rw unanswered tt;
       unopened = l.unopened;
       known = ap (λ (f : FilesState). f.files) l.rest;

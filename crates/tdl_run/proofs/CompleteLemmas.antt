@@ -18,7 +18,7 @@ use Rattle.tdl_loads.specs.Loads.{FilesGive, Stop, missing}
 use Rattle.tdl_run.specs.RanSupport.{AskedRun}
 use Rattle.tdl_run.specs.Runs.{DefinedRun, InputFits, IsWithin, LoadsAll, Moment, NoneRises, RunCause, World}
 use Rattle.tdl_run.specs.Works.{Doing, DoingRun, Doorway, Leaves, Outcome, answers, doing_of, input_limit, prints, resolves, serves, site_of}
-use Rattle.tdl_run.proofs.RunLemmas.{defined_of, read_error_of, write_error_of}
+use Rattle.tdl_run.proofs.RunLemmas.{in_world, read_error_of, write_error_of}
 
 -- ---- defined outcomes are answered
 
@@ -105,4 +105,4 @@ pub complete_of : {words : List (List ℕ)} {asked : Asked} {SameFiles SameInput
     → WordsInOrder words asked → RequestRan asked SameFiles SameInput SameDoor before now s → LoadsAll words before.files.files
     → InputFits words before.input.left → NoneRises before now → (is_answered s ≡ true) ⊎ (s ≡ status.Memory)
 complete_of {words = words} {before = before} {now = now} {s = s} order r loads fits none =
-    complete_by words before now loads fits none s (defined_of order r) (read_error_of order r) (write_error_of order r)
+    complete_by words before now loads fits none s (let w = in_world order r in w.defined) (read_error_of order r) (write_error_of order r)

@@ -1,5 +1,5 @@
 -- The effect of generating lines.
-use Rattle.std.proofs.Common.{◌≡◌, ℕ, List, refl}
+use Rattle.std.proofs.Common.{ℕ, List, refl}
 use Rattle.gs_port.specs.States.{ConnState, SinkState, SourceState}
 use Rattle.tdl_gen.specs.Counters.{PrintsGenerated}
 use Rattle.tdl_lines.specs.declared.status.Status.{Status}

@@ -1,11 +1,11 @@
 -- Each clause of a run, by the outcome of the request of the arguments.
-use Rattle.std.proofs.Common.{◌≡◌, ◌⊎◌, inl, inr, ℕ, ◌+◌, ◌≤◌, Bool, true, false, List, [], ◌∷◌, refl, ◌∙◌, ap, arith}
+use Rattle.std.proofs.Common.{◌≡◌, ◌⊎◌, inl, inr, ℕ, ◌+◌, ◌≤◌, Bool, true, false, List, [], ◌∷◌, Option, Some, refl, sym, ◌∙◌, ap, append-nil, arith}
 use Rattle.std.specs.Bool.{OnTrue}
 use Rattle.std.specs.List.{Contains}
 use Rattle.std.proofs.lemmas.Bool.{false_from_ne_true}
 use Rattle.tdl_lines.specs.declared.status.Status.{Status}
 use Rattle.tdl_lines.specs.declared.status.Status.TheVariants as status
-use Rattle.tdl_lines.specs.Inputs.{IsAtEnd, TakesAtMost}
+use Rattle.tdl_lines.specs.Inputs.{IsReadToEnd, TakesAtMost}
 use Rattle.tdl_lines.specs.Printers.{IsInitialPart, WritesLine}
 use Rattle.tdl_lines.specs.Statuses.{is_answered, is_cut_short, is_status, is_written}
 use Rattle.tdl_lines.proofs.StatusLemmas.{when_always, when_map}
@@ -16,12 +16,12 @@ use Rattle.tdl_arguments.specs.declared.command.Command.{Command}
 use Rattle.tdl_arguments.specs.Commands.{answers_heads, answers_lines, reads_input, uses_door}
 use Rattle.tdl_arguments.specs.Requests.{Asked, AsksFor, NamesNoFile, NotInOrder, WordsInOrder, names_in_order, usage_line}
 use Rattle.tdl_arguments.proofs.RequestLemmas.{one_request}
-use Rattle.tdl_run.specs.CommandRuns.{BeginsOne, CutShort}
-use Rattle.tdl_run.specs.RanSupport.{AskedEnded, AskedRun}
-use Rattle.tdl_run.specs.Requests.{ReadCause, RequestRan, world_at}
-use Rattle.tdl_run.specs.Runs.{DefinedRun, EndedRun, FinishedRun, IsRejected, ListensAt, LoadsSome, Moment, OpensAll, RunCause, ServesInput, World, WritesAfterError}
+use Rattle.tdl_run.specs.CommandRuns.{BeginsOne, CutShort, with_left}
+use Rattle.tdl_run.specs.RanSupport.{AskedEnded, AskedRun, LeavesOutcome}
+use Rattle.tdl_run.specs.Requests.{AskedRan, ReadCause, RequestRan, world_at}
+use Rattle.tdl_run.specs.Runs.{DefinedRun, EndedRun, FinishedRun, IsRejected, ListensAt, LoadsSome, Moment, OpensAll, RanIn, RanOnMoved, RunCause, ServesInput, World, WritesAfterError}
 use Rattle.tdl_run.specs.Works.{Appends, Leaves, Outcome, input_limit, outcome_of}
-use Rattle.tdl_run.proofs.RanLemmas.{PrintedCase, error, never_falls, no_memory, none_more, printed_case, rises_if, whole}
+use Rattle.tdl_run.proofs.RanLemmas.{PrintedCase, error, never_falls, no_memory, printed_case, rises_if, whole}
 
 same_test : (test : Command → Bool) (words : List (List ℕ)) (asked : Asked) → WordsInOrder words asked → AsksFor test words → test asked.command ≡ true
 same_test test words asked order asks =
@@ -56,30 +56,51 @@ cause_of words asked before now order (inl rises) = inl rises
 cause_of words asked before now order (inr (inl rises)) = inr (inl rises)
 cause_of words asked before now order (inr (inr gives)) = inr (inr (record { asked = asked; order = order; fact = gives }))
 
+-- what a request left in a world
+ran_in : {words : List (List ℕ)} {asked : Asked} → WordsInOrder words asked → (before now : Moment) (s : Status)
+    → LeavesOutcome before.output now.output before.door now.door s (AskedRan asked before now)
+    → RanIn words (world_at before) s before.output.held now.output.held before.door.aside.finished now.door.aside.finished
+ran_in {words} {asked} order before now s a =
+    let w = a.2 in
+    let held = ap (λ (sink : SinkState). sink.held) w.1 in
+    record {
+      defined = when_map (is_written s) (λ run. (a.0, a.1, (w.0, held, inl (record { asked = asked; order = order; fact = run })))) w.2.written;
+      begun = when_map (is_cut_short s)
+          (λ (b : BeginsOne (AskedRun asked (world_at before)) w.0). (w.0, held, record { outcome = b.outcome; is = inl (record { asked = asked; order = order; fact = b.is }); begins = b.begins })) w.2.begun;
+      cut = when_map (is_status s status.WriteFault)
+          (λ (c : CutShort (AskedRun asked (world_at before)) (record { output = w.0; finished = a.0; status = s })).
+          (a.0, a.1, (w.0, held, record { outcome = c.outcome; is = inl (record { asked = asked; order = order; fact = c.is }); begins = c.begins; same_finished = c.same_finished }))) w.2.cut;
+    }
+
 module _ {words : List (List ℕ)} {asked : Asked} (order : WordsInOrder words asked) {SameFiles SameInput SameDoor : Type 0} {before now : Moment} {s : Status}
     (r : RequestRan asked SameFiles SameInput SameDoor before now s) where
-  pub defined_of : OnTrue (is_written s) (Leaves before.output.held now.output.held before.door.aside.finished now.door.aside.finished s (DefinedRun words (world_at before)))
-  defined_of = let a = r.ran in let w = a.2 in when_map (is_written s)
-      (λ run. (a.0, a.1, (w.0, ap (λ (sink : SinkState). sink.held) w.1, inl (record { asked = asked; order = order; fact = run })))) w.2.written
-
-  pub begun_of : OnTrue (is_cut_short s) (Appends before.output.held now.output.held (BeginsOne (DefinedRun words (world_at before))))
-  begun_of = let a = r.ran in let w = a.2 in when_map (is_cut_short s)
-      (λ (b : BeginsOne (AskedRun asked (world_at before)) w.0). (w.0, ap (λ (sink : SinkState). sink.held) w.1, record { outcome = b.outcome; is = inl (record { asked = asked; order = order; fact = b.is }); begins = b.begins })) w.2.begun
+  pub in_world : RanIn words (world_at before) s before.output.held now.output.held before.door.aside.finished now.door.aside.finished
+  in_world = ran_in order before now s r.ran
 
   pub finished_of : OnTrue (is_cut_short s) (Leaves before.output.held now.output.held before.door.aside.finished now.door.aside.finished s (FinishedRun words (world_at before)))
   finished_of = let a = r.ran in let w = a.2 in when_map (is_cut_short s)
       (λ f. (a.0, a.1, (w.0, ap (λ (sink : SinkState). sink.held) w.1, inl (record { asked = asked; order = order; fact = f })))) w.2.finished
 
-  pub cut_of : OnTrue (is_status s status.WriteFault) (Leaves before.output.held now.output.held before.door.aside.finished now.door.aside.finished s (CutShort (DefinedRun words (world_at before))))
-  cut_of = let a = r.ran in let w = a.2 in when_map (is_status s status.WriteFault)
-      (λ (c : CutShort (AskedRun asked (world_at before)) (record { output = w.0; finished = a.0; status = s })).
-      (a.0, a.1, (w.0, ap (λ (sink : SinkState). sink.held) w.1, record { outcome = c.outcome; is = inl (record { asked = asked; order = order; fact = c.is }); begins = c.begins; same_finished = c.same_finished }))) w.2.cut
+  -- the output after a read error
+  ended_words : (left left' : Option (List ℕ))
+      → WritesAfterError SameInput (Rises before.input.errors now.input.errors) before.output.held now.output.held (AskedEnded asked before.files.files left left')
+      → WritesAfterError SameInput (Rises before.input.errors now.input.errors) before.output.held now.output.held (EndedRun words before.files.files left left')
+  ended_words left left' (inl same) = inl same
+  ended_words left left' (inr (counted, a)) = inr (counted, (a.0, a.1, record { asked = asked; order = order; fact = a.2 }))
+
+  pub moved_of : AsksFor answers_lines words → RanOnMoved SameInput words s before now
+  moved_of lines = let m = r.moved (same_test answers_lines words asked order lines) in let b = m.2 in (
+    m.0,
+    m.1,
+    ran_in order (record before { input = with_left m.0 before.input }) (record now { input = with_left [] now.input }) s b.0,
+    when_map (is_status s status.ReadFault) (ended_words (Some m.0) (Some [])) b.1,
+  )
 
   pub few_of : AsksFor answers_lines words → TakesAtMost (input_limit + 1) before.input.left now.input.left
   few_of lines = let a = r.ran in let w = a.2 in w.2.few (same_test answers_lines words asked order lines)
 
   -- the input is read to its end
-  pub to_end_of : AsksFor answers_lines words → OnTrue (is_answered s) (IsAtEnd now.input.left)
+  pub to_end_of : AsksFor answers_lines words → OnTrue (is_answered s) (IsReadToEnd now.input)
   to_end_of lines = let a = r.ran in let w = a.2 in when_map (is_answered s) (λ ends. ends (same_test answers_lines words asked order lines)) w.2.to_end
 
   -- if not all files are loaded, nothing is touched
@@ -94,7 +115,7 @@ module _ {words : List (List ℕ)} {asked : Asked} (order : WordsInOrder words a
   listens_of door = record { asked = asked; order = order; fact = r.listens (same_test uses_door words asked order door) }
 
   -- an input whose heads are answered
-  pub served_of : AsksFor answers_heads words → ServesInput SameInput words before.files.files s before.input.left now.input.left before.output.held now.output.held
+  pub served_of : AsksFor answers_heads words → ServesInput SameInput words before.files.files s before.input now.input before.output now.output
   served_of heads = record { asked = asked; order = order; fact = r.served (same_test answers_heads words asked order heads) }
 
   pub rejected_of : OnTrue (is_status s status.Refused) (IsRejected words before.files.files)
@@ -109,15 +130,9 @@ module _ {words : List (List ℕ)} {asked : Asked} (order : WordsInOrder words a
   pub output_counts_of : before.output.errors ≤ now.output.errors
   output_counts_of = let a = r.ran in let w = a.2 in written_counts before.output now.output w.0 s w.1
 
-  -- the output after a read error
-  ended_words : WritesAfterError SameInput (Rises before.input.errors now.input.errors) before.output.held now.output.held (AskedEnded asked before.files.files before.input.left now.input.left)
-      → WritesAfterError SameInput (Rises before.input.errors now.input.errors) before.output.held now.output.held (EndedRun words before.files.files before.input.left now.input.left)
-  ended_words (inl same) = inl same
-  ended_words (inr (counted, a)) = inr (counted, (a.0, a.1, record { asked = asked; order = order; fact = a.2 }))
-
   pub ended_of : OnTrue (is_status s status.ReadFault)
       (WritesAfterError SameInput (Rises before.input.errors now.input.errors) before.output.held now.output.held (EndedRun words before.files.files before.input.left now.input.left))
-  ended_of = when_map (is_status s status.ReadFault) ended_words r.read_error
+  ended_of = when_map (is_status s status.ReadFault) (ended_words before.input.left now.input.left) r.read_error
 
   pub unread_of : (AsksFor reads_input words → ⊥) → SameInput
   unread_of none = r.unread (asks_not reads_input words asked order none)
@@ -137,7 +152,7 @@ module _ {words : List (List ℕ)} (not : NotInOrder words) (world : World) (bef
     (w : WritesLine status.Usage usage_line s before now) where
   -- the outcome without finished connections
   leaves_usage : (fact : Outcome → Type 0) → fact (outcome_of w.0 s) → Leaves before.held now.held door.aside.finished door.aside.finished s fact
-  leaves_usage fact is = ([], none_more door.aside.finished, (w.0, ap (λ (sink : SinkState). sink.held) w.1, is))
+  leaves_usage fact is = ([], sym (append-nil door.aside.finished), (w.0, ap (λ (sink : SinkState). sink.held) w.1, is))
 
   usage_begins : IsInitialPart w.0 usage_line → BeginsOne (DefinedRun words world) w.0
   usage_begins part = record { outcome = outcome_of usage_line status.Usage; is = inr (not, refl); begins = part }

@@ -14,7 +14,7 @@ use Rattle.tdl_lines.specs.declared.status.Status.{Status}
 use Rattle.tdl_lines.specs.declared.status.Status.TheVariants as status
 use Rattle.tdl_lines.specs.Printers.{IsInitialPart}
 use Rattle.tdl_lines.specs.Statuses.{is_status}
-use Rattle.tdl_serve.specs.Doors.{CountsErrors, IsOver, OpensAt, ServeRan, line_of}
+use Rattle.tdl_serve.specs.Doors.{CountsErrors, IsOver, ServeRan, line_of}
 use Rattle.tdl_serve.specs.Sites.{AreSiteReplies, Replied}
 use Rattle.tdl_serve.specs.Visits.{AreVisits, IsVisit, Visit, Visited, entries_of, inputs_of, is_done, no_visit, one_visit, wants_memory}
 use Rattle.tdl_serve.proofs.DoneVisits.{done_visit, is_done_visit}
@@ -26,7 +26,7 @@ use Rattle.tdl_run.specs.CommandRuns.{BeginsOne, CutShort}
 use Rattle.tdl_run.specs.RanSupport.{CommandLeft, CommandRan, UsesDoor, ends_of}
 use Rattle.tdl_run.specs.Runs.{AlikeServed, AlikeVisits, more_visits, no_visits}
 use Rattle.tdl_run.specs.Works.{Doorway, FinishesFirst, Outcome, Serves, ServesFirst, doorway_of, served_outcome, site_of}
-use Rattle.tdl_run.proofs.RanLemmas.{never_falls, none_more, rises_if}
+use Rattle.tdl_run.proofs.RanLemmas.{never_falls, rises_if}
 use Rattle.tdl_run.proofs.SiteLemmas.{no_lines, one_replies_of_site}
 
 -- ---- some connections are served
@@ -37,7 +37,7 @@ done_visits site zero inputs = []
 done_visits site (suc n) [] = []
 done_visits site (suc n) (input ∷ inputs) = done_visit site input ∷ done_visits site n inputs
 
-are_done_visits : (site : SiteData) (reads writes n : ℕ) (inputs : List (List ℕ)) → AreVisits site true reads writes (done_visits site n inputs) reads writes
+are_done_visits : (site : SiteData) (reads writes n : ℕ) (inputs : List (List ℕ)) → AreVisits site reads writes (done_visits site n inputs) reads writes
 unfolding done_visits done_visit
 are_done_visits site reads writes zero inputs = no_visit reads writes
 are_done_visits site reads writes (suc n) [] = no_visit reads writes
@@ -86,7 +86,7 @@ serves_some site count door = by door.waiting refl
         visits = done_visits site count waiting;
         reads = door.reads;
         writes = door.writes;
-        are_visits = rw e (are_done_visits site door.reads door.writes count waiting);
+        are_visits = are_done_visits site door.reads door.writes count waiting;
         few = done_few site count waiting;
         first = rw e (done_inputs site count waiting);
         whole = done_whole site count waiting;
@@ -207,13 +207,14 @@ module _ (loaded : Loaded) (values : Values) (input : SourceState) (before now :
 
   pub serve_ran : {SameInput SameDoor : Type 0} (s : Status)
       → Writes (is_status s status.WriteFault) before now (λ output. ServeRan (site_of loaded) values.count door door' output s)
-      → OpensAt (is_status s status.Memory) values.listen door.aside door'.aside → CountsErrors s door.aside door'.aside → door'.is_open ≡ false
+      → door'.aside.addresses ≡ door.aside.addresses ++ values.listen ∷ [] → CountsErrors s door.aside door'.aside → door'.is_open ≡ false
       → SameInput → CommandRan Serve values loaded SameInput SameDoor (ends_of input before door) (ends_of input now door') s
   serve_ran s a opens count closed same =
       let r = a.2 in
       let visited = r.visited in
       record {
         ran = (entries_of r.visits, visited.finished, (a.0, a.1, served_as a.0 s r count));
+        moved = λ lines. absurd (false≢true lines);
         served = λ heads. absurd (false≢true heads);
         unread = λ none. same;
         unserved = λ none. absurd (false≢true (sym none));
@@ -239,14 +240,14 @@ still_wait (Some waiting) = refl
 
 -- an unchanged listener
 pub none_finish : (aside : Aside) → FinishesFirst aside aside
-none_finish aside = record { inputs = []; entries = []; waited = still_wait aside.waiting; finished = none_more aside.finished; as_many = refl }
+none_finish aside = record { inputs = []; entries = []; waited = still_wait aside.waiting; finished = sym (append-nil aside.finished); as_many = refl }
 
 -- a listener after a command, which is unchanged if the command does not use it
-pub door_left : (lost : Bool) (before now : ConnState) (uses : Bool) (listen : List ℕ) → before.is_open ≡ false → (uses ≡ false → now ≡ before)
-    → (uses ≡ true → UsesDoor lost listen now.is_open before.aside now.aside)
+pub door_left : (before now : ConnState) (uses : Bool) (listen : List ℕ) → before.is_open ≡ false → (uses ≡ false → now ≡ before)
+    → (uses ≡ true → UsesDoor listen now.is_open before.aside now.aside)
     → (now.is_open ≡ false) × FinishesFirst before.aside now.aside
-door_left lost before now true listen none same used = let u = used refl in (u.closed, u.waiting)
-door_left lost before now false listen none same used = rw (same refl) (none, none_finish before.aside)
+door_left before now true listen none same used = let u = used refl in (u.closed, u.waiting)
+door_left before now false listen none same used = rw (same refl) (none, none_finish before.aside)
 
 -- ---- two outcomes of one service
 
@@ -259,16 +260,15 @@ same_replies site input input' output output' e a b =
     a.all ∙ same ∙ sym b.all
 
 same_written : (site : SiteData) (reads writes reads' writes' : ℕ) (one other : Visit) → one.input ≡ other.input
-    → IsVisit site true reads writes one → IsVisit site true reads' writes' other → is_done one.served ≡ true → is_done other.served ≡ true
+    → IsVisit site reads writes one → IsVisit site reads' writes' other → is_done one.served ≡ true → is_done other.served ≡ true
     → one.entry.written ≡ other.entry.written
 same_written site reads writes reads' writes' one other e a b done done' =
-    let replied : Replied site one.input true a.written = rw done at a.replied in
-    let replied' : Replied site other.input true b.written = rw done' at b.replied in
-    let same = same_replies site one.input other.input a.written b.written e replied replied' in
-    a.is_written ∙ ap Some same ∙ sym b.is_written
+    let replied : Replied site one.input true one.entry.written = rw done at a.replied in
+    let replied' : Replied site other.input true other.entry.written = rw done' at b.replied in
+    same_replies site one.input other.input one.entry.written other.entry.written e replied replied'
 
 alike_visits : (site : SiteData) (reads writes reads' writes' : ℕ) (ones others : List Visit) (r w r' w' : ℕ)
-    → inputs_of ones ≡ inputs_of others → AreVisits site true reads writes ones r w → AreVisits site true reads' writes' others r' w'
+    → inputs_of ones ≡ inputs_of others → AreVisits site reads writes ones r w → AreVisits site reads' writes' others r' w'
     → AlikeVisits ones others
 alike_visits site reads writes reads' writes' [] [] r w r' w' e a b = no_visits
 alike_visits site reads writes reads' writes' [] (other ∷ others) r w r' w' e a b = absurd (let f : [] ≡ other.input ∷ inputs_of others = e in cc)

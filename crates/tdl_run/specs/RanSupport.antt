@@ -1,15 +1,14 @@
 -- Definitions next to those of Runs.antt, for proofs and private functions.
-use Rattle.std.specs.Prelude.{◌≡◌, ◌⊎◌, ℕ, ◌≤◌, Bool, true, false, List, [], ◌∷◌, ◌++◌, Option, Ok, option_map}
+use Rattle.std.specs.Prelude.{◌≡◌, ◌⊎◌, ℕ, ◌≤◌, Bool, true, false, List, [], ◌∷◌, ◌++◌, Option, Ok}
 use Rattle.std.specs.Bool.{OnTrue}
 use Rattle.tdl_lines.specs.declared.status.Status.{Status}
-use Rattle.tdl_lines.specs.declared.status.Status.TheVariants.{Memory, WriteFault}
+use Rattle.tdl_lines.specs.declared.status.Status.TheVariants.{WriteFault}
 use Rattle.tdl_lines.specs.Statuses.{is_answered, is_status}
 use Rattle.gs_port.specs.Asides.{Aside, Finished}
 use Rattle.gs_port.specs.Counts.{Rises}
-use Rattle.gs_port.specs.Files.{AddsNames, with_names, FilesHeld}
+use Rattle.gs_port.specs.Files.{FilesHeld}
 use Rattle.gs_port.specs.Outputs.{Writes}
 use Rattle.gs_port.specs.States.{ConnState, SinkState, SourceState}
-use Rattle.tdl_serve.specs.Doors.{OpensAt}
 use Rattle.tdl_serve.specs.Resolutions.{StreamServed, stream_of}
 use Rattle.tdl_arguments.specs.declared.command.Command.{Command}
 use Rattle.tdl_arguments.specs.Commands.{Work, answers_heads, answers_lines, on_door, reads_input, uses_door, work_of}
@@ -17,7 +16,7 @@ use Rattle.tdl_arguments.specs.Requests.{Asked, Values, names_in_order}
 use Rattle.tdl_loads.specs.declared.loads.Loaded.{Loaded}
 use Rattle.tdl_loads.specs.Loads.{FilesGive, Loading, Stopping}
 use Rattle.tdl_run.specs.Works.{DoingEnded, DoingFinished, DoingRun, Doorway, FinishesFirst, Outcome, doing_of, doorway_of, site_of}
-use Rattle.tdl_run.specs.CommandRuns.{Ran}
+use Rattle.tdl_run.specs.CommandRuns.{MovesInput, Ran}
 use Rattle.tdl_run.specs.Runs.{World, stopped}
 
 -- holds if the command may leave this outcome (DoingRun)
@@ -53,18 +52,18 @@ abbrev pub AskedLoads : Asked → Option FilesHeld → Type 0
 AskedLoads asked files = (loaded : Loaded) × FilesGive files asked (Ok loaded)
 
 -- holds if the fact of ListensAt holds, by the request
-abbrev pub AskedListens : Asked → Status → Option (List (List ℕ)) → Option (List (List ℕ)) → Type 0
-AskedListens asked ending before now = AddsNames (is_status ending Memory) before (asked.values.listen ∷ []) now ⊎ ((now ≡ before) × (is_answered ending ≡ false))
+abbrev pub AskedListens : Asked → Status → List (List ℕ) → List (List ℕ) → Type 0
+AskedListens asked ending before now = (now ≡ before ++ asked.values.listen ∷ []) ⊎ ((now ≡ before) × (is_answered ending ≡ false))
 
 -- holds if the fact of ServesInput holds, by the request
-abbrev pub AskedServes : Type 0 → Asked → Option FilesHeld → Status → Option (List ℕ) → Option (List ℕ) → Option (List ℕ) → Option (List ℕ) → Type 0
-AskedServes AsItWas asked files ending left left' held held' =
-    Loading files asked (λ loaded. StreamServed (site_of loaded) ending (stream_of left held) (stream_of left' held'))
+abbrev pub AskedServes : Type 0 → Asked → Option FilesHeld → Status → SourceState → SourceState → SinkState → SinkState → Type 0
+AskedServes AsItWas asked files ending input input' output output' =
+    Loading files asked (λ loaded. StreamServed (site_of loaded) ending (stream_of input output) (stream_of input' output'))
     ⊎ (AsItWas × (is_answered ending ≡ false))
 
 -- holds if all files of a request were opened, in their order, once the whole input was answered
-abbrev pub OpensAsked : Status → Asked → Option (List (List ℕ)) → Option (List (List ℕ)) → Type 0
-OpensAsked ending asked before now = OnTrue (is_answered ending) (now ≡ with_names before (names_in_order asked.files))
+abbrev pub OpensAsked : Status → Asked → List (List ℕ) → List (List ℕ) → Type 0
+OpensAsked ending asked before now = OnTrue (is_answered ending) (now ≡ before ++ names_in_order asked.files)
 
 -- holds if a read error has its cause, by the work of a command: the listener itself or the input counted an error
 abbrev pub WorkCause : Work → Type 0 → Type 0 → Type 0
@@ -72,11 +71,11 @@ WorkCause on_door OfInput OfDoor = OfDoor
 WorkCause work OfInput OfDoor = OfInput
 
 -- Holds if a command opened the listener once, at this address, finished the first of the waiting connections, and left none
--- open. The addresses may be unknown only if memory was lost.
-pub record UsesDoor (lost : Bool) (listen : List ℕ) (open_now : Bool) (before now : Aside) : Type 0 where
+-- open.
+pub record UsesDoor (listen : List ℕ) (open_now : Bool) (before now : Aside) : Type 0 where
   pub closed : open_now ≡ false
   pub waiting : FinishesFirst before now
-  pub listens : OpensAt lost listen before now
+  pub listens : now.addresses ≡ before.addresses ++ listen ∷ []
 
 -- the objects that a command uses, at a moment: its input, its output and its listener
 pub record Ends : Type 0 where
@@ -99,15 +98,17 @@ CommandLeft command values loaded before now outcome =
 -- write was counted
 abbrev pub LeavesOutcome : SinkState → SinkState → ConnState → ConnState → Status → (Outcome → Type 0) → Type 0
 LeavesOutcome output output' door door' status fact =
-    (finished : List Finished) × (door'.aside.finished ≡ option_map (λ before. before ++ finished) door.aside.finished)
+    (finished : List Finished) × (door'.aside.finished ≡ door.aside.finished ++ finished)
     × Writes (is_status status WriteFault) output output' (λ out. fact (record { output = out; finished = finished; status = status }))
 
 -- holds if a command ran between two moments, over the loaded contents, and ended with this status; it leaves an input or a
 -- listener that it does not use unchanged
 pub record CommandRan (command : Command) (values : Values) (loaded : Loaded) (SameInput SameDoor : Type 0) (before now : Ends) (ending : Status) : Type 0 where
   pub ran : LeavesOutcome before.output now.output before.door now.door ending (CommandLeft command values loaded before now)
-  pub served : answers_heads command ≡ true → StreamServed (site_of loaded) ending (stream_of before.input.left before.output.held) (stream_of now.input.left now.output.held)
+  pub moved : answers_lines command ≡ true
+      → MovesInput before.input now.input (λ input input'. LeavesOutcome before.output now.output before.door now.door ending (CommandLeft command values loaded (record before { input = input }) (record now { input = input' })))
+  pub served : answers_heads command ≡ true → StreamServed (site_of loaded) ending (stream_of before.input before.output) (stream_of now.input now.output)
   pub unread : reads_input command ≡ false → SameInput
   pub unserved : uses_door command ≡ false → SameDoor
-  pub used : uses_door command ≡ true → UsesDoor (is_status ending Memory) values.listen now.door.is_open before.door.aside now.door.aside
+  pub used : uses_door command ≡ true → UsesDoor values.listen now.door.is_open before.door.aside now.door.aside
   pub door_counts : before.door.aside.errors ≤ now.door.aside.errors

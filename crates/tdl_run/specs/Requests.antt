@@ -4,7 +4,7 @@ use Rattle.std.specs.Bool.{OnTrue}
 use Rattle.tdl_lines.specs.declared.status.Status.{Status}
 use Rattle.tdl_lines.specs.declared.status.Status.TheVariants as status
 use Rattle.tdl_lines.specs.declared.status.Status.TheVariants.{Usage}
-use Rattle.tdl_lines.specs.Inputs.{IsAtEnd, TakesAtMost, TakesMoreThan}
+use Rattle.tdl_lines.specs.Inputs.{IsReadToEnd, TakesAtMost, TakesMoreThan}
 use Rattle.tdl_lines.specs.Printers.{PrintedAs}
 use Rattle.tdl_lines.specs.Statuses.{is_answered, is_cut_short, is_status, is_written}
 use Rattle.gs_port.specs.Counts.{Rises}
@@ -19,7 +19,7 @@ use Rattle.tdl_loads.specs.declared.loads.Unloaded.{Unloaded}
 use Rattle.tdl_loads.specs.declared.loads.Unloaded.TheVariants as unloaded
 use Rattle.tdl_loads.specs.declared.loads.Unloaded.TheVariants.{Refused}
 use Rattle.tdl_loads.specs.Loads.{FilesGive, OpensUpTo, missing, rejected}
-use Rattle.tdl_run.specs.CommandRuns.{BeginsOne, CutShort}
+use Rattle.tdl_run.specs.CommandRuns.{BeginsOne, CutShort, MovesInput}
 use Rattle.tdl_run.specs.RanSupport.{AskedEnded, AskedFinished, AskedListens, AskedLoads, AskedRun, AskedServes, LeavesOutcome, OpensAsked}
 use Rattle.tdl_run.specs.Runs.{Moment, World, WritesAfterError, world_of}
 use Rattle.tdl_run.specs.Works.{FinishesFirst, Outcome, input_limit}
@@ -41,7 +41,7 @@ pub record AskedRan (asked : Asked) (before now : Moment) (outcome : Outcome) : 
   pub cut : OnTrue (is_status outcome.status status.WriteFault) (CutShort (AskedRun asked (world_at before)) outcome)
   pub read_error : OnTrue (is_status outcome.status status.ReadFault) (ReadCause asked before now)
   pub rejection : OnTrue (is_status outcome.status status.Refused) ((rejection : Rejection) × FilesGive before.files.files asked (Err (rejected rejection)))
-  pub to_end : OnTrue (is_answered outcome.status) (answers_lines asked.command ≡ true → IsAtEnd now.input.left)
+  pub to_end : OnTrue (is_answered outcome.status) (answers_lines asked.command ≡ true → IsReadToEnd now.input)
   pub long : OnTrue (is_status outcome.status status.InputLong) (TakesMoreThan input_limit before.input.left now.input.left)
   pub few : answers_lines asked.command ≡ true → TakesAtMost (input_limit + 1) before.input.left now.input.left
   pub file_counts : before.files.errors ≤ now.files.errors
@@ -52,9 +52,13 @@ pub record AskedRan (asked : Asked) (before now : Moment) (outcome : Outcome) : 
 -- objects are unchanged.
 pub record RequestRan (asked : Asked) (SameFiles SameInput SameDoor : Type 0) (before now : Moment) (ending : Status) : Type 0 where
   pub ran : LeavesOutcome before.output now.output before.door now.door ending (AskedRan asked before now)
+  pub moved : answers_lines asked.command ≡ true
+      → MovesInput before.input now.input (λ input input'. LeavesOutcome before.output now.output before.door now.door ending (AskedRan asked (record before { input = input }) (record now { input = input' }))
+      × OnTrue (is_status ending status.ReadFault)
+      (WritesAfterError SameInput (Rises before.input.errors now.input.errors) before.output.held now.output.held (AskedEnded asked before.files.files input.left input'.left)))
   pub read_error : OnTrue (is_status ending status.ReadFault)
       (WritesAfterError SameInput (Rises before.input.errors now.input.errors) before.output.held now.output.held (AskedEnded asked before.files.files before.input.left now.input.left))
-  pub served : answers_heads asked.command ≡ true → AskedServes SameInput asked before.files.files ending before.input.left now.input.left before.output.held now.output.held
+  pub served : answers_heads asked.command ≡ true → AskedServes SameInput asked before.files.files ending before.input now.input before.output now.output
   pub unread : reads_input asked.command ≡ false → SameInput
   pub unread_rejected : OnTrue (is_status ending status.Refused) SameInput
   pub unserved : uses_door asked.command ≡ false → SameDoor
@@ -64,7 +68,7 @@ pub record RequestRan (asked : Asked) (SameFiles SameInput SameDoor : Type 0) (b
   pub waiting : FinishesFirst before.door.aside now.door.aside
   pub listens : uses_door asked.command ≡ true → AskedListens asked ending before.door.aside.addresses now.door.aside.addresses
   pub door_counts : before.door.aside.errors ≤ now.door.aside.errors
-  pub opened : OpensUpTo (is_status ending status.Memory) before.files.files asked before.files.opened now.files.opened
+  pub opened : OpensUpTo before.files.files asked before.files.opened now.files.opened
   pub all_opened : OpensAsked ending asked before.files.opened now.files.opened
   pub unopened : names_in_order asked.files ≡ [] → SameFiles
   pub known : now.files.files ≡ before.files.files

@@ -1,13 +1,15 @@
 -- The outcomes of whole runs.
-use Rattle.std.specs.Prelude.{◌≡◌, ◌⊎◌, ℕ, ◌≤◌, true, false, List, [], ◌∷◌, length, Option, Some, Ok, Err}
+use Rattle.std.specs.Prelude.{◌≡◌, ◌⊎◌, ℕ, ◌≤◌, true, false, List, [], ◌∷◌, ◌++◌, length, Option, Some, Ok, Err}
 use Rattle.std.specs.Bool.{OnTrue}
 use Rattle.tdl_lines.specs.declared.status.Status.{Status}
 use Rattle.tdl_lines.specs.declared.status.Status.TheVariants as status
-use Rattle.tdl_lines.specs.Statuses.{is_answered, is_status}
+use Rattle.tdl_lines.specs.Statuses.{is_answered, is_cut_short, is_status, is_written}
 use Rattle.gs_http.specs.Sites.{SiteData}
 use Rattle.gs_port.specs.Counts.{Rises}
-use Rattle.gs_port.specs.Files.{AddsNames, with_names, FilesHeld}
+use Rattle.gs_port.specs.Files.{FilesHeld}
 use Rattle.gs_port.specs.States.{ConnState, FilesState, SinkState, SourceState}
+use Rattle.gs_port.specs.Asides.{Finished}
+use Rattle.tdl_run.specs.CommandRuns.{BeginsOne, CutShort}
 use Rattle.tdl_serve.specs.Resolutions.{StreamServed, stream_of}
 use Rattle.tdl_serve.specs.Visits.{Visit, is_done}
 use Rattle.tdl_messages.specs.declared.file_kind.FileKind.{FileKind}
@@ -17,7 +19,7 @@ use Rattle.tdl_arguments.specs.Commands.{answers_lines}
 use Rattle.tdl_arguments.specs.Requests.{Asking, AskingOr, AsksFor, names_in_order, usage_line}
 use Rattle.tdl_loads.specs.declared.loads.Loaded.{Loaded}
 use Rattle.tdl_loads.specs.Loads.{Ambiguity, FilesGive, Loading, OpensUpTo, Stop, Stopping, ambiguous, missing, rejected}
-use Rattle.tdl_run.specs.Works.{Appends, DoingEnded, DoingFinished, DoingRun, Doorway, Outcome, Serves, doing_of, doorway_of, input_limit, outcome_of, site_of}
+use Rattle.tdl_run.specs.Works.{Appends, DoingEnded, DoingFinished, DoingRun, Doorway, Leaves, Outcome, Serves, doing_of, doorway_of, input_limit, outcome_of, site_of}
 
 -- trusted, own: the known world of a run: its files, its input and its listener, each if it is known
 pub record World : Type 0 where
@@ -57,6 +59,13 @@ DefinedRun words world outcome = AskingOr words (λ asked.
     Loading world.files asked (λ loaded. DoingRun (doing_of asked.command asked.values loaded) (site_of loaded) world.input world.door outcome)
     ⊎ Stopping world.files asked (λ stop. outcome ≡ stopped stop))
     (outcome ≡ outcome_of usage_line status.Usage)
+
+-- trusted, own: Holds if a run with `words` that ended with this status left the output and the finished connections of a defined
+-- outcome in `world`. If it ended early, it left a prefix of the output, and after `WriteFault` the connections of such an outcome.
+pub record RanIn (words : List (List ℕ)) (world : World) (ending : Status) (held held' : List ℕ) (ended ended' : List Finished) : Type 0 where
+  pub defined : OnTrue (is_written ending) (Leaves held held' ended ended' ending (DefinedRun words world))
+  pub begun : OnTrue (is_cut_short ending) (Appends held held' (BeginsOne (DefinedRun words world)))
+  pub cut : OnTrue (is_status ending status.WriteFault) (Leaves held held' ended ended' ending (CutShort (DefinedRun words world)))
 
 -- trusted, own: holds if two lists are of the same connections, and those served to their end in both were sent the same bytes
 pub data AlikeVisits : List Visit → List Visit → Type 0 where
@@ -110,24 +119,33 @@ RunCause words files before now =
 
 -- trusted, own: Holds if nothing was written after a read error and the input is unchanged. It also holds if the input counted
 -- an error, and the sink gained an output of which `Ended` holds.
-abbrev pub WritesAfterError : Type 0 → Type 0 → Option (List ℕ) → Option (List ℕ) → (List ℕ → Type 0) → Type 0
+abbrev pub WritesAfterError : Type 0 → Type 0 → List ℕ → List ℕ → (List ℕ → Type 0) → Type 0
 WritesAfterError AsItWas Counted held held' Ended =
     (AsItWas × Appends held held' (λ output. output ≡ [])) ⊎ (Counted × Appends held held' Ended)
 
+-- trusted, own: Holds if the reads of the input moved some bytes between two moments, and a run with `words` left what it leaves in
+-- the world whose input is known to be exactly these bytes, also after a read error.
+abbrev pub RanOnMoved : Type 0 → List (List ℕ) → Status → Moment → Moment → Type 0
+RanOnMoved AsItWas words ending before now =
+    (bytes : List ℕ) × (now.input.moved ≡ before.input.moved ++ bytes)
+    × RanIn words (world_of before.files.files (Some bytes) before.door) ending before.output.held now.output.held before.door.aside.finished now.door.aside.finished
+    × OnTrue (is_status ending status.ReadFault)
+    (WritesAfterError AsItWas (Rises before.input.errors now.input.errors) before.output.held now.output.held (EndedRun words before.files.files (Some bytes) (Some [])))
+
 -- trusted, own: holds if, once the whole input was answered, all files that `words` name, and no others, were opened, in their
 -- order
-abbrev pub OpensAll : Status → List (List ℕ) → Option (List (List ℕ)) → Option (List (List ℕ)) → Type 0
-OpensAll ending words before now = OnTrue (is_answered ending) (Asking words (λ asked. now ≡ with_names before (names_in_order asked.files)))
+abbrev pub OpensAll : Status → List (List ℕ) → List (List ℕ) → List (List ℕ) → Type 0
+OpensAll ending words before now = OnTrue (is_answered ending) (Asking words (λ asked. now ≡ before ++ names_in_order asked.files))
 
 -- trusted, own: Holds if only the first of the files that `words` name were opened, and none after the one at which the run
--- stops. If they are invalid, no file was opened. Only if memory ran out the opened names may be unknown instead.
-abbrev pub OpensNamed : List (List ℕ) → Status → Option FilesHeld → Option (List (List ℕ)) → Option (List (List ℕ)) → Type 0
-OpensNamed words ending files before now = AskingOr words (λ asked. OpensUpTo (is_status ending status.Memory) files asked before now) (now ≡ before)
+-- stops. If they are invalid, no file was opened.
+abbrev pub OpensNamed : List (List ℕ) → Option FilesHeld → List (List ℕ) → List (List ℕ) → Type 0
+OpensNamed words files before now = AskingOr words (λ asked. OpensUpTo files asked before now) (now ≡ before)
 
 -- trusted, own: Holds if `words` are valid, and the listener was to be opened once, at the address that they ask for. Or it was
--- not to be opened, and the input was not answered whole. Only if memory ran out the addresses may be unknown instead.
-abbrev pub ListensAt : List (List ℕ) → Status → Option (List (List ℕ)) → Option (List (List ℕ)) → Type 0
-ListensAt words ending before now = Asking words (λ asked. AddsNames (is_status ending status.Memory) before (asked.values.listen ∷ []) now ⊎ ((now ≡ before) × (is_answered ending ≡ false)))
+-- not to be opened, and the input was not answered whole.
+abbrev pub ListensAt : List (List ℕ) → Status → List (List ℕ) → List (List ℕ) → Type 0
+ListensAt words ending before now = Asking words (λ asked. (now ≡ before ++ asked.values.listen ∷ []) ⊎ ((now ≡ before) × (is_answered ending ≡ false)))
 
 -- trusted, own: holds if `words` are valid, and all files that they ask for load
 abbrev pub LoadsSome : List (List ℕ) → Option FilesHeld → Type 0
@@ -136,9 +154,9 @@ LoadsSome words files = Asking words (λ asked. (loaded : Loaded) × FilesGive f
 -- trusted, own: Holds if the input was served as one connection, over the loaded files. At most 1,000 replies were written, and
 -- at most 12,288 bytes were taken beyond the answered heads. With `Done` nothing is left except after a reply that ends the
 -- connection. Or the run stops at its files, and the input is unchanged.
-abbrev pub ServesInput : Type 0 → List (List ℕ) → Option FilesHeld → Status → Option (List ℕ) → Option (List ℕ) → Option (List ℕ) → Option (List ℕ) → Type 0
-ServesInput AsItWas words files ending left left' held held' = Asking words (λ asked.
-    Loading files asked (λ loaded. StreamServed (site_of loaded) ending (stream_of left held) (stream_of left' held'))
+abbrev pub ServesInput : Type 0 → List (List ℕ) → Option FilesHeld → Status → SourceState → SourceState → SinkState → SinkState → Type 0
+ServesInput AsItWas words files ending input input' output output' = Asking words (λ asked.
+    Loading files asked (λ loaded. StreamServed (site_of loaded) ending (stream_of input output) (stream_of input' output'))
     ⊎ (AsItWas × (is_answered ending ≡ false)))
 
 -- trusted, own: holds if `words` are valid, and the run does not stop at a file or at a default row

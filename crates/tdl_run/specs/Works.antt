@@ -1,12 +1,11 @@
 -- Each command, over the loaded contents.
-use Rattle.std.specs.Prelude.{◌≡◌, ◌≢◌, ℕ, ◌≤◌, ◌-◌, Bool, false, List, [], ◌∷◌, ◌++◌, length, take, codes, decimal, IfOk, IfSome, Option, Result, Ok, is_some, option_map}
+use Rattle.std.specs.Prelude.{◌≡◌, ◌≢◌, ℕ, ◌≤◌, ◌-◌, Bool, false, List, [], ◌∷◌, ◌++◌, length, take, codes, decimal, IfOk, IfSome, Option, Result, Ok, option_map}
 use Rattle.tdl_lines.specs.declared.status.Status.{Status}
 use Rattle.tdl_gen.specs.Counts.{Generated}
 use Rattle.tdl_lines.specs.declared.status.Status.TheVariants.{Done, Memory, ReadFault}
 use Rattle.tdl_lines.specs.Outputs.{AnswersEnded, AnswersInput, LineAnswer}
 use Rattle.tdl_lines.specs.Printers.{WritesLine}
 use Rattle.gs_port.specs.Asides.{Aside, Finished}
-use Rattle.gs_port.specs.Contents.{append_known}
 use Rattle.gs_port.specs.States.{ConnState, SinkState}
 use Rattle.tdl_serve.specs.Doors.{line_of}
 use Rattle.tdl_serve.specs.Resolutions.{Resolved, Resolves}
@@ -41,15 +40,15 @@ pub record Outcome : Type 0 where
 abbrev pub outcome_of : List ℕ → Status → Outcome
 outcome_of output status = record { output = output; finished = []; status = status }
 
--- trusted, own: holds if the sink gained an output with this property, or its contents are unknown
-abbrev pub Appends : Option (List ℕ) → Option (List ℕ) → (List ℕ → Type 0) → Type 0
-Appends before now fact = (output : List ℕ) × (now ≡ append_known before output) × fact output
+-- trusted, own: holds if the sink gained an output with this property
+abbrev pub Appends : List ℕ → List ℕ → (List ℕ → Type 0) → Type 0
+Appends before now fact = (output : List ℕ) × (now ≡ before ++ output) × fact output
 
 -- trusted, own: Holds if the sink gained the output of an outcome of which `fact` holds, and the listener its finished
--- connections. Contents that were unknown stay unknown.
-abbrev pub Leaves : Option (List ℕ) → Option (List ℕ) → Option (List Finished) → Option (List Finished) → Status → (Outcome → Type 0) → Type 0
+-- connections.
+abbrev pub Leaves : List ℕ → List ℕ → List Finished → List Finished → Status → (Outcome → Type 0) → Type 0
 Leaves held held' ended ended' status fact =
-    (finished : List Finished) × (ended' ≡ option_map (λ before. before ++ finished) ended)
+    (finished : List Finished) × (ended' ≡ ended ++ finished)
     × Appends held held' (λ output. fact (record { output = output; finished = finished; status = status }))
 
 -- trusted, own: Holds if the first of the waiting connections were finished between two moments, and the others still wait. As
@@ -58,7 +57,7 @@ pub record FinishesFirst (before now : Aside) : Type 0 where
   pub inputs : List (List ℕ)
   pub entries : List Finished
   pub waited : before.waiting ≡ option_map (λ behind. inputs ++ behind) now.waiting
-  pub finished : now.finished ≡ option_map (λ earlier. earlier ++ entries) before.finished
+  pub finished : now.finished ≡ before.finished ++ entries
   pub as_many : length inputs ≡ length entries
 
 -- trusted, own: the most bytes of an input whose lines are answered
@@ -137,7 +136,7 @@ pub record Serves (site : SiteData) (count : ℕ) (door : Doorway) (outcome : Ou
   pub visits : List Visit
   pub reads : ℕ
   pub writes : ℕ
-  pub are_visits : AreVisits site (is_some door.waiting) door.reads door.writes visits reads writes
+  pub are_visits : AreVisits site door.reads door.writes visits reads writes
   pub few : length visits ≤ count
   pub first : IfSome door.waiting (λ waiting. inputs_of visits ≡ take count waiting)
   pub whole : wants_memory visits ≡ false
@@ -149,7 +148,7 @@ pub record ServesFirst (site : SiteData) (count : ℕ) (door : Doorway) (status 
   pub visits : List Visit
   pub reads : ℕ
   pub writes : ℕ
-  pub are_visits : AreVisits site (is_some door.waiting) door.reads door.writes visits reads writes
+  pub are_visits : AreVisits site door.reads door.writes visits reads writes
   pub few : length visits ≤ count
   pub first : IfSome door.waiting (λ waiting. inputs_of visits ≡ take (length visits) waiting)
   pub whole : status ≢ Memory → wants_memory visits ≡ false

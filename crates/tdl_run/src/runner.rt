@@ -4,10 +4,10 @@ ghost use Rattle.tdl_lines.specs.Statuses.{is_answered, is_cut_short, is_status,
 ghost use Rattle.gs_port.specs.Counts.{Rises};
 ghost use Rattle.tdl_arguments.specs.Commands.{answers_heads, answers_lines, reads_input, uses_door};
 ghost use Rattle.tdl_arguments.specs.Requests.{AsksFor, NamesNoFile, NotInOrder, known_words};
-ghost use Rattle.tdl_run.specs.Runs.{DefinedRun, EndedRun, FinishedRun, InputFits, IsRejected, ListensAt, LoadsAll, LoadsSome, NoneRises, OpensAll, OpensNamed, RunCause, ServesInput, WritesAfterError, moment_of, world_of};
+ghost use Rattle.tdl_run.specs.Runs.{DefinedRun, EndedRun, FinishedRun, InputFits, IsRejected, ListensAt, LoadsAll, LoadsSome, NoneRises, OpensAll, OpensNamed, RanOnMoved, RunCause, ServesInput, WritesAfterError, moment_of, world_of};
 ghost use Rattle.tdl_run.specs.Works.{Appends, FinishesFirst, Leaves, input_limit};
 ghost use Rattle.tdl_run.specs.CommandRuns.{BeginsOne, CutShort};
-ghost use Rattle.tdl_lines.specs.Inputs.{IsAtEnd, TakesAtMost, TakesMoreThan};
+ghost use Rattle.tdl_lines.specs.Inputs.{IsReadToEnd, TakesAtMost, TakesMoreThan};
 
 use crate::requests::run_request;
 use gs_port::{Door, Files, Sink, Source};
@@ -26,9 +26,8 @@ const USAGE: &[u8] =
 /// most 1,000 replies are written. `Done` leaves nothing unread, except after a reply that ends the connection.
 ///
 /// The files are opened in their order, and none after a missing or rejected one. The listener is opened once, at the address
-/// that the arguments name, if its command runs. Only a run that ends with `Memory` may forget the opened names or addresses.
-/// After the run no connection is open, and the finished ones no longer wait. If a file does not load, the input and the
-/// listener are unchanged, even if the line that says so could not be written.
+/// that the arguments name, if its command runs. After the run no connection is open, and the finished ones no longer wait. If
+/// a file does not load, the input and the listener are unchanged, even if the line that says so could not be written.
 ///
 /// - `Usage` is returned only if the arguments are invalid. The usage line was written, and nothing was read or opened.
 /// - `Refused` is returned only if a file, or a built-in row, is rejected. One line says why, and the input was not read.
@@ -55,8 +54,14 @@ pub fn run<F: Files, S: Source, K: Sink, D: Door>(
         (D.state door.old).aside.finished (D.state door.new).aside.finished result
         (DefinedRun (known_words words.now)
         (world_of (F.state files.old).files (S.state input.old).left (D.state door.old)))) }
+
+    // The same of the bytes that the reads of the input moved, whether or not the input is known.
+    ensures moved { AsksFor answers_lines (known_words words.now)
+        → RanOnMoved (input.new ≡ input.old) (known_words words.now) result
+        (moment_of (F.state files.old) (S.state input.old) (K.state output.old) (D.state door.old))
+        (moment_of (F.state files.new) (S.state input.new) (K.state output.new) (D.state door.new)) }
     ensures read_to_end { AsksFor answers_lines (known_words words.now)
-        → OnTrue (is_answered result) (IsAtEnd (S.state input.new).left) }
+        → OnTrue (is_answered result) (IsReadToEnd (S.state input.new)) }
 
     // The arguments decide whether the usage line comes, and the files whether one is rejected.
     ensures usage { OnTrue (is_status result Status.Usage) (NotInOrder (known_words words.now)) }
@@ -68,8 +73,7 @@ pub fn run<F: Files, S: Source, K: Sink, D: Door>(
     // An input whose heads are answered is served as one connection.
     ensures served { AsksFor answers_heads (known_words words.now)
         → ServesInput (input.new ≡ input.old) (known_words words.now) (F.state files.old).files result
-        (S.state input.old).left (S.state input.new).left
-        (K.state output.old).held (K.state output.new).held }
+        (S.state input.old) (S.state input.new) (K.state output.old) (K.state output.new) }
 
     // A command leaves an input or a listener that it does not use unchanged, and both are unchanged if a file does not load.
     ensures unread { (AsksFor reads_input (known_words words.now) → ⊥) → input.new ≡ input.old }
@@ -81,7 +85,7 @@ pub fn run<F: Files, S: Source, K: Sink, D: Door>(
     ensures untouched { ((input.new ≡ input.old) × (door.new ≡ door.old))
         ⊎ LoadsSome (known_words words.now) (F.state files.old).files }
     ensures unopened { NamesNoFile (known_words words.now) → files.new ≡ files.old }
-    ensures opened { OpensNamed (known_words words.now) result (F.state files.old).files
+    ensures opened { OpensNamed (known_words words.now) (F.state files.old).files
         (F.state files.old).opened (F.state files.new).opened }
     ensures all_opened { OpensAll result (known_words words.now)
         (F.state files.old).opened (F.state files.new).opened }

@@ -99,17 +99,13 @@ done_as_answered site input replies are false e =
 unfoldable pub done_visit : SiteData → List ℕ → Visit
 done_visit site input =
     let r = some_replies site.table site.links site.settings 1000 (heads_of 1000 input) in
-    record { input = input; served = Done; entry = record { read = Some (done_read (has_closing r.0) input); written = Some (replies_of r.0); reads = 0; writes = 0 } }
+    record { input = input; served = Done; entry = record { read = done_read (has_closing r.0) input; written = replies_of r.0; reads = 0; writes = 0 } }
 
-pub is_done_visit : (site : SiteData) (reads writes : ℕ) (input : List ℕ) → IsVisit site true reads writes (done_visit site input)
+pub is_done_visit : (site : SiteData) (reads writes : ℕ) (input : List ℕ) → IsVisit site reads writes (done_visit site input)
 unfolding done_visit
 is_done_visit site reads writes input =
     let r = some_replies site.table site.links site.settings 1000 (heads_of 1000 input) in
     record {
-      read = done_read (has_closing r.0) input;
-      written = replies_of r.0;
-      is_read = refl;
-      is_written = refl;
       of_input = of_done_read (has_closing r.0) input;
       replied = record {
         replies = replies_of r.0;

@@ -1,5 +1,5 @@
 -- Counts of entries.
-use Rattle.std.proofs.Common.{◌≡◌, ◌<◌, ◌≤◌, ℕ, ◌+◌, ◌-◌, ◌==◌, max, min, not, Bool, List, ◌∷◌, map, refl, ap, ◌∙◌, arith}
+use Rattle.std.proofs.Common.{◌≡◌, ◌<◌, ◌≤◌, ℕ, ◌+◌, ◌-◌, ◌==◌, max, min, not, List, ◌∷◌, map, refl, ap, ◌∙◌, arith}
 use Rattle.std.proofs.Math.Nat.{le-max_left, max-eq_right, min-eq_left}
 use Rattle.gs_http.specs.declared.connection.Served.{Served}
 use Rattle.gs_http.specs.declared.connection.Served.TheVariants.{Done, ReadFault, WriteFault, Memory}
@@ -58,12 +58,12 @@ rise_known served reads writes r w =
     ap (λ n. not (n + writes == 0)) r ∙ ap (λ n. not (read_errors served + n == 0)) w ∙ error_known served
 
 -- counts that are below their last value at the end did not saturate
-pub rises : (site : SiteData) (known : Bool) (reads writes reads' writes' : ℕ) (visits : List Visit)
-    → AreVisits site known reads writes visits reads' writes' → reads' < last_count → writes' < last_count
+pub rises : (site : SiteData) (reads writes reads' writes' : ℕ) (visits : List Visit)
+    → AreVisits site reads writes visits reads' writes' → reads' < last_count → writes' < last_count
     → (reads ≤ reads') × (writes ≤ writes') × RisesTellErrors visits
-rises site known reads writes reads' writes' visits (no_visit _ _) low low' = (omega arith, omega arith, refl)
-rises site known reads writes reads' writes' visits (one_visit _ _ visit others _ _ is rest) low low' =
-    let later = rises site known (reads_when visit.served reads) (writes_when visit.served writes) reads' writes' others rest low low' in
+rises site reads writes reads' writes' visits (no_visit _ _) low low' = (omega arith, omega arith, refl)
+rises site reads writes reads' writes' visits (one_visit _ _ visit others _ _ is rest) low low' =
+    let later = rises site (reads_when visit.served reads) (writes_when visit.served writes) reads' writes' others rest low low' in
     let to_reads : reads_when visit.served reads ≤ reads' = later.0 in
     let to_writes : writes_when visit.served writes ≤ writes' = later.1 in
     let r = reads_grow visit.served reads (below to_reads low) in

@@ -8,7 +8,7 @@ use Rattle.gs_http.specs.declared.connection.Served.TheVariants as served
 use Rattle.gs_http.specs.ServedStreams.{IsServed, OnDone, after_serving, writes_when}
 use Rattle.gs_http.specs.Sites.{SiteData}
 use Rattle.gs_http.specs.Streams.{replies_of}
-use Rattle.gs_port.specs.Contents.{append_known, prepend_known}
+use Rattle.gs_port.specs.Contents.{prepend_known}
 use Rattle.gs_port.specs.Counts.{count_if}
 use Rattle.gs_port.specs.Outputs.{Writes, written_to}
 use Rattle.gs_port.specs.States.{ConnState, SinkState}
@@ -99,7 +99,7 @@ module _ (site : SiteData) (served : Served) (before now : ConnState)
   resolved =
       let errors : now.writes ≡ count_if (is_status (status_of served) WriteFault) before.writes = ap (λ (c : ConnState). c.writes) rest ∙ write_counted served before.writes in (
         is.written,
-        ap (λ held. record { held = held; errors = now.writes }) is.wrote ∙ ap (λ n. record { held = append_known before.held is.written; errors = n }) errors,
+        ap (λ held. record { held = held; errors = now.writes }) is.wrote ∙ ap (λ n. record { held = before.held ++ is.written; errors = n }) errors,
         record {
           stream = is.read ++ is.rest;
           is_stream = known_whole before.left now.left is.read is.rest is.moved is.is_rest;

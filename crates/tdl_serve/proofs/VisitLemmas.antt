@@ -1,6 +1,6 @@
 -- Sequences of connections.
 use Rattle.std.proofs.Common.{◌≡◌, ℕ, ◌+◌, ◌-◌, Bool, true, false, List, [], ◌∷◌, ◌++◌, Option, Some, None, length, take, refl, sym, ap, ◌∙◌, subst, append_assoc, append-nil, length-append, arith}
-use Rattle.std.specs.Prelude.{is_some, option_map}
+use Rattle.std.specs.Prelude.{option_map}
 use Rattle.std.specs.List.{filter}
 use Rattle.std.proofs.Math.Seq.{take-append_seam}
 use Rattle.std.proofs.lemmas.List.{map-append}
@@ -14,11 +14,11 @@ use Rattle.tdl_serve.specs.Visits.{AreVisits, Visit, Visited, entries_of, errors
 
 -- ---- lists of connections
 
-visits_append : (site : SiteData) (known : Bool) (r w r1 w1 r2 w2 : ℕ) (xs ys : List Visit) → AreVisits site known r w xs r1 w1
-    → AreVisits site known r1 w1 ys r2 w2 → AreVisits site known r w (xs ++ ys) r2 w2
-visits_append site known r w r1 w1 r2 w2 xs ys (no_visit _ _) more = more
-visits_append site known r w r1 w1 r2 w2 xs ys (one_visit _ _ visit visits _ _ is rest) more =
-    one_visit r w visit (visits ++ ys) r2 w2 is (visits_append site known _ _ r1 w1 r2 w2 visits ys rest more)
+visits_append : (site : SiteData) (r w r1 w1 r2 w2 : ℕ) (xs ys : List Visit) → AreVisits site r w xs r1 w1
+    → AreVisits site r1 w1 ys r2 w2 → AreVisits site r w (xs ++ ys) r2 w2
+visits_append site r w r1 w1 r2 w2 xs ys (no_visit _ _) more = more
+visits_append site r w r1 w1 r2 w2 xs ys (one_visit _ _ visit visits _ _ is rest) more =
+    one_visit r w visit (visits ++ ys) r2 w2 is (visits_append site _ _ r1 w1 r2 w2 visits ys rest more)
 
 waited_twice : (xs ys : List Visit) (a b c : Option (List (List ℕ))) → a ≡ option_map (λ rest. inputs_of xs ++ rest) b
     → b ≡ option_map (λ rest. inputs_of ys ++ rest) c
@@ -28,43 +28,31 @@ waited_twice xs ys a b (Some rest) p q =
     p ∙ ap (option_map (λ more. inputs_of xs ++ more)) q ∙ ap Some (sym (append_assoc (inputs_of xs) (inputs_of ys) rest)
     ∙ ap (λ inputs. inputs ++ rest) (sym (map-append (λ (visit : Visit). visit.input) xs ys)))
 
-finished_twice : (xs ys : List Visit) (a b c : Option (List Finished)) → b ≡ option_map (λ earlier. earlier ++ entries_of xs) a
-    → c ≡ option_map (λ earlier. earlier ++ entries_of ys) b
-    → c ≡ option_map (λ earlier. earlier ++ entries_of (xs ++ ys)) a
-finished_twice xs ys None b c p q = q ∙ ap (option_map (λ earlier. earlier ++ entries_of ys)) p
-finished_twice xs ys (Some earlier) b c p q =
-    q ∙ ap (option_map (λ more. more ++ entries_of ys)) p ∙ ap Some (append_assoc earlier (entries_of xs) (entries_of ys)
-    ∙ ap (λ entries. earlier ++ entries) (sym (map-append (λ (visit : Visit). visit.entry) xs ys)))
-
-still_known : (xs : List Visit) (a b : Option (List (List ℕ))) → a ≡ option_map (λ rest. inputs_of xs ++ rest) b → is_some b ≡ is_some a
-still_known xs a None p = ap is_some (sym p)
-still_known xs a (Some rest) p = ap is_some (sym p)
+finished_twice : (xs ys : List Visit) (a b c : List Finished) → b ≡ a ++ entries_of xs → c ≡ b ++ entries_of ys → c ≡ a ++ entries_of (xs ++ ys)
+finished_twice xs ys a b c p q =
+    q ∙ ap (λ more. more ++ entries_of ys) p ∙ append_assoc a (entries_of xs) (entries_of ys)
+    ∙ ap (λ entries. a ++ entries) (sym (map-append (λ (visit : Visit). visit.entry) xs ys))
 
 -- connections, and then connections
 pub visited_twice : (site : SiteData) (a b c : ConnState) (xs ys : List Visit) → Visited site a b xs → Visited site b c ys → Visited site a c (xs ++ ys)
 visited_twice site a b c xs ys p q = record {
   waited = waited_twice xs ys _ _ _ p.waited q.waited;
   finished = finished_twice xs ys _ _ _ p.finished q.finished;
-  are_visits = visits_append site (is_some a.aside.waiting) _ _ _ _ _ _ xs ys p.are_visits
-      (subst (λ known. AreVisits site known b.reads b.writes ys c.reads c.writes) (still_known xs _ _ p.waited) q.are_visits);
+  are_visits = visits_append site _ _ _ _ _ _ xs ys p.are_visits q.are_visits;
 }
 
 same_waiting : (a b : Option (List (List ℕ))) → b ≡ a → a ≡ option_map (λ rest. [] ++ rest) b
 same_waiting a None e = sym e
 same_waiting a (Some rest) e = sym e
 
-same_finished : (a b : Option (List Finished)) → b ≡ a → b ≡ option_map (λ earlier. earlier ++ []) a
-same_finished None b e = e
-same_finished (Some earlier) b e = e ∙ ap Some (sym (append-nil earlier))
-
 -- no connection
 pub visited_none : (site : SiteData) (a b : ConnState) → b.aside.waiting ≡ a.aside.waiting → b.aside.finished ≡ a.aside.finished
     → b.reads ≡ a.reads → b.writes ≡ a.writes → Visited site a b []
 visited_none site a b waiting finished reads writes = record {
   waited = same_waiting _ _ waiting;
-  finished = same_finished _ _ finished;
-  are_visits = subst (λ r. AreVisits site (is_some a.aside.waiting) a.reads a.writes [] r b.writes) (sym reads)
-      (subst (λ w. AreVisits site (is_some a.aside.waiting) a.reads a.writes [] a.reads w) (sym writes) (no_visit a.reads a.writes));
+  finished = finished ∙ sym (append-nil a.aside.finished);
+  are_visits = subst (λ r. AreVisits site a.reads a.writes [] r b.writes) (sym reads)
+      (subst (λ w. AreVisits site a.reads a.writes [] a.reads w) (sym writes) (no_visit a.reads a.writes));
 }
 
 -- ---- the numbers of one more

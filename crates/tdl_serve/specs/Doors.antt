@@ -1,12 +1,11 @@
 -- A run at a listener.
-use Rattle.std.specs.Prelude.{◌≡◌, ◌⊎◌, ℕ, ◌≤◌, ◌-◌, Bool, true, false, List, [], ◌∷◌, ◌++◌, IfSome, codes, decimal, length, take}
+use Rattle.std.specs.Prelude.{◌≡◌, ◌⊎◌, ℕ, ◌≤◌, ◌-◌, true, false, List, [], ◌∷◌, ◌++◌, IfSome, codes, decimal, length, take}
 use Rattle.tdl_lines.specs.declared.status.Status.{Status}
 use Rattle.tdl_lines.specs.declared.status.Status.TheVariants.{Done, ReadFault, WriteFault, Memory}
 use Rattle.tdl_lines.specs.Printers.{IsInitialPart}
 use Rattle.tdl_lines.specs.Statuses.{is_status}
 use Rattle.gs_port.specs.Asides.{Aside}
 use Rattle.gs_port.specs.Counts.{count_if}
-use Rattle.gs_port.specs.Files.{AddsNames}
 use Rattle.gs_port.specs.States.{ConnState}
 use Rattle.gs_http.specs.Sites.{SiteData}
 use Rattle.tdl_serve.specs.Visits.{Visit, Visited, errors_of, wants_memory}
@@ -43,11 +42,6 @@ ServePrints _ count now visits output = ⊥
 -- trusted, own: holds if the listener itself counted one error with `ReadFault`, and otherwise none
 abbrev pub CountsErrors : Status → Aside → Aside → Type 0
 CountsErrors status before now = now.errors ≡ count_if (is_status status ReadFault) before.errors
-
--- trusted, own: Holds if the listener was to be opened once, at `address`. Its addresses may be unknown instead only if `lost`
--- is true.
-abbrev pub OpensAt : Bool → List ℕ → Aside → Aside → Type 0
-OpensAt lost address before now = AddsNames lost before.addresses (address ∷ []) now.addresses
 
 -- trusted, own: Holds if at most `count` of the waiting connections were served between two moments, and `output` is the one
 -- that belongs to the status. Memory ran out at most at the last of them.

@@ -9,7 +9,7 @@ use Rattle.tdl_lines.specs.declared.status.Status.TheVariants.{Done, ReadFault, 
 use Rattle.tdl_lines.specs.Inputs.{IsKnown}
 use Rattle.tdl_lines.specs.Statuses.{is_written}
 use Rattle.gs_port.specs.Asides.{no_aside}
-use Rattle.gs_port.specs.States.{ConnState}
+use Rattle.gs_port.specs.States.{ConnState, SinkState, SourceState}
 use Rattle.gs_http.specs.Sites.{SiteData}
 use Rattle.tdl_serve.specs.Sites.{AreSiteReplies, Replied}
 
@@ -33,10 +33,10 @@ status_of served.ReadFault = ReadFault
 status_of served.WriteFault = WriteFault
 status_of served.Memory = Memory
 
--- trusted, own: a stream as a connection: these bytes are left of the input, and these are written
-abbrev pub stream_of : Option (List ℕ) → Option (List ℕ) → ConnState
-stream_of left held =
-    record { ends = None; is_open = true; left = left; taken = None; held = held; reads = 0; writes = 0; aside = no_aside }
+-- trusted, own: an input and an output as a connection: what is left of the input, what its reads moved, and what the output took
+abbrev pub stream_of : SourceState → SinkState → ConnState
+stream_of input output =
+    record { ends = None; is_open = true; left = input.left; taken = input.moved; held = output.held; reads = 0; writes = 0; aside = no_aside }
 
 -- trusted, own: holds if the stream was served as a connection is, with `status`
 pub record StreamServed (site : SiteData) (status : Status) (before now : ConnState) : Type 0 where

@@ -1,5 +1,5 @@
 -- The connections that a site served, one at a time.
-use Rattle.std.specs.Prelude.{◌≡◌, ◌⊎◌, ◌≤◌, ℕ, ◌+◌, ◌-◌, ◌==◌, not, Bool, true, false, List, [], ◌∷◌, ◌++◌, Some, None, is_some, option_map, if◌then◌else◌, length, map, take}
+use Rattle.std.specs.Prelude.{◌≡◌, ◌⊎◌, ◌≤◌, ℕ, ◌+◌, ◌-◌, ◌==◌, not, Bool, true, false, List, [], ◌∷◌, ◌++◌, option_map, length, map, take}
 use Rattle.std.specs.List.{filter, list_any}
 use Rattle.gs_http.specs.declared.connection.Served.{Served}
 use Rattle.gs_http.specs.declared.connection.Served.TheVariants.{Done, ReadFault, WriteFault, Memory}
@@ -69,30 +69,26 @@ pub record ReadsAsAnswered (site : SiteData) (input : List ℕ) (served : Served
 
 -- trusted, own: Holds if serving a connection, from the counts `reads` and `writes`, read a prefix of its input. It wrote a
 -- prefix of the replies to its whole input, and all of them if serving was done. A count rose if serving ended by an error.
-pub record IsVisit (site : SiteData) (known : Bool) (reads writes : ℕ) (visit : Visit) : Type 0 where
-  pub read : List ℕ
-  pub written : List ℕ
-  pub is_read : visit.entry.read ≡ (if known then Some read else None)
-  pub is_written : visit.entry.written ≡ (if known then Some written else None)
-  pub of_input : IsInitialPart read visit.input
-  pub replied : Replied site visit.input (is_done visit.served) written
-  pub as_answered : ReadsAsAnswered site visit.input visit.served read written
+pub record IsVisit (site : SiteData) (reads writes : ℕ) (visit : Visit) : Type 0 where
+  pub of_input : IsInitialPart visit.entry.read visit.input
+  pub replied : Replied site visit.input (is_done visit.served) visit.entry.written
+  pub as_answered : ReadsAsAnswered site visit.input visit.served visit.entry.read visit.entry.written
   pub read_count : visit.entry.reads ≡ reads_when visit.served reads - reads
   pub write_count : visit.entry.writes ≡ writes_when visit.served writes - writes
 
 -- trusted, own: Holds if connections were served one at a time, between two pairs of counts of reads and writes. Each was
 -- served from the counts at which the one before it ended.
-pub data AreVisits (site : SiteData) (known : Bool) : ℕ → ℕ → List Visit → ℕ → ℕ → Type 0 where
-  no_visit : (reads writes : ℕ) → AreVisits site known reads writes [] reads writes
-  one_visit : (reads writes : ℕ) (visit : Visit) (visits : List Visit) (reads' writes' : ℕ) → IsVisit site known reads writes visit
-      → AreVisits site known (reads_when visit.served reads) (writes_when visit.served writes) visits reads' writes' → AreVisits site known reads writes (visit ∷ visits) reads' writes'
+pub data AreVisits (site : SiteData) : ℕ → ℕ → List Visit → ℕ → ℕ → Type 0 where
+  no_visit : (reads writes : ℕ) → AreVisits site reads writes [] reads writes
+  one_visit : (reads writes : ℕ) (visit : Visit) (visits : List Visit) (reads' writes' : ℕ) → IsVisit site reads writes visit
+      → AreVisits site (reads_when visit.served reads) (writes_when visit.served writes) visits reads' writes' → AreVisits site reads writes (visit ∷ visits) reads' writes'
 
 -- trusted, own: holds if, from `before` to `now`, the first waiting connections were served, in their order, and follow those
 -- finished before
 pub record Visited (site : SiteData) (before now : ConnState) (visits : List Visit) : Type 0 where
   pub waited : before.aside.waiting ≡ option_map (λ rest. inputs_of visits ++ rest) now.aside.waiting
-  pub finished : now.aside.finished ≡ option_map (λ earlier. earlier ++ entries_of visits) before.aside.finished
-  pub are_visits : AreVisits site (is_some before.aside.waiting) before.reads before.writes visits now.reads now.writes
+  pub finished : now.aside.finished ≡ before.aside.finished ++ entries_of visits
+  pub are_visits : AreVisits site before.reads before.writes visits now.reads now.writes
 
 -- trusted, own: holds if a count of `entry` rose
 abbrev pub has_rise : Finished → Bool

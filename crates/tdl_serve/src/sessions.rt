@@ -1,9 +1,9 @@
-ghost use Rattle.std.specs.Prelude.{◌≡◌, ◌+◌, ◌-◌, ◌<◌, ◌≤◌, ◌^◌, IfOk, false, length, string_bytes, true};
+ghost use Rattle.std.specs.Prelude.{◌≡◌, ◌+◌, ◌++◌, ◌-◌, ◌<◌, ◌≤◌, ◌^◌, [], ◌∷◌, IfOk, false, length, string_bytes, true};
 ghost use Rattle.gs_http.specs.Sites.{room_for};
 ghost use Rattle.gs_port.specs.Outputs.{Writes};
 ghost use Rattle.tdl_lines.specs.Printers.{WritesLine};
 ghost use Rattle.tdl_lines.specs.Statuses.{is_status};
-ghost use Rattle.tdl_serve.specs.Doors.{CountsErrors, OpensAt, ServeRan, served_line};
+ghost use Rattle.tdl_serve.specs.Doors.{CountsErrors, ServeRan, served_line};
 ghost use Rattle.tdl_serve.specs.Turns.{OpenServed, SessionDid, TellsError, after_turns, error_number, is_failed};
 
 use gs_chars::Memory;
@@ -142,8 +142,7 @@ pub fn serve<D: Door, K: Sink>(
     requires { (D.state door.old).is_open ≡ false }
     ensures ran { Writes (is_status result Status.WriteFault) (K.state output.old) (K.state output.new)
         (λ out. ServeRan site.now count (D.state door.old) (D.state door.new) out result) }
-    ensures opens { OpensAt (is_status result Status.Memory) address.now
-        (D.state door.old).aside (D.state door.new).aside }
+    ensures opens { (D.state door.new).aside.addresses ≡ (D.state door.old).aside.addresses ++ address.now ∷ [] }
     ensures door_count { CountsErrors result (D.state door.old).aside (D.state door.new).aside }
     ensures closed { (D.state door.new).is_open ≡ false }
     ensures same_ends { (D.state door.new).ends ≡ (D.state door.old).ends }

@@ -34,8 +34,8 @@ pub fn resolve<S: Source, K: Sink>(
     ensures written { Writes (is_status result Status.WriteFault) (K.state output.old) (K.state output.new)
         (λ out. Resolved site.now (S.state input.old).left out result) }
     ensures served { StreamServed site.now result
-        (stream_of (S.state input.old).left (K.state output.old).held)
-        (stream_of (S.state input.new).left (K.state output.new).held) }
+        (stream_of (S.state input.old) (K.state output.old))
+        (stream_of (S.state input.new) (K.state output.new)) }
     ensures count { (S.state input.new).errors
         ≡ count_if (is_status result Status.ReadFault) (S.state input.old).errors }
 {

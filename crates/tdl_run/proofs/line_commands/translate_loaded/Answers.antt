@@ -8,7 +8,7 @@ use Rattle.tdl_arguments.specs.Requests.{known_values}
 use Rattle.tdl_lines.specs.Outputs.{AnswersEnded}
 use Rattle.tdl_run.specs.CommandRuns.{AnswersLines}
 use Rattle.tdl_run.specs.Works.{LinesAnswered, input_limit, translating}
-use Rattle.tdl_run.proofs.RanLemmas.{lines_some, ran_of_memory}
+use Rattle.tdl_run.proofs.RanLemmas.{lines_some, nothing_moved, ran_of_memory}
 use Rattle.tdl_run.proofs.line_commands.translate_loaded.Goals as goal
 
 pub answer_input-requires : goal.answer_input-requires
@@ -24,4 +24,4 @@ returns-in-Err g c =
     let by = translating c.args.loaded.now (known_values c.args.values) c.args.from c.args.to in
     let Is = IsTranslatedLine by in
     let input = g.S.Source.state c.args.input.now in
-    ([], written_nothing (g.K.Sink.state c.args.output.now), ran_of_memory (LinesAnswered Is input.left) (AnswersEnded Is input_limit input.left input.left) _ _ input (lines_some Is input.left (some_translated by c.requires.loaded)))
+    (([], written_nothing (g.K.Sink.state c.args.output.now), ran_of_memory (LinesAnswered Is input.left) (AnswersEnded Is input_limit input.left input.left) _ _ input (lines_some Is input.left (some_translated by c.requires.loaded))), nothing_moved Is input (g.K.Sink.state c.args.output.now) (some_translated by c.requires.loaded))

@@ -5,7 +5,7 @@ use Rattle.tdl_lines.proofs.StatusLemmas.{when_always}
 use Rattle.tdl_arguments.specs.Requests.{known_request}
 use Rattle.tdl_arguments.proofs.ValueLemmas.{options_fit, tables_fit, vocabulary_fits}
 use Rattle.tdl_run.proofs.CompleteLemmas.{complete_of}
-use Rattle.tdl_run.proofs.RunLemmas.{all_opened_of, begun_of, cut_of, defined_of, ended_of, few_of, finished_of, listens_of, loads_of, output_counts_of, read_error_of, rejected_of, served_of, to_end_of, unopened_of, unread_of, unserved_of, usage_begun, usage_cut, usage_defined, usage_finished, write_error_of, written_counts, written_error}
+use Rattle.tdl_run.proofs.RunLemmas.{all_opened_of, ended_of, few_of, finished_of, in_world, listens_of, loads_of, moved_of, output_counts_of, read_error_of, rejected_of, served_of, to_end_of, unopened_of, unread_of, unserved_of, usage_begun, usage_cut, usage_defined, usage_finished, write_error_of, written_counts, written_error}
 use Rattle.tdl_run.proofs.ServeLemmas.{none_finish}
 use Rattle.tdl_run.proofs.runner.run.Goals as goal
 
@@ -19,16 +19,22 @@ pub run_request-requires-clause-options : goal.run_request-requires-clause-optio
 run_request-requires-clause-options g c = options_fit (map string_bytes c.args.words.now) (known_request c.in-Ok.request) c.in-Ok.ensures.request
 
 pub returns-in-Ok-clause-defined : goal.returns-in-Ok-clause-defined
-returns-in-Ok-clause-defined g c = defined_of c.in-Ok.ensures.request c.run_request.ensures
+returns-in-Ok-clause-defined g c = let w = in_world c.in-Ok.ensures.request c.run_request.ensures in w.defined
+
+pub returns-in-Ok-clause-moved : goal.returns-in-Ok-clause-moved
+returns-in-Ok-clause-moved g c = moved_of c.in-Ok.ensures.request c.run_request.ensures
+
+pub returns-in-Err-clause-moved : goal.returns-in-Err-clause-moved
+returns-in-Err-clause-moved g c = λ lines. absurd (c.in-Err.ensures.none lines.asked lines.order)
 
 pub returns-in-Ok-clause-begun : goal.returns-in-Ok-clause-begun
-returns-in-Ok-clause-begun g c = begun_of c.in-Ok.ensures.request c.run_request.ensures
+returns-in-Ok-clause-begun g c = let w = in_world c.in-Ok.ensures.request c.run_request.ensures in w.begun
 
 pub returns-in-Ok-clause-finished : goal.returns-in-Ok-clause-finished
 returns-in-Ok-clause-finished g c = finished_of c.in-Ok.ensures.request c.run_request.ensures
 
 pub returns-in-Ok-clause-cut : goal.returns-in-Ok-clause-cut
-returns-in-Ok-clause-cut g c = cut_of c.in-Ok.ensures.request c.run_request.ensures
+returns-in-Ok-clause-cut g c = let w = in_world c.in-Ok.ensures.request c.run_request.ensures in w.cut
 
 pub returns-in-Ok-clause-few : goal.returns-in-Ok-clause-few
 returns-in-Ok-clause-few g c = few_of c.in-Ok.ensures.request c.run_request.ensures
