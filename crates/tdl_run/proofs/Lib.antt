@@ -3,6 +3,7 @@ pub mod SiteLemmas
 pub mod ServeLemmas
 pub mod GenLemmas
 pub mod CanonLaws
+pub mod OutputLaws
 pub mod DoingLemmas
 pub mod AskedLemmas
 pub mod RunLemmas

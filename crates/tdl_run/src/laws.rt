@@ -1,5 +1,6 @@
-ghost use Rattle.std.specs.Prelude.{◌≡◌, ◌↔◌, ℕ, List, Ok, Option, true};
-ghost use Rattle.tdl_lines.specs.Outputs.{LineAnswer, accepted};
+ghost use Rattle.std.specs.Prelude.{◌≡◌, ◌↔◌, ℕ, List, Ok, Option, Some, length, slice_get, true};
+ghost use Rattle.tdl_lines.specs.Lines.{lines_of, text_of};
+ghost use Rattle.tdl_lines.specs.Outputs.{LineAnswer, accepted, answered_part, printed_lines};
 ghost use Rattle.tdl_lines.specs.Statuses.{is_answered};
 ghost use Rattle.gs_translate.specs.declared.form.Form.{Form};
 ghost use Rattle.gs_translate.specs.StepsSupport.{HasOne, HasSome};
@@ -10,7 +11,7 @@ ghost use Rattle.tdl_loads.specs.declared.loads.Loaded.{Loaded};
 ghost use Rattle.tdl_loads.specs.Loads.{FilesGive};
 ghost use Rattle.tdl_answers.specs.TranslatedAnswers.{IsCanonLine, IsTranslatedLine};
 ghost use Rattle.tdl_run.specs.Runs.{DefinedRun, HasOneOutcome, InputFits, LoadsAll, World};
-ghost use Rattle.tdl_run.specs.Works.{KeepOne, Outcome, canonizing, translating};
+ghost use Rattle.tdl_run.specs.Works.{KeepOne, LinesAnswered, Outcome, canonizing, input_limit, translating};
 ghost use Rattle.gs_port.specs.Files.{FilesHeld};
 
 /// States that arguments ask for at most one thing.
@@ -46,6 +47,23 @@ pub fn canon_answers_by_canonical_links()
         → IsTranslatedLine (canonizing loaded form) text (accepted link)
         → IsTranslatedLine (canonizing loaded other) given (accepted wanted)
         → (link ≡ wanted) ↔ NameOne loaded.tables form text other given }
+{}
+
+/// States that the output of `canon` over a known input is the lines of its answers, one to each line of the input, in order.
+/// By tables that files give, two answers that are links are equal if and only if their lines name the same elements.
+pub fn outputs_compare_elements()
+    ensures { (files : Option FilesHeld) (asked : Asked) (loaded : Loaded)
+        (form : Form) (input : List ℕ) (outcome : Outcome)
+        → FilesGive files asked (Ok loaded)
+        → LinesAnswered (IsTranslatedLine (canonizing loaded form)) (Some input) outcome
+        → (answers : List LineAnswer) × (outcome.output ≡ printed_lines answers)
+        × (length answers ≡ length (lines_of (answered_part input_limit input)))
+        × ((i j : ℕ) (line other link wanted : List ℕ)
+        → slice_get (lines_of (answered_part input_limit input)) i ≡ Some line
+        → slice_get (lines_of (answered_part input_limit input)) j ≡ Some other
+        → slice_get answers i ≡ Some (accepted link)
+        → slice_get answers j ≡ Some (accepted wanted)
+        → (link ≡ wanted) ↔ NameOne loaded.tables form (text_of line) form (text_of other)) }
 {}
 
 /// States when two lines of any forms that `translate` answers with canonical links have equal answers, by tables that files

@@ -29,8 +29,8 @@ mod requests;
 mod runner;
 
 pub use laws::{
-    canon_answers_by_canonical_links, canonical_answers_by_kept_elements, words_ask_for_one_thing,
-    words_have_one_outcome, words_in_order_are_answered,
+    canon_answers_by_canonical_links, canonical_answers_by_kept_elements, outputs_compare_elements,
+    words_ask_for_one_thing, words_have_one_outcome, words_in_order_are_answered,
 };
 pub use runner::run;
 pub use tdl_answers::answer_lines;
