@@ -305,6 +305,27 @@ static void try_share(tdl_handle *handle) {
     free(out.at);
 }
 
+/* Documents of as many levels as JSON may have here, which take the most stack. */
+static void try_deep(tdl_handle *handle) {
+    enum { LEVELS = 127 };
+    tdl_choice choice = { sizeof choice, TDL_HEX, TDL_LINK, TDL_ANY_FILTER, TDL_ANY_GCP, 0 };
+    char document[LEVELS * 6 + 2] = "";
+    size_t len;
+    for (int n = 0; n < LEVELS; n++)
+        strcat(document, "{\"a\":");
+    strcat(document, "1");
+    for (int n = 0; n < LEVELS; n++)
+        strcat(document, "}");
+    bytes given = text(document), out = block(256);
+    for (int again = 0; again < 2; again++) {
+        CHECK(tdl_open(handle, &choice, NULL, 0, TDL_STEM, given.at, given.length, NULL, 0, out.at, out.length, &len) == TDL_TABLES);
+        CHECK(tdl_open(handle, &choice, NULL, 0, TDL_STEM, NULL, 0, given.at, given.length, out.at, out.length, &len) == TDL_PREFIXES);
+        CHECK(tdl_load_classes(handle, given.at, given.length, out.at, out.length, &len) == TDL_CLASSES);
+    }
+    free(given.at);
+    free(out.at);
+}
+
 /* Choices of each size: those options count that end within it. */
 static void try_sizes(void) {
     tdl_handle handle = TDL_CLOSED;
@@ -457,6 +478,7 @@ static void calls(void) {
     try_retarget(&handle);
     try_share(&handle);
     try_sizes();
+    try_deep(&handle);
     try_nulls();
     try_classes();
     CHECK(open_plain(&handle, TDL_LINK, TDL_CANON) == TDL_OK);

@@ -243,9 +243,8 @@ def test_no_classes(libtdl: Path, call: str) -> None:
 @pytest.mark.needs("cc")
 def test_stack(libtdl: Path, tmp_path: Path) -> None:
     """All calls fit in the stack that tdl.h names, the system's part of a thread included."""
-    source = next(path for path in (TOP / "tests" / "library.c", TOP / "checks" / "library.c") if path.is_file())
-    words: list[Word] = ["cc", "-std=c11", "-D_GNU_SOURCE", "-O1", "-I", library.HEADER.parent, "-o", tmp_path / "library", source]
-    words += [libtdl / library.ARCHIVE, "-lpthread"]
+    words: list[Word] = ["cc", "-std=c11", "-D_GNU_SOURCE", "-O1", "-I", library.HEADER.parent, "-o", tmp_path / "library"]
+    words += [TOP / "checks" / "library.c", libtdl / library.ARCHIVE, "-lpthread"]
     assert ran(*words, timeout=PATIENCE) == ""
     assert ran(tmp_path / "library", "stack", LEAST_STACK, timeout=PATIENCE) == ""
     assert f"{LEAST_STACK // 1024} KiB of stack" in library.HEADER.read_text("ascii")
