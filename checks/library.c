@@ -190,6 +190,10 @@ static void try_shut(void) {
         CHECK(tdl_translate_lines(&handle, asked.at, asked.length, out.at, 64, &len) == TDL_SHUT);
         CHECK(tdl_retarget(&handle, &choice, TDL_NONE, TDL_STEM) == TDL_SHUT);
         CHECK(len == 0);
+        uint32_t kind = 1;
+        size_t at = 1, character = 1;
+        CHECK(tdl_why(&handle, asked.at, asked.length, &kind, &at, &character) == TDL_SHUT);
+        CHECK(kind == TDL_NO_REJECTION && at == TDL_NOWHERE && character == TDL_NOWHERE);
         for (size_t n = 0; n < 64; n++)
             CHECK(out.at[n] == 0xA5);
         tdl_close(&handle);
@@ -301,6 +305,27 @@ static void try_share(tdl_handle *handle) {
     free(out.at);
 }
 
+/* Documents of as many levels as JSON may have here, which take the most stack. */
+static void try_deep(tdl_handle *handle) {
+    enum { LEVELS = 127 };
+    tdl_choice choice = { sizeof choice, TDL_HEX, TDL_LINK, TDL_ANY_FILTER, TDL_ANY_GCP, 0 };
+    char document[LEVELS * 6 + 2] = "";
+    size_t len;
+    for (int n = 0; n < LEVELS; n++)
+        strcat(document, "{\"a\":");
+    strcat(document, "1");
+    for (int n = 0; n < LEVELS; n++)
+        strcat(document, "}");
+    bytes given = text(document), out = block(256);
+    for (int again = 0; again < 2; again++) {
+        CHECK(tdl_open(handle, &choice, NULL, 0, TDL_STEM, given.at, given.length, NULL, 0, out.at, out.length, &len) == TDL_TABLES);
+        CHECK(tdl_open(handle, &choice, NULL, 0, TDL_STEM, NULL, 0, given.at, given.length, out.at, out.length, &len) == TDL_PREFIXES);
+        CHECK(tdl_load_classes(handle, given.at, given.length, out.at, out.length, &len) == TDL_CLASSES);
+    }
+    free(given.at);
+    free(out.at);
+}
+
 /* Choices of each size: those options count that end within it. */
 static void try_sizes(void) {
     tdl_handle handle = TDL_CLOSED;
@@ -343,6 +368,10 @@ static void try_nulls(void) {
         size_t room = len;
         CHECK(asked[n](&handle, NULL, 0, out, sizeof out, &len) == TDL_NO && len == room);
     }
+    uint32_t kind = 0;
+    size_t at = 0, character = 0;
+    CHECK(tdl_why(&handle, NULL, 0, &kind, &at, &character) == TDL_NO && kind == TDL_READING && at == TDL_NOWHERE && character == TDL_NOWHERE);
+    CHECK(tdl_why(&handle, (const uint8_t *)"urn:epc:id:sgtin:0614141.812345.6789", 36, &kind, &at, &character) == TDL_OK && kind == TDL_NO_REJECTION);
     CHECK(tdl_translate_lines(&handle, NULL, 0, NULL, 0, &len) == TDL_OK && len == 0);
     CHECK(tdl_translate_lines(&handle, (const uint8_t *)"x", 1, NULL, 0, &len) == TDL_SMALL && len > 0);
     tdl_close(&other);
@@ -449,6 +478,7 @@ static void calls(void) {
     try_retarget(&handle);
     try_share(&handle);
     try_sizes();
+    try_deep(&handle);
     try_nulls();
     try_classes();
     CHECK(open_plain(&handle, TDL_LINK, TDL_CANON) == TDL_OK);
@@ -498,6 +528,12 @@ static uint32_t call_share(void) {
     uint32_t status = tdl_share(&other, &faulted, &choice, (const uint8_t *)"sgtin-96", 8, TDL_STEM);
     tdl_close(&other);
     return status;
+}
+
+static uint32_t call_why(void) {
+    uint32_t kind;
+    size_t at, character;
+    return tdl_why(&faulted, (const uint8_t *)"https://id.gs1.org/01/80614141123459", 36, &kind, &at, &character);
 }
 
 static uint32_t call_classes(void) {
@@ -556,6 +592,7 @@ static void faults(long step) {
     deny("tdl_translate_lines", call_lines, TDL_NO, 1);
     deny("tdl_retarget", call_retarget, TDL_OK, 1);
     deny("tdl_share", call_share, TDL_OK, 1);
+    deny("tdl_why", call_why, TDL_NO, 1);
     deny("tdl_load_classes", call_classes, TDL_OK, 1);
     deny("tdl_class_canon", call_class_canon, TDL_OK, 1);
     deny("tdl_class_uri", call_class_uri, TDL_OK, 1);

@@ -11,7 +11,7 @@ from typing import Any
 
 import pytest
 
-from tools import cases, interface, library
+from tools import cases, interface, library, messages
 from tools.common import PATIENCE, Word, ran
 from tools.repository import TOP, VERSION
 
@@ -141,9 +141,46 @@ def test_version(libtdl: Path) -> None:
 def test_numbers() -> None:
     """The numbers of forms and statuses stay as they are: programs have them compiled in."""
     text = re.sub(r"/\*.*?\*/", "", library.HEADER.read_text("ascii"), flags=re.DOTALL)
-    forms, statuses = (re.findall(r"TDL_(\w+)", body) for body in re.findall(r"^enum \{(.*?)\};", text, re.MULTILINE | re.DOTALL))
+    forms, statuses, kinds = enumerators(text)
     assert forms == [name.upper() for name in FORMS]
     assert statuses == ["OK", "NO", "SMALL", "MEMORY", "ARGUMENT", "TABLES", "PREFIXES", "SHUT", "CLASSES"]
+    # the kinds: the first words of the reasons that docs/MESSAGES.md has for lines, in its order, each once
+    listed = dict.fromkeys(message.split()[1] for message, _ in messages.rows() if message.startswith("no "))
+    assert kinds == ["NO_REJECTION", *(word.upper().replace("-", "_") for word in listed)]
+
+
+def enumerators(header: str) -> list[list[str]]:
+    """The names of each enumeration of the header, without TDL_."""
+    return [re.findall(r"TDL_(\w+)", body) for body in re.findall(r"^enum \{(.*?)\};", header, re.MULTILINE | re.DOTALL)]
+
+
+OF_MESSAGES = [
+    pytest.param(message, *example, id=message)
+    for message, example in messages.rows()
+    if example and example[0][0] in ("canon", "translate") and message.startswith("no ") and "--tables" not in example[0]
+]
+
+
+@pytest.mark.parametrize("message, words, text", OF_MESSAGES)
+def test_kinds(libtdl: Path, message: str, words: list[str], text: str) -> None:
+    """The kind of a rejection is that of its printed reason, and its place the numbers in it."""
+    session = Session(libtdl, words[1], "canon" if words[0] == "canon" else words[2])
+    for name, value in zip(words, words[1:]):
+        if name in ("--gcp", "--filter"):
+            setattr(session.choice, name[2:], int(value))
+    encoding = words[words.index("--encoding") + 1] if "--encoding" in words else ""
+    opening = [word for part in (encoding.encode(), STEM, b"", b"") for word in given(part)]
+    assert session.calls.tdl_open(ctypes.byref(session.handle), ctypes.byref(session.choice), *opening, *session.room()) == OK
+    kind, at, character = ctypes.c_uint32(), ctypes.c_size_t(), ctypes.c_size_t()
+    found = [ctypes.byref(number) for number in (kind, at, character)]
+    assert session.calls.tdl_why(ctypes.byref(session.handle), *given(text.encode("ascii")), *found) == NO
+    assert session.ask("tdl_translate", text.encode("ascii")) == NO
+    said = session.said().decode("ascii").split()
+    session.close()
+    assert enumerators(re.sub(r"/\*.*?\*/", "", library.HEADER.read_text("ascii"), flags=re.DOTALL))[2][kind.value] == said[0].upper()
+    assert said[0] == message.split()[1]
+    places = [int(word) for word, name in zip(said[1:], message.split()[2:]) if name in ("P", "AT", "I")]
+    assert [at.value, character.value] == (places + [2**64 - 1] * 2)[:2]
 
 
 @pytest.mark.needs("cc", "mandoc")
@@ -153,7 +190,9 @@ def test_page(libtdl: Path, tmp_path: Path) -> None:
     text, header = page.read_text("ascii"), library.HEADER.read_text("ascii")
     named = re.findall(r"^\w+ (tdl_\w+)\(", header, re.MULTILINE)
     assert sorted(re.findall(r"^\.F[on] (tdl_\w+)", text.partition(".Sh DESCRIPTION")[0], re.MULTILINE)) == sorted(named)
-    assert set(re.findall(r"TDL_\w+", header)) - set(re.findall(r"TDL_\w+", text)) == {"TDL_H", "TDL_VERSION_NUMBER"}
+    # (tdl-messages(7) has the kinds)
+    names = set(re.findall(r"TDL_(\w+)", header)) - {"H", "VERSION_NUMBER"} - set(enumerators(re.sub(r"/\*.*?\*/", "", header, flags=re.DOTALL))[2])
+    assert not names - set(re.findall(r"TDL_(\w+)", text))
     found = ran("mandoc", "-T", "lint", page)
     assert not [line for line in found.splitlines() if "mandoc" in line and "referenced manual not found" not in line]
     assert max(map(len, text.splitlines())) <= 80
@@ -204,9 +243,8 @@ def test_no_classes(libtdl: Path, call: str) -> None:
 @pytest.mark.needs("cc")
 def test_stack(libtdl: Path, tmp_path: Path) -> None:
     """All calls fit in the stack that tdl.h names, the system's part of a thread included."""
-    source = next(path for path in (TOP / "tests" / "library.c", TOP / "checks" / "library.c") if path.is_file())
-    words: list[Word] = ["cc", "-std=c11", "-D_GNU_SOURCE", "-O1", "-I", library.HEADER.parent, "-o", tmp_path / "library", source]
-    words += [libtdl / library.ARCHIVE, "-lpthread"]
+    words: list[Word] = ["cc", "-std=c11", "-D_GNU_SOURCE", "-O1", "-I", library.HEADER.parent, "-o", tmp_path / "library"]
+    words += [TOP / "checks" / "library.c", libtdl / library.ARCHIVE, "-lpthread"]
     assert ran(*words, timeout=PATIENCE) == ""
     assert ran(tmp_path / "library", "stack", LEAST_STACK, timeout=PATIENCE) == ""
     assert f"{LEAST_STACK // 1024} KiB of stack" in library.HEADER.read_text("ascii")

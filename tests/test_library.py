@@ -92,7 +92,7 @@ def test_exports_what_its_map_names_and_needs_only_the_c_library(libtdl: Path) -
 def test_compilers_read_its_header_with_its_example(libtdl: Path, tmp_path: Path, words: tuple[str, ...]) -> None:
     example = there(re.search(r"^   (    tdl_handle handle.*?tdl_close\(&handle\);)", library.HEADER.read_text("ascii"), re.MULTILINE | re.DOTALL))[1]
     source, made = tmp_path / "example.c", tmp_path / "example"
-    body = f'{example}\nprintf("%u\\n", (unsigned)tdl_version());\nreturn 0;\n'
+    body = f'{example}\nprintf("%u\\n", (unsigned)tdl_version_number());\nreturn 0;\n'
     source.write_text(f'#include "tdl.h"\n#include <stdio.h>\n\nint main(void) {{\n{body}}}\n', "ascii")
     assert ran(*words, *WARNINGS, "-I", library.HEADER.parent, "-o", made, source, "-xnone", libtdl / library.ARCHIVE) == ""
     major, minor, patch = map(int, VERSION.split("."))

@@ -15,8 +15,8 @@
 
    What the caller has to keep, since no call can test it:
 
-   - A pointer leads to as many bytes as its length says. It may be null if its length is 0. `len`, `handle`, `other` and `choice` are not
-     null, and lead to one each.
+   - A pointer leads to as many bytes as its length says. It may be null if its length is 0. Those without a
+     length are not null, and lead to one each.
    - No two buffers of a call overlap, except that those that are only read may. `tdl_share(&h, &h, ..)` is forbidden: the handles are two.
    - A handle begins as TDL_CLOSED, is not copied, and is in one call at a time: each thread has its own, or a lock is held. A closed
      handle gives TDL_SHUT. No other library, and no other version of this one, gets the handle.
@@ -55,6 +55,19 @@ enum {
     TDL_SHUT,      /* the handle has no session */
     TDL_CLASSES    /* the class document is rejected: the buffer has the reason; or the session has no classes */
 };
+
+/* The kinds of rejections, in the order of docs/MESSAGES.md, which explains each by its printed reason. */
+enum {
+    TDL_NO_REJECTION,
+    TDL_LONG, TDL_ODD, TDL_FULL, TDL_DIGIT, TDL_READING,
+    TDL_HTTP, TDL_PATH, TDL_BRACKET, TDL_UNKNOWN, TDL_ESCAPE, TDL_LENGTH, TDL_CHAR, TDL_CHECK, TDL_DATE, TDL_REPEAT, TDL_KEY, TDL_KEYS,
+    TDL_KIND, TDL_EXTRA, TDL_MISSING, TDL_OPTION, TDL_HOLD,
+    TDL_CLASS,
+    TDL_WORD, TDL_EXTENDED, TDL_TOGGLE, TDL_WORDS, TDL_LINE, TDL_TOO_LONG
+};
+
+/* No place in a text. */
+#define TDL_NOWHERE SIZE_MAX
 
 #define TDL_ANY_FILTER 255
 #define TDL_ANY_GCP 0
@@ -116,6 +129,14 @@ uint32_t tdl_share(tdl_handle *handle, tdl_handle *other, const tdl_choice *choi
    Returns TDL_OK, TDL_NO, TDL_SMALL, TDL_MEMORY or TDL_SHUT. */
 uint32_t tdl_translate(tdl_handle *handle, const uint8_t *text, size_t text_len,
                        uint8_t *out, size_t capacity, size_t *len);
+
+/* Tells why tdl_translate rejects a text. *kind gets the kind. *at gets the byte of the text that the reason names: the wrong digit, or the
+   beginning of the element's AI. *character gets the character of the value, from 0, that TDL_CHAR names. Without a place they get
+   TDL_NOWHERE.
+
+   Returns TDL_NO; TDL_OK, with TDL_NO_REJECTION, if the text has a translation; TDL_MEMORY or TDL_SHUT. */
+uint32_t tdl_why(tdl_handle *handle, const uint8_t *text, size_t text_len,
+                 uint32_t *kind, size_t *at, size_t *character);
 
 /* Translates each line, whose end is a line feed, with or without a carriage return before it. The buffer gets `ok TEXT` or `no REASON` and a line
    feed for each, and *len the length of all.

@@ -5,6 +5,7 @@ use Rattle.std.specs.declared.alloc.Global.{Global}
 use Rattle.tdl_session.specs.Classes.{AreClassesRejected, TakesClasses}
 use Rattle.tdl_session.specs.Lines.{IsLinesReply}
 use Rattle.tdl_session.specs.Openings.{IsNotChosen, IsOpened, IsRetargeted}
+use Rattle.tdl_session.specs.Rejections.{IsFound, IsWhy, of_kind}
 use Rattle.tdl_session.specs.Replies.{IsNothingSaid, IsReply}
 use Rattle.tdl_session.specs.Sessions.{SessionData}
 use Rattle.tdl_session.specs.Tellings.{IsTold, unopened_code}
@@ -44,6 +45,11 @@ IsRetargeting choice encoding stem before now status = IsShared choice encoding 
 abbrev pub IsCalled : Option SessionData → List ℕ → List ℕ → List ℕ → ℕ → ℕ → Type 0
 IsCalled None text old new len status = (status ≡ 7) × IsNothingSaid old new len
 IsCalled (Some session) text old new len status = IsReply session.translating text old new len status
+
+-- trusted, own: holds if this is why the session of a handle has no translation of a text, if it has a session
+abbrev pub IsExplained : Option SessionData → List ℕ → ℕ → ℕ → ℕ → ℕ → Type 0
+IsExplained None text kind at character status = (status ≡ 7) × IsFound (of_kind 0) kind at character
+IsExplained (Some session) text kind at character status = IsWhy session.translating text kind at character status
 
 -- trusted, own: holds if these are the answers to lines by the session of a handle, if it has one
 abbrev pub AreCalled : Option SessionData → List ℕ → List ℕ → List ℕ → ℕ → ℕ → Type 0

@@ -2,6 +2,7 @@
 //!
 //! - `tdl_open` opens a session into a handle, and `tdl_close` closes it.
 //! - `tdl_translate` translates a text by a session, and `tdl_translate_lines` each line of a text.
+//! - `tdl_why` gives the kind of a rejection as a number, and its place.
 //! - `tdl_retarget` gives a session other forms and options. `tdl_share` opens a session over the tables that another has loaded.
 //! - `tdl_load_classes` gives a session classes; `tdl_class_canon` and `tdl_class_uri` translate by them. `tdl_dump_read` and
 //!   `tdl_dump_write` answer dumps of tags.
@@ -13,7 +14,7 @@
 #![tactic(auto)]
 
 ghost use Rattle.std.specs.Prelude.{◌≡◌, None};
-ghost use Rattle.tdl_c.specs.Calls.{AreCalled, IsAsked, IsBoxed, IsCalled, IsClassing, IsOpening, IsRetargeting, IsShared};
+ghost use Rattle.tdl_c.specs.Calls.{AreCalled, IsAsked, IsBoxed, IsCalled, IsClassing, IsExplained, IsOpening, IsRetargeting, IsShared};
 ghost use Rattle.tdl_session.specs.LineAnswers.{IsClassCanonReply, IsClassUriReply, IsDumpReadReply, IsDumpWriteReply};
 
 mod handle;
@@ -22,7 +23,9 @@ mod parts;
 pub use handle::Handle;
 use std::alloc::Global;
 use std::mem::replace;
-use tdl_session::{CLOSED, Choice, OK, Session, Unopened, nothing, open, status_of, tell};
+use tdl_session::{
+    CLOSED, Choice, OK, Session, Unopened, nothing, of_kind, open, status_of, tell, tell_found,
+};
 
 /// The version of the library: 10,000 times the first number of VERSION, 100 times the second, and the third.
 const VERSION: u32 = 10_000;
@@ -149,6 +152,30 @@ pub extern "C" fn tdl_translate(
             status
         }
         None => nothing(CLOSED, len),
+    }
+}
+
+/// Tells why a text has no translation by the session of the handle: the number of the kind, the byte of the text and the character
+/// of the value. Returns `OK` with the kind 0 if it has one, otherwise `NO`, `MEMORY`, and `CLOSED` if the handle has no session.
+#[unsafe(no_mangle)]
+pub extern "C" fn tdl_why(
+    alloc: Global,
+    handle: &mut Handle,
+    text: &[u8],
+    kind: &mut u32,
+    at: &mut usize,
+    character: &mut usize,
+) -> u32
+    ensures same { handle.new.session ≡ handle.old.session }
+    ensures answer { IsExplained handle.old.session text.now kind.new at.new character.new result }
+{
+    match replace(handle, Handle::closed(alloc)).into_box() {
+        Some(session) => {
+            let status = session.as_ref().why(alloc, text, kind, at, character);
+            *handle = Handle::of(session);
+            status
+        }
+        None => tell_found(CLOSED, of_kind(0), kind, at, character),
     }
 }
 

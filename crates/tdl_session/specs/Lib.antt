@@ -4,6 +4,7 @@ pub mod Classes
 pub mod LineAnswers
 pub mod Lines
 pub mod Openings
+pub mod Rejections
 pub mod Replies
 pub mod Sessions
 pub mod Tellings

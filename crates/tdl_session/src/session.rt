@@ -5,6 +5,7 @@ ghost use Rattle.tdl_session.specs.Classes.{AreClassesRejected, TakesClasses};
 ghost use Rattle.tdl_session.specs.LineAnswers.{IsClassCanonReply, IsClassUriReply, IsDumpReadReply, IsDumpWriteReply};
 ghost use Rattle.tdl_session.specs.Lines.{IsLinesReply};
 ghost use Rattle.tdl_session.specs.Openings.{IsNotChosen, IsRetargeted, session_of};
+ghost use Rattle.tdl_session.specs.Rejections.{IsWhy};
 ghost use Rattle.tdl_session.specs.Replies.{IsAnswered, IsReply, IsSaid};
 
 use crate::buffer::put;
@@ -13,6 +14,7 @@ use crate::classes::load_classes;
 use crate::line_answer::put_answer_of;
 use crate::line_status::put_lines;
 use crate::opening::Unopened;
+use crate::rejections::{tell_found, why_of};
 use crate::status::{CLASSES, MEMORY, NO, OK, SMALL};
 use crate::told::nothing;
 use gs_chars::{Memory, Text};
@@ -169,6 +171,23 @@ impl Session {
     {
         let answer = self.answer(alloc, text);
         put_answer(alloc, answer, out, len)
+    }
+
+    /// Tells why a text has no translation: the number of the kind, the byte of the text and the character of the value. Returns `OK`
+    /// with the kind 0 if it has one, otherwise `NO` or `MEMORY`.
+    pub fn why(
+        &self,
+        alloc: Global,
+        text: &[u8],
+        kind: &mut u32,
+        at: &mut usize,
+        character: &mut usize,
+    ) -> u32
+        ensures { IsWhy self.now.translating text.now kind.new at.new character.new result }
+    {
+        let answer = self.answer(alloc, text);
+        let (status, found) = why_of(&answer);
+        tell_found(status, found, kind, at, character)
     }
 
     /// Puts the answer to each line into the buffer, `ok TEXT` or `no REASON` and a line feed, and the length of all into `len`. If
