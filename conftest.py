@@ -32,6 +32,7 @@ def pytest_addoption(parser: pytest.Parser) -> None:
     """Adds the options of the tests."""
     parser.addoption("--program", type=Path, default=repository.PROGRAM, metavar="FILE", help="the program that is tried")
     parser.addoption("--whole", action="store_true", help="try the large sizes too")
+    parser.addoption("--under", default="", metavar="WORDS", help="the words before the program in a case of checks/cases, such as `valgrind -q`")
     parser.addoption("--sources", action="store_true", help="try only what needs no program")
 
 
