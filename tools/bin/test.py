@@ -268,7 +268,7 @@ def main() -> int:
             return test_unproved(bool(words))
         except KeyboardInterrupt:
             return 130
-    if not is_current and not any(word.startswith("--program") for word in words):
+    if not is_current and not any(word.startswith(("--program", "--sources")) for word in words):
         say("there is no program as new as its sources; tests over it fail, or try an older one")
     command = of_pytest(*words)
     return subprocess.run(command, cwd=TOP).returncode if command else CANNOT
