@@ -55,7 +55,8 @@ def pytest_unconfigure(config: pytest.Config) -> None:
 
 
 def pytest_collection_modifyitems(config: pytest.Config, items: list[pytest.Item]) -> None:
-    """Keeps the tests that need no program, where only these are asked for."""
+    """Puts what shares something expensive first, and keeps the tests that need no program, where only these are asked for."""
+    items.sort(key=lambda item: not item.get_closest_marker("xdist_group"))
     if config.getoption("--sources"):
         items[:] = [item for item in items if item.path.is_relative_to(TOP / "tests") and not OF_PROGRAM & {*getattr(item, "fixturenames", [])}]
 
