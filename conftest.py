@@ -32,6 +32,7 @@ def pytest_addoption(parser: pytest.Parser) -> None:
     """Adds the options of the tests."""
     parser.addoption("--program", type=Path, default=repository.PROGRAM, metavar="FILE", help="the program that is tried")
     parser.addoption("--whole", action="store_true", help="try the large sizes too")
+    parser.addoption("--under", default="", metavar="WORDS", help="the words before the program in a case of checks/cases, such as `valgrind -q`")
     parser.addoption("--sources", action="store_true", help="try only what needs no program")
 
 
@@ -54,7 +55,8 @@ def pytest_unconfigure(config: pytest.Config) -> None:
 
 
 def pytest_collection_modifyitems(config: pytest.Config, items: list[pytest.Item]) -> None:
-    """Keeps the tests that need no program, where only these are asked for."""
+    """Puts what shares something expensive first, and keeps the tests that need no program, where only these are asked for."""
+    items.sort(key=lambda item: not item.get_closest_marker("xdist_group"))
     if config.getoption("--sources"):
         items[:] = [item for item in items if item.path.is_relative_to(TOP / "tests") and not OF_PROGRAM & {*getattr(item, "fixturenames", [])}]
 

@@ -1,6 +1,7 @@
 """The program answers each case of checks/cases, with real standard input and real files; tools/cases.py says what a case is."""
 import os
 import re
+import shlex
 from pathlib import Path
 from select import select
 from time import monotonic
@@ -43,10 +44,10 @@ def talk(words: list[bytes], case: Case, folder: bytes) -> Ended:
 
 
 @pytest.mark.parametrize("case", CASES)
-def test_case(program: Path, case: Case) -> None:
+def test_case(program: Path, pytestconfig: pytest.Config, case: Case) -> None:
     """The status, the output and standard error are those of the case."""
     assert not form_fault(case)
-    words = [os.fsencode(program), *map(bytes_of, case["words"])]
+    words = [*map(os.fsencode, shlex.split(pytestconfig.getoption("--under"))), os.fsencode(program), *map(bytes_of, case["words"])]
     with temporary() as room:
         folder = os.fsencode(room)
         lay_out(case, folder)

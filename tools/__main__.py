@@ -1,4 +1,4 @@
-"""Runs a program of this package: `python3 tools PATH ARGUMENT..`, where PATH is its launcher, such as checks/alike for tools/checks/alike.py."""
+"""Runs a program of this package: `python3 tools PATH ARGUMENT..`, where PATH is its launcher, such as bench/lines for tools/bench/lines.py."""
 import sys
 from importlib import import_module
 from pathlib import Path

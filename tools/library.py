@@ -4,6 +4,7 @@ It is crates/tdl_c/out/libtdl.so.1, with its soname, and crates/tdl_c/out/libtdl
 the sources that they were made from. `rattle` proves tdl_c and compiles it over the libraries that `rt ci` left in crates/*/out/rlib, whose
 proofs are not made again, and the kit's linker links it; no other compiler is needed.
 """
+import fcntl
 import hashlib
 import os
 import shutil
@@ -122,10 +123,12 @@ def put_in_place(room: Path, folder: Path = OUT) -> None:
 
 
 def current() -> Path:
-    """Returns the folder of the library, which is built if it is not current and `rt ci` left what it needs. Raises `Unbuilt`."""
+    """Returns the folder of the library, which one process builds if it is not current and `rt ci` left what it needs. Raises `Unbuilt`."""
     if not is_there():
         raise Unbuilt("this repository has no crate tdl_c")
-    return OUT if is_current() else build()
+    with HEADER.open() as lock:
+        fcntl.flock(lock, fcntl.LOCK_EX)
+        return OUT if is_current() else build()
 
 
 def named_or_current() -> Path:

@@ -1,16 +1,42 @@
 """What bench/ measures with: the program, lines of trade items in all forms, links of them, and what a run costs."""
+import argparse
 import random
 import subprocess
+import sys
 import time
 from dataclasses import dataclass
-from typing import Any, Sequence
+from pathlib import Path
+from typing import Any, Optional, Sequence
 
-from tools.common import Word, spent, told
+from tools import library, repository
+from tools.common import Word, parser, spent, told
 from tools.repository import PROGRAM
 
 TDL = str(PROGRAM)
 FORMS = ("hex", "tag", "pure", "raw", "bracketed", "link")
 PREFIX_BITS = {12: 40, 11: 37, 10: 34, 9: 30, 8: 27, 7: 24, 6: 20}
+
+
+def arguments(described: Optional[str], **numbers: tuple[str, int]) -> argparse.Namespace:
+    """Returns the arguments of a measurement: PROGRAM, with its whole path, and numbers, each with its option and default. Ends if there is
+    no such program."""
+    asked = parser(described)
+    asked.add_argument("program", nargs="?", type=Path, default=PROGRAM, metavar="PROGRAM")
+    for name, (option, default) in numbers.items():
+        asked.add_argument(option, dest=name, type=int, default=default, metavar="N")
+    given = asked.parse_args()
+    given.program = given.program.resolve()
+    if not repository.is_program(given.program):
+        asked.exit(2, f"{Path(sys.argv[0]).name}: there is no program {given.program}\n")
+    return given
+
+
+def libtdl() -> Path:
+    """Returns the folder of libtdl. Ends if there is none."""
+    try:
+        return library.named_or_current()
+    except library.Unbuilt as why:
+        sys.exit(f"there is no libtdl: {why}")
 
 
 def check_digit(digits: str) -> int:

@@ -1,4 +1,4 @@
-"""recorded: the first commands of the documents, with the answers that stand there; checks/documents holds both against the program."""
+"""recorded: the first commands of the documents, with the answers that stand there; tests/test_documents.py holds both against the program."""
 import re
 from itertools import islice, takewhile
 from typing import Iterator

@@ -15,8 +15,8 @@ from typing import Any, Callable
 
 import tdl
 from tools.common import Word, printed, spent, temporary
+from tools.measures import arguments
 from tools.repository import of_module
-from tools.trial import arguments
 
 Way = Callable[[str, Path, list[str]], int]
 

@@ -4,6 +4,7 @@ docs/BENCHMARKS.md.
 Calls of the library count the time of the processor, the other ways that of the wall: the least of three runs.
 """
 import re
+import sys
 import tempfile
 from pathlib import Path
 from time import monotonic
@@ -11,7 +12,8 @@ from time import monotonic
 from tools import common
 from tools.common import PATIENCE, temporary, there
 from tools.databases import BITS, CREATED, OF_POSTGRES, OF_SQLITE, OF_THE_LIBRARY, OWN, Server, ask_sqlite, begin_own, bulk, compile_for_sqlite
-from tools.trial import Trial, arguments, library_of
+from tools.debian import lack
+from tools.measures import arguments, libtdl
 
 ROWS = 500_000
 READS = f"CREATE TABLE reads AS SELECT n AS id, '{BITS[:16]}' || lpad(upper(to_hex(n)), 8, '0') AS epc FROM generate_series(1, %d) n"
@@ -76,19 +78,21 @@ def measure_sqlite(folder: Path) -> None:
 
 def main() -> int:
     """Measures both, and returns the status."""
-    program, results = arguments(__doc__).program, Trial("bench/databases")
-    built = library_of(results)
-    if results.has(*OF_POSTGRES):
+    program, built = arguments(__doc__).program, libtdl()
+    missing = lack(*OF_POSTGRES, *OF_THE_LIBRARY, *OF_SQLITE)
+    if missing:
+        print(f"databases: needs {missing}", file=sys.stderr)
+    if not lack(*OF_POSTGRES):
         with temporary() as room:
-            server = Server(room, program, built if results.has(*OF_THE_LIBRARY) else None)
+            server = Server(room, program, None if lack(*OF_THE_LIBRARY) else built)
             try:
                 server.start()
                 server.ask(CREATED)
                 measure_postgres(server)
             finally:
                 server.stop()
-    if built and results.has(*OF_SQLITE):
+    if not lack(*OF_SQLITE):
         with temporary() as room:
             compile_for_sqlite(room, built)
             measure_sqlite(room)
-    return 0
+    return 1 if missing else 0

@@ -12,7 +12,7 @@ from typing import Any, Sequence
 from tools import events
 from tools.common import Word, begun, temporary
 from tools.repository import of_module
-from tools.trial import arguments
+from tools.measures import arguments
 
 EVENTS, RUNS = 20_000, 3
 

@@ -10,8 +10,8 @@ from pathlib import Path
 
 from tools import library
 from tools.common import Word, printed, temporary
+from tools.measures import arguments, libtdl
 from tools.repository import TOP
-from tools.trial import Trial, arguments, library_of
 
 TEXT = "3074257BF7194E4000001A85"
 ASKED = f"""
@@ -36,10 +36,7 @@ def in_python(wheel: Path, program: Path, engine: str) -> list[float]:
 
 def main() -> int:
     """Measures all, and returns the status."""
-    program, results = arguments(__doc__).program, Trial("bench/library")
-    built = library_of(results)
-    if not built or not results.has("cc"):
-        return 1
+    program, built = arguments(__doc__).program, libtdl()
     print("| Texts a second | |\n|---|---:|", flush=True)
     with temporary() as room:
         words: list[Word] = ["-I", library.HEADER.parent, "-o", room / "measure", TOP / "bench/library.c", built / library.ARCHIVE]

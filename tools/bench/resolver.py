@@ -21,10 +21,9 @@ import urllib.error
 import urllib.request
 from typing import Any, Optional
 
-from tools.common import Process, ending, printed, stat_of, there
+from tools.common import Process, ending, free_port, printed, stat_of, there
 from tools.fronts import listens
 from tools.measures import TDL, path_of
-from tools.trial import free_port
 
 SIZES = (1, 65536)
 RUNS, SECONDS = 3, 5

@@ -13,6 +13,7 @@ line is 'N passed, M failed'.
 The status is 0, 1 if a test failed, another of pytest, or 70 if the tests cannot run.
 """
 import json
+import os
 import re
 import resource
 import signal
@@ -55,6 +56,13 @@ FEW, LINES = 20, 20
 def say(text: object) -> None:
     """Writes a line to standard error."""
     print(f"bin/test: {text}", file=sys.stderr, flush=True)
+
+
+def whole_options(words: list[str]) -> list[str]:
+    """Returns words with the values of --program and --under joined to them: until pytest has read conftest.py, it takes them for files."""
+    text = "\0".join(words)
+    text = re.sub(r"(?<![^\0])(--program)[\0=]([^\0]*)", lambda found: f"{found[1]}={os.path.abspath(found[2])}", text)
+    return re.sub(r"(?<![^\0])(--under)\0", r"\1=", text).split("\0") if words else []
 
 
 def of_pytest(*words: str) -> Optional[list[str]]:
@@ -268,7 +276,7 @@ def main() -> int:
             return test_unproved(bool(words))
         except KeyboardInterrupt:
             return 130
-    if not is_current and not any(word.startswith("--program") for word in words):
+    if not is_current and not any(word.startswith(("--program", "--sources")) for word in words):
         say("there is no program as new as its sources; tests over it fail, or try an older one")
-    command = of_pytest(*words)
+    command = of_pytest(*whole_options(words))
     return subprocess.run(command, cwd=TOP).returncode if command else CANNOT
