@@ -580,7 +580,9 @@ def test_memory_lets_rt_use_processors() -> None:
 @pytest.mark.parametrize("late, ends", (("", r"\d+ passed, 0 failed\n"), ("001", r"\d+ passed, 0 failed, \d+ left out: slow here\n")), ids=("all", "one is late"))
 def test_bin_test_without_a_program(stand_in: Place, late: str, ends: str) -> None:
     """All pass, and what has not ended within the time limit is left out and not failed."""
-    status, output, said = stand_in.run("--whole", env={**stand_in.with_rt, "STAND_IN_LATE": late}, command=[stand_in.top / "bin/test"])
+    # (few of the tests that need no program)
+    env = {**stand_in.with_rt, "STAND_IN_LATE": late, "PYTEST_ADDOPTS": "-k test_launchers"}
+    status, output, said = stand_in.run("--whole", env=env, command=[stand_in.top / "bin/test"])
     begins = r"bin/test: nothing is proved here, so the sources run without proofs: \d+ runs of tdl and [\d,]+ vectors of its libraries, in \d"
     assert status == 0 and re.match(begins, said) and re.search(rf"(?m)^{ends}\Z", output.decode()), output[-2000:]
     assert bool(late) == (b"left out: slow here: " in output)
