@@ -2,7 +2,6 @@
 //! `numpad:BITS:N`, `num:BITS:MAX`, `numstr:BITS:HI`, `ascii7:LO:HI:BITS`, `fill:A:B`.
 
 use crate::case::{Rejection, named, number_of, text_of};
-use crate::line::Line;
 use gs_chars::Text;
 use gs_grammar::Item;
 use std::alloc::{AllocError, Global};
@@ -125,65 +124,5 @@ fn packed_item(lo: u8, hi: u8, bits: u64) -> Result<Item, Rejection> {
     match u16::try_from(bits) {
         Ok(bits) => Ok(Item::Ascii7 { lo, hi, bits }),
         Err(_) => Err(Rejection::NoCase),
-    }
-}
-
-/// Writes the bits of a literal.
-fn add_bits(line: &mut Line, bits: &[u8]) {
-    line.more("bits:");
-    for bit in bits {
-        line.more(if *bit == 0 { "0" } else { "1" });
-    }
-}
-
-/// Writes the symbols of a literal.
-fn add_symbols(line: &mut Line, symbols: &[u8]) {
-    line.more("lit:");
-    line.more_bytes(symbols);
-}
-
-/// Writes a literal of a level.
-fn add_literal(line: &mut Line, bit_level: bool, literal: &[u8]) {
-    if bit_level {
-        add_bits(line, literal);
-    } else {
-        add_symbols(line, literal);
-    }
-}
-
-/// Writes a number after a colon.
-fn add_number(line: &mut Line, number: u64) {
-    line.more(":");
-    line.more_debug(number);
-}
-
-/// Writes a name and its number.
-fn add_one(line: &mut Line, name: &str, number: u64) {
-    line.more(name);
-    add_number(line, number);
-}
-
-/// Writes a name and its two numbers.
-fn add_two(line: &mut Line, name: &str, first: u64, second: u64) {
-    add_one(line, name, first);
-    add_number(line, second);
-}
-
-/// Writes an item of a level as more of the last word.
-pub fn add_item(line: &mut Line, bit_level: bool, item: &Item) {
-    match *item {
-        Item::Lit(ref literal) => add_literal(line, bit_level, literal.as_bytes()),
-        Item::Pad { n } => add_one(line, "pad", n as u64),
-        Item::Digits { lo, hi } => add_two(line, "digits", lo as u64, hi as u64),
-        Item::Int { max } => add_one(line, "int", max),
-        Item::Esc { lo, hi } => add_two(line, "esc", lo as u64, hi as u64),
-        Item::NumPad { bits, n } => add_two(line, "numpad", bits as u64, n as u64),
-        Item::Num { bits, max } => add_two(line, "num", bits as u64, max),
-        Item::NumStr { bits, hi } => add_two(line, "numstr", bits as u64, hi as u64),
-        Item::Ascii7 { lo, hi, bits } => {
-            add_two(line, "ascii7", lo as u64, hi as u64);
-            add_number(line, bits as u64);
-        }
-        Item::Fill { a, b } => add_two(line, "fill", a as u64, b as u64),
     }
 }
