@@ -39,6 +39,6 @@ def test_example(program: Path, tmp_path: Path, message: str, example: tuple[lis
 def test_cases() -> None:
     """A row explains each message of the cases."""
     known = [pattern(message) for message, _ in ROWS]
-    plain = (case for _, cases in subjects() for case in cases if "pattern" not in case and "stdout" not in case)
+    plain = (case for _, cases in subjects() for case in cases if not case.keys() & {"pattern", "stdout", "room"})
     lines = {line for case in plain for line in joined(case, "output", 1).decode("utf-8", "replace").splitlines()}
     none(sorted(line for line in lines if re.match(r"(?:no|refused) (?!tables )", line) and not any(it.fullmatch(line) for it in known)))

@@ -1,9 +1,11 @@
-"""Each library has a page with an example that is a vector, crates.txt lists each crate above those that use it, and CONTRIBUTING.md names edits."""
+"""Each library has a page with an example that is a vector or of a case, crates.txt lists each crate above those that use it, and CONTRIBUTING.md names edits."""
 import re
 from pathlib import Path
 
 import pytest
 
+from tools.calls import calls_of
+from tools.cases import subjects
 from tools.crate_pages import layers
 from tools.repository import CRATES, TOP
 from tools.tests import none
@@ -12,25 +14,27 @@ from tools.vectors import cases, page
 EXAMPLE = re.compile(r"^```text\n(.*?)\n```$", re.MULTILINE | re.DOTALL)
 DIFFERS = re.compile(r"^# Differences from the (standards?|system)$", re.MULTILINE)
 WRONG_BODY = re.compile(r"^\| `(\w+)/(\w+)` \|", re.MULTILINE)
-# the libraries of the program of vectors, and the callers that docs/LIBRARY.md shows, are not part of tdl
-BESIDE = ("vectors_", "uses")
+# the callers that docs/LIBRARY.md shows are not part of tdl
+BESIDE = ("uses",)
 # the objects of the system, their records and the handles of C are in no case: adapter_tests and tests/test_library.py try them
 WITHOUT_EXAMPLE = {"gs_history", "gs_port_system", "tdl_c", "tdl_session"}
 # the call of the crate is for what a load has accepted, or takes a request, so its case goes through the call of this one
 THROUGH = {"gs_tables_migration": "gs_tables", "tdl_loads": "tdl_run"}
-KNOWN = set(cases())
+# a case that is for a call may have it as an example, in the words of the vectors
+SHOWN = {(call, answer) for _, some in subjects() for case in some for call, answer in case.get("examples", []) if call.split()[0] in calls_of(case)}
+KNOWN = {*cases(), *SHOWN}
 ROOTS = [root for root in sorted(CRATES.glob("*/src/lib.rt")) if not root.parts[-3].startswith(BESIDE)]
 
 
 @pytest.mark.parametrize("root", ROOTS, ids=[root.parts[-3] for root in ROOTS])
 def test_page(root: Path) -> None:
-    """A page says where the crate differs from the standards, and shows calls of the crate itself that are vectors with this answer."""
+    """A page says where the crate differs from the standards, and shows calls of the crate itself that are vectors, or examples of cases, with this answer."""
     text, crate = page(root), root.parts[-3]
     blocks = [block.split("\n") for block in EXAMPLE.findall(text)]
     examples = [pair for lines in blocks for pair in zip(lines[::2], lines[1::2])]
     assert DIFFERS.search(text)
     assert examples or crate in WITHOUT_EXAMPLE
-    none(f"this is no case of the vectors, or has another answer: {pair[0]}" for pair in examples if pair not in KNOWN)
+    none(f"neither a vector nor an example of a case, or with another answer: {pair[0]}" for pair in examples if pair not in KNOWN)
     none(f"this is the call of another crate: {call}" for call, _ in examples if not call.startswith(f"{THROUGH.get(crate, crate)}::"))
 
 

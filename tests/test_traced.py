@@ -141,12 +141,11 @@ FIELDS = {NAMES.get(item[1], item[1]): value for item, value in zip(OPTION["item
 LINK = canonical_link(elements_of(pairs_of_bracketed(LABEL)))
 CALLS = {
     f"gs_grammar_level::read_bits {TAG} {' '.join(map(item_text, OPTION['items']))} | num:8:255": " ".join(["0", *(value or "\\e" for value in VALUES)]),
-    f"gs_epc::read_hex {TAG}": "{kind} {encoding} Some({filter}) {gcp} {prefix} {rest} {serial}".format(**OPTION, **FIELDS),
-    f"gs_epc::identity_of hex {TAG}": LINK,
 }
 ANSWERS = [
     (LABEL, LINK, "canon bracketed"),
     (TAG, LINK, "canon hex"),
+    (TAG, "urn:epc:tag:{encoding}:{filter}.{prefix}.{rest}.{serial}".format(**OPTION, **FIELDS), "translate hex tag"),
     (LABEL, TAG, f"translate bracketed hex --filter {FIELDS['filter']} --gcp {OPTION['gcp']}"),
 ]
 
@@ -158,7 +157,7 @@ def test_page() -> None:
 
 
 def test_vectors() -> None:
-    """Vectors have the values and fields of the tag."""
+    """A vector has the values of the tag."""
     known = dict(vectors.cases())
     assert {call: known.get(call) for call in CALLS} == CALLS
 

@@ -21,7 +21,8 @@ Each file of checks/cases is a list of cases:
   status   the status that is wanted
   heavy    true: without proofs it takes minutes, so bin/test leaves it out if nothing is proved
   for      the public calls of the libraries that the case is for; tools/calls.py counts the cases of each
-  cut      the most bytes of standard input that a read gets
+  examples the examples of the crates' pages that the case runs: pairs of a call, as vectors write it, and its answer
+  cut      the most bytes of standard input that a read gets; a list of them stands for a case with each
   broken   true: the read after the input fails. In a case with lines a list of numbers, which stands for a case with each: the read after
            so many bytes of the input fails, and the lines that end before it are answered
   room     how many bytes standard output takes before a write fails; a list of them stands for a case with each. Where the output has more,
@@ -45,7 +46,7 @@ Case = dict[str, Any]
 CASES = TOP / "checks" / "cases"
 NEEDED = {"name", "words", "status"}
 KNOWN = NEEDED | {"files", "lent", "sparse", "folders", "input", "stdin", "output", "pattern"}
-KNOWN |= {"lines", "turns", "stdout", "error", "heavy", "for", "cut", "broken", "room", "unread"}
+KNOWN |= {"lines", "turns", "stdout", "error", "heavy", "for", "examples", "cut", "broken", "room", "unread"}
 SAID = {2, 4, 5, 6, 8, 9}
 APART = [("input", "stdin"), ("output", "stdout"), ("output", "pattern"), ("pattern", "stdout"), ("lines", "turns")]
 APART += [(pairs, f) for pairs in ("lines", "turns") for f in ("input", "stdin", "output", "pattern", "stdout")]
@@ -63,13 +64,13 @@ def subjects() -> Iterator[tuple[str, list[Case]]]:
 
 
 def singles(case: Case) -> Iterator[Case]:
-    """Yields a case once for each file of a list of files that are lent, for each place at which its input breaks, or for each room of its
-    output, which its name then has too."""
+    """Yields a case once for each file of a list of files that are lent, for each place at which its input is cut or breaks, or for each room
+    of its output, which its name then has too."""
     for name, paths in case.get("lent", {}).items():
         if isinstance(paths, list):
             yield from ({**case, "name": f"{case['name']}, by {path}", "lent": {**case["lent"], name: path}} for path in paths)
             return
-    for member, single in (("broken", broken_at), ("room", in_room)):
+    for member, single in (("broken", broken_at), ("room", in_room), ("cut", cut_at)):
         if isinstance(case.get(member), list):
             yield from (single(case, number) for number in case[member])
             return
@@ -83,6 +84,11 @@ def broken_at(case: Case, place: int) -> Case:
     kept = {member: value for member, value in case.items() if member != "lines"}
     name = f"{case['name']}, broken after {place} bytes"
     return {**kept, "name": name, "input": given.decode("latin-1"), "output": [[text, "\n"] for text in answers], "broken": True, "status": READ_FAULT}
+
+
+def cut_at(case: Case, most: int) -> Case:
+    """The case whose reads get so many bytes at most."""
+    return {**case, "name": f"{case['name']}, {most} bytes a read", "cut": most}
 
 
 def in_room(case: Case, room: int) -> Case:

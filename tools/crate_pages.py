@@ -36,8 +36,5 @@ def architecture() -> str:
     text = [ARCHITECTURE.read_text("utf-8").partition(HEAD.splitlines(keepends=True)[0])[0], HEAD]
     for layer, crates in layers():
         text.append(f"\n### {layer[0].upper()}{layer[1:]}\n\n")
-        told = [name for name, _ in crates if not name.startswith("vectors_")]
-        text.extend(f"- `{name}`: {sentence(name)}\n" for name in told)
-        calls = [f"`{name}`" for name, _ in crates if name not in told]
-        text.extend([f"- {', '.join(calls)}: the libraries of `vectors`\n"] if calls else [])
+        text.extend(f"- `{name}`: {sentence(name)}\n" for name, _ in crates)
     return "".join(text)

@@ -38,7 +38,7 @@ Counts = tuple[int, int, int]
 CANNOT = 70
 PYTEST = "Debian's packages python3-pytest and python3-pytest-xdist"
 # how many runs of tdl are taken, how many vectors of each call, and the most lines of `gen`
-RUNS, VECTORS_A_CALL, MOST_LINES = 60, 25, 10_000
+RUNS, VECTORS_A_CALL, MOST_LINES = 70, 25, 10_000
 # the seconds that all may take, that a run may take by the clock, and of processor time
 ALL, CLOCK, PROCESSOR = 300, 3_600, 900
 # the costs (tools/pace.py) of a run of tdl, and of a thousand vectors
