@@ -11,13 +11,12 @@ from typing import Any, Iterator
 import pytest
 
 from tools.common import BOTH, PATIENCE, QUIET, begun, printed, temporary, there, until
-from tools.databases import BITS, CREATED, OF_POSTGRES, OF_THE_LIBRARY, OWN, Server, begin_own, bulk
+from tools.databases import BITS, CREATED, FORM_OF, LINK, OF_POSTGRES, OF_THE_LIBRARY, OWN, Server, begin_own, bulk
 from tools.debian import lack
 from tools.tests import library_if_any
 
 # one server stands for all; the tests of a database follow each other
 pytestmark = [pytest.mark.needs(*OF_POSTGRES), pytest.mark.xdist_group("postgres")]
-LINK = "https://id.gs1.org/01/80614141123458/21/6789"
 # what is asked, and what is printed
 CASES = [
     (f"tdl.canon('hex', '{BITS}')", LINK),
@@ -46,6 +45,22 @@ OWN_CASES = [
     ("tdl_reason('(01)80614141123458(21)6789', 'bracketed', 'hex')", "missing gcp"),
     ("tdl_translate('(01)80614141123458(17)261231', 'bracketed', 'link', keys_only => true, stem => 'https://a.example')", "https://a.example/01/80614141123458"),
     (f"{SHORT}, 3, gcp) FROM (VALUES (7)) AS it(gcp)", BITS),
+    # NULL for an option is one that is not given, so a label that needs a company prefix has none
+    ("tdl_reason('(01)80614141123458(21)6789', 'bracketed', 'hex', gcp => NULL)", "missing gcp"),
+    (f"{SHORT}, filter => 3, gcp => 7, encoding => NULL, keys_only => NULL, stem => NULL, tables => NULL, prefixes => NULL)", BITS),
+    ("tdl_reason('(01)80614141123458(21)6789', 'bracketed', 'hex', gcp => 7, filter => NULL)", "missing filter"),
+    ("tdl_reason(NULL, 'hex', 'pure', gcp => NULL) IS NULL", "t"),
+    ("tdl_canon('30', NULL)", "source is hex, tag, pure, raw, bracketed or link, not NULL"),
+    ("tdl_translate('30', 'hex', NULL)", "target is hex, tag, pure, raw, bracketed, link or canon, not NULL"),
+    (f"tdl_valid('{BITS}', 'hex')", "t"),
+    ("tdl_valid('30', 'hex')", "f"),
+    ("tdl_valid(NULL, 'hex') IS NULL", "t"),
+    *((f"tdl_any('{text}')", form) for text, form in FORM_OF.items()),
+    ("tdl_any(NULL) IS NULL", "t"),
+    (f"tdl_class('{LINK}', 7) IS NULL", "t"),
+    ("tdl_class('https://id.gs1.org/01/80614141123458/10/A', gcp => 7)", "urn:epc:class:lgtin:0614141.812345.A"),
+    ("tdl_class('x', 7) IS NULL", "t"),
+    (f"tdl_class('{LINK}', 13)", "gcp is a number from 1 to 12, not 13"),
     ("tdl_canon('a', 'xml')", "source is hex, tag, pure, raw, bracketed or link, not 'xml'"),
     ("tdl_translate('a', 'hex', 'pdf')", "target is hex, tag, pure, raw, bracketed, link or canon, not 'pdf'"),
     (f"{SHORT}, gcp => 13)", "gcp is a number from 1 to 12, not 13"),
@@ -83,7 +98,7 @@ def server(program: Path) -> Iterator[Server]:
 def own(server: Server, libtdl: Path) -> Server:
     """The server, in whose database of that name is the extension over the library, with a table of tags."""
     assert (server.compiled, server.has_own) == ("", True)
-    assert begin_own(server) == "2.0"
+    assert begin_own(server) == "2.1"
     server.ask("ALTER TABLE tags ADD CHECK (tdl_reason(epc, 'hex') IS NULL)", "CREATE INDEX canonical ON tags (tdl_canon(epc, 'hex'))", "ANALYZE tags", of=OWN)
     return server
 
@@ -121,9 +136,117 @@ def test_a_parallel_plan_over_the_library(own: Server) -> None:
     assert own.ask(CHEAP, counted, of=OWN) == own.ask(SERIAL, counted, of=OWN)
 
 
+LABEL = "(01)80614141123458(21)%d"
+
+
+def split(length: int, serial: int) -> str:
+    """Returns the pure identity of a label by the length of its company prefix: the split of its GTIN by GS1's rules."""
+    digits = "061414112345"
+    return f"urn:epc:id:sgtin:{digits[:length]}.8{digits[length:]}.{serial}"
+
+
+@of_the_library
+def test_a_trigger_with_changing_options(own: Server) -> None:
+    """A row's own option is that of the row, though the trigger's call is the same for all rows."""
+    own.ask(
+        "CREATE TABLE labels (id int, label text, gcp int, epc text)",
+        "CREATE FUNCTION fill() RETURNS trigger LANGUAGE plpgsql AS "
+        "$$ BEGIN NEW.epc := tdl_translate(NEW.label, 'bracketed', 'pure', gcp => NEW.gcp); RETURN NEW; END $$",
+        "CREATE TRIGGER fill BEFORE INSERT ON labels FOR EACH ROW EXECUTE FUNCTION fill()",
+        "INSERT INTO labels SELECT n, '(01)80614141123458(21)' || n, 6 + n % 7 FROM generate_series(1, 50) n",
+        of=OWN,
+    )
+    got = own.ask("SELECT epc FROM labels ORDER BY id", of=OWN).splitlines()
+    assert got == [split(6 + number % 7, number) for number in range(1, 51)]
+
+
+@of_the_library
+def test_a_loop_over_forms(own: Server) -> None:
+    """A variable of PL/pgSQL is no constant."""
+    body = f"FOREACH form IN ARRAY ARRAY['pure', 'tag', 'hex', 'link', 'pure'] LOOP RETURN NEXT tdl_translate('{BITS}', 'hex', form); END LOOP"
+    own.ask(f"CREATE FUNCTION forms() RETURNS SETOF text LANGUAGE plpgsql AS $$ DECLARE form text; BEGIN {body}; END $$", of=OWN)
+    pure = "urn:epc:id:sgtin:0614141.812345.6789"
+    assert own.ask("SELECT forms()", of=OWN).splitlines() == [pure, "urn:epc:tag:sgtin-96:3.0614141.812345.6789", BITS, LINK, pure]
+
+
+@of_the_library
+def test_a_prepared_statement_with_changing_options(own: Server) -> None:
+    """The same for each way in which the server plans it, and for a cursor."""
+    for mode in "auto", "force_generic_plan", "force_custom_plan":
+        asked = [f"SET plan_cache_mode = {mode}", "PREPARE asked(text, int) AS SELECT tdl_translate($1, 'bracketed', 'pure', gcp => $2)"]
+        calls = [f"EXECUTE asked('{LABEL % number}', {6 + number % 7})" for number in range(20)]
+        assert own.ask(*asked, *calls, of=OWN).splitlines() == [split(6 + number % 7, number) for number in range(20)]
+    cursor = "DECLARE rows CURSOR FOR SELECT tdl_translate('(01)80614141123458(21)' || n, 'bracketed', 'pure', gcp => 6 + n % 7) FROM generate_series(1, 20) n"
+    fetched = own.ask("BEGIN", cursor, *["FETCH 1 FROM rows", f"SELECT tdl_canon('{BITS}', 'hex')"] * 20, of=OWN).splitlines()
+    assert fetched[::2] == [split(6 + number % 7, number) for number in range(1, 21)]
+
+
+@of_the_library
+def test_partitions_and_workers_with_changing_options(own: Server) -> None:
+    """Rows of a partitioned table whose options differ have the same answers with and without parallel workers, and those of GS1's split."""
+    own.ask(
+        "CREATE TABLE parts (id int, label text, gcp int) PARTITION BY LIST (gcp)",
+        *(f"CREATE TABLE parts_{length} PARTITION OF parts FOR VALUES IN ({length})" for length in range(6, 13)),
+        "INSERT INTO parts SELECT n, '(01)80614141123458(21)' || n, 6 + n % 7 FROM generate_series(1, 20000) n",
+        "ANALYZE parts",
+        of=OWN,
+    )
+    asked = "SELECT epc FROM (SELECT id, tdl_translate(label, 'bracketed', 'pure', gcp => gcp) AS epc FROM parts OFFSET 0) AS it ORDER BY id"
+    wanted = [split(6 + number % 7, number) for number in range(1, 20_001)]
+    assert own.ask(SERIAL, asked, of=OWN).splitlines() == wanted
+    assert own.ask(CHEAP, asked, of=OWN).splitlines() == wanted
+
+
+ENTRIES = """string_agg(format(',{"prefix":"9%%s","length":9}', to_char(n, 'FM00000')), '')"""
+DOCUMENT = """'{"version":1,"prefixes":[{"prefix":"0614141","length":%d}' || """ + ENTRIES + " || ']}'"
+READ = "tdl_translate('(01)80614141123458(21)1', 'bracketed', 'pure', prefixes => %s)"
+
+
+@of_the_library
+def test_documents_of_a_table(own: Server) -> None:
+    """Documents that are so large that the table keeps them apart are those of each row, and after each change those of now."""
+    changed = f"UPDATE documents SET doc = (SELECT {DOCUMENT % 8} FROM generate_series(1, 20000) n)"
+    own.ask(
+        "CREATE TABLE documents (id int, doc text)",
+        *(f"INSERT INTO documents SELECT {length}, {DOCUMENT % length} FROM generate_series(1, 20000) n" for length in (7, 9)),
+        "CREATE FUNCTION twice() RETURNS SETOF text LANGUAGE plpgsql AS $$ BEGIN FOR step IN 1..2 LOOP "
+        f"RETURN QUERY SELECT {READ % 'doc'} FROM documents WHERE id = 7; {changed} WHERE id = 7; END LOOP; END $$",
+        of=OWN,
+    )
+    rows = f"SELECT {READ % 'doc'} FROM generate_series(1, 50) n, documents ORDER BY n, id"
+    assert own.ask(rows, of=OWN).splitlines() == [split(length, 1) for _ in range(50) for length in (7, 9)]
+    scalar = f"SELECT DISTINCT {READ % '(SELECT doc FROM documents WHERE id = 9)'} FROM generate_series(1, 500)"
+    assert own.ask(scalar, of=OWN) == split(9, 1)
+    assert own.ask("SELECT twice()", of=OWN).splitlines() == [split(7, 1), split(8, 1)]
+
+
+@of_the_library
+def test_settings(own: Server) -> None:
+    """Documents for calls that give none; only a superuser may set them, and a wrong file is named."""
+    path = own.room / "prefixes.json"
+    path.write_text('{"version":1,"prefixes":[{"prefix":"0614141","length":7}]}', "ascii")
+    path.chmod(0o644)
+    plain = "tdl_translate('(01)80614141123458(21)1', 'bracketed', 'pure')"
+    asked = [f"SELECT coalesce({plain}, 'none')", f"SET tdl.prefixes = '{path}'", f"SELECT {plain}", "RESET tdl.prefixes", f"SELECT coalesce({plain}, 'none')"]
+    assert own.ask(*asked, of=OWN).splitlines() == ["none", split(7, 1), "none"]
+    given = READ % """'{"version":1,"prefixes":[{"prefix":"0614141123","length":10}]}'"""
+    assert own.ask(asked[0], asked[1], f"SELECT {given}", of=OWN).splitlines() == ["none", split(10, 1)]
+    assert "permission denied" in own.error(f"SELECT {plain}; SET ROLE maker; SET tdl.prefixes = '{path}'", OWN)
+    assert "cannot be read" in own.error(f"SELECT {plain}; SET tdl.tables = '{own.room}/nothing.json'", OWN)
+
+
+@of_the_library
+def test_an_update_of_the_extension(own: Server) -> None:
+    """The functions after the update script are those of a new extension."""
+    shown = ("SELECT p.oid::regprocedure || ' ' || proisstrict || ' ' || prosrc FROM pg_proc p JOIN pg_depend d ON d.objid = p.oid AND d.deptype = 'e' "
+             "JOIN pg_extension e ON e.oid = d.refobjid AND e.extname = 'tdl' ORDER BY 1")
+    wanted = own.ask(shown, of=OWN)
+    assert "tdl_valid(text,text) false pg_tdl_valid" in wanted
+
+
 @of_the_library
 def test_more_choices_than_the_library_keeps(own: Server) -> None:
-    many = "SELECT count(DISTINCT tdl_translate(epc, 'hex', 'link', stem => 'https://a' || id % 40 || '.example')) FROM tags"
+    many = "SELECT count(DISTINCT tdl_translate(epc, 'hex', 'link', stem => 'https://a' || id % 1500 || '.example')) FROM tags"
     assert own.ask(many, of=OWN) == "3000"
 
 

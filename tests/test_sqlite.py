@@ -8,12 +8,11 @@ from pathlib import Path
 import pytest
 
 from tools.common import there
-from tools.databases import BITS, OF_SQLITE, SQLITE, ask_sqlite, compile_for_sqlite
+from tools.databases import BITS, FORM_OF, LINK, OF_SQLITE, SQLITE, ask_sqlite, compile_for_sqlite
 from tools.made_lines import FORMS, lines_of
 from tools.repository import TOP
 
 pytestmark = [pytest.mark.needs(*OF_SQLITE), pytest.mark.xdist_group("sqlite")]
-LINK = "https://id.gs1.org/01/80614141123458/21/6789"
 STEM = "stem is http:// or https:// and a host, without ?, # and a slash at its end"
 # what is asked, and what is printed, or what the error says
 CASES = [
@@ -38,6 +37,17 @@ CASES = [
     ("tdl('hex', 'link', 'a', 'tables', '{')", "the tables are rejected: json syntax"),
     ("tdl('hex', 'link', 'a', 'prefixes', '{')", "the prefixes are rejected: json syntax"),
     ("tdl('hex')", "a source, a target and a value are needed"),
+    # NULL for an option is one that is not given
+    ("tdl_reason('bracketed', 'hex', '(01)80614141123458(21)6789', 'gcp', NULL)", "missing gcp"),
+    ("tdl('bracketed', 'hex', '(01)80614141123458(21)6789', 'gcp', 7, 'filter', 3, 'stem', NULL, 'tables', NULL, 'keys_only', NULL)", BITS),
+    ("tdl_reason(NULL, 'link', '30')", "source is hex, tag, pure, raw, bracketed or link"),
+    (f"tdl_valid('hex', '{BITS}') || tdl_valid('hex', '30')", "10"),
+    ("tdl_valid('hex', NULL) IS NULL", "1"),
+    *((f"coalesce(tdl_any('{text}'), '')", form) for text, form in FORM_OF.items()),
+    ("tdl_class('https://id.gs1.org/01/80614141123458/10/A', 7)", "urn:epc:class:lgtin:0614141.812345.A"),
+    (f"tdl_class('{LINK}', 7) IS NULL", "1"),
+    ("tdl_class('x') IS NULL", "1"),
+    (f"tdl_class('{LINK}', 13)", "gcp is a number from 1 to 12"),
 ]
 
 

@@ -16,12 +16,32 @@ from tools import common, library
 from tools.common import PATIENCE, Process, Word, printed, there, until
 from tools.repository import TOP
 
-POSTGRES, SQLITE, OWNER = TOP / "examples" / "postgres", TOP / "examples" / "sqlite", "postgres"
+POSTGRES, SQLITE, SQL, OWNER = TOP / "examples" / "postgres", TOP / "examples" / "sqlite", TOP / "examples" / "sql", "postgres"
 INSTALLED, SHARE = Path("/usr/lib/postgresql/15"), Path("/usr/share/postgresql/15")
 OF_POSTGRES = ("psql", f"{INSTALLED}/lib/plpython3.so", "setpriv")
 OF_THE_LIBRARY = ("cc", "make", "/usr/include/postgresql/15/server/postgres.h")
 OF_SQLITE = ("cc", "sqlite3", "/usr/include/sqlite3ext.h")
-OWN, BITS = "own", "3074257BF7194E4000001A85"
+OWN, BITS, LINK = "own", "3074257BF7194E4000001A85", "https://id.gs1.org/01/80614141123458/21/6789"
+# texts, each with the one form that reads it, by the rules of the standard; nothing where none does, or two could be meant
+FORM_OF = {
+    BITS: "hex",
+    BITS.lower(): "hex",
+    "urn:epc:tag:sgtin-96:3.0614141.812345.6789": "tag",
+    "urn:epc:id:sgtin:0614141.812345.6789": "pure",
+    "urn:epc:id:sgtin:0614141": "",
+    "(01)80614141123458": "bracketed",
+    f"  {LINK} ": "link",
+    "HTTPS://id.gs1.org/01/80614141123458": "link",
+    "4006381333931": "gtin",
+    "4006381333932": "",
+    "80614141123458": "gtin",
+    "106141412345678908": "sscc",
+    "0180614141123458": "raw",
+    # a GTIN, and the consignment number (401) 2345000009
+    "4012345000009": "",
+    "": "",
+    "hello": "",
+}
 CREATED = "SET client_min_messages = error; CREATE EXTENSION tdl VERSION '1.0' CASCADE"
 
 
@@ -34,7 +54,7 @@ class Server:
         self.bin, share = room / INSTALLED.relative_to("/") / "bin", room / SHARE.relative_to("/")
         shutil.copytree(INSTALLED, self.bin.parent)
         shutil.copytree(SHARE, share)
-        for name in ("tdl.control", "tdl--1.0.control", "tdl--1.0.sql", "tdl--2.0.sql"):
+        for name in ("tdl.control", "tdl--1.0.control", "tdl--1.0.sql", "tdl--2.1.sql", "tdl--2.0--2.1.sql"):
             shutil.copy(POSTGRES / name, share / "extension")
         if built:
             self.compile(built)
@@ -51,7 +71,7 @@ class Server:
     def compile(self, built: Path) -> None:
         """Compiles the extension over the library, as its Makefile does."""
         shutil.copytree(POSTGRES, self.room / "source")
-        words = ["make", "-s", "with_llvm=no", f"PG_CONFIG={INSTALLED}/bin/pg_config", f"PG_CPPFLAGS=-I{library.HEADER.parent}"]
+        words = ["make", "-s", "with_llvm=no", f"PG_CONFIG={INSTALLED}/bin/pg_config", f"PG_CPPFLAGS=-I{SQL} -I{library.HEADER.parent}"]
         words.append(f"SHLIB_LINK={built / library.ARCHIVE} -Wl,--exclude-libs,ALL")
         self.compiled = common.run(*words, cwd=self.room / "source")[1]
         made = self.room / "source/tdl.so"
@@ -119,7 +139,7 @@ def bulk(server: Server) -> str:
 
 def compile_for_sqlite(folder: Path, built: Path) -> str:
     """Compiles the extension of SQLite into a folder, and returns what the compiler says."""
-    words: list[Word] = ["cc", "-O2", "-Wall", "-Wextra", "-Werror", "-fPIC", "-shared", "-I", library.HEADER.parent, "-o", folder / "tdl.so"]
+    words: list[Word] = ["cc", "-O2", "-Wall", "-Wextra", "-Werror", "-fPIC", "-shared", "-I", SQL, "-I", library.HEADER.parent, "-o", folder / "tdl.so"]
     return common.run(*words, SQLITE / "tdl.c", built / library.ARCHIVE, "-Wl,--exclude-libs,ALL")[1]
 
 

@@ -200,6 +200,59 @@ Datum pg_tdl_valid(PG_FUNCTION_ARGS) {
     PG_RETURN_BOOL(translated(fcinfo, out, &len) == TDL_OK);
 }
 
+/* Returns the load of the documents that the settings name, or the built-in ones. */
+static Documents *documents_of_settings(void) {
+    Bytes texts[TEXTS];
+    Failure why = { 0 };
+    Documents *found;
+    for (int n = 0; n < TEXTS; n++)
+        texts[n] = of_settings[n].at ? of_settings[n] : NO_TEXTS[n];
+    found = documents_of(&choices, texts, &why);
+    if (!found)
+        reject(&why);
+    return found;
+}
+
+PG_FUNCTION_INFO_V1(pg_tdl_any);
+Datum pg_tdl_any(PG_FUNCTION_ARGS) {
+    const char *name;
+    uint32_t status;
+    if (PG_ARGISNULL(0))
+        PG_RETURN_NULL();
+    status = form_that_reads(&choices, documents_of_settings(), bytes_of(PG_GETARG_TEXT_PP(0)), &name);
+    if (status > TDL_NO)
+        ereport(ERROR, (errcode(ERRCODE_OUT_OF_MEMORY), errmsg("out of memory")));
+    if (status == TDL_NO)
+        PG_RETURN_NULL();
+    PG_RETURN_TEXT_P(cstring_to_text(name));
+}
+
+PG_FUNCTION_INFO_V1(pg_tdl_class);
+Datum pg_tdl_class(PG_FUNCTION_ARGS) {
+    Choice choice = plain_choice(TDL_LINK, TDL_CANON, NULL);
+    uint8_t out[TDL_ROOM];
+    size_t len;
+    Failure why = { 0 };
+    Session *session;
+    text *value;
+    uint32_t status;
+    if (PG_ARGISNULL(0))
+        PG_RETURN_NULL();
+    choice.documents = documents_of_settings();
+    choice.choice.gcp = is_given(fcinfo, 1) ? number_of("gcp", PG_GETARG_INT32(1), 0, 1, 12) : TDL_ANY_GCP;
+    choice.has_classes = true;
+    session = session_of(&choices, &choice, &why);
+    if (!session)
+        reject(&why);
+    value = PG_GETARG_TEXT_PP(0);
+    status = tdl_class_uri(&session->handle, BYTES(value), out, sizeof out, &len);
+    if (status > TDL_NO)
+        ereport(ERROR, (errcode(ERRCODE_OUT_OF_MEMORY), errmsg("out of memory")));
+    if (status == TDL_NO)
+        PG_RETURN_NULL();
+    PG_RETURN_TEXT_P(cstring_to_text_with_len((const char *)out, (int)len));
+}
+
 /* Reads the file that a setting is to name. */
 static bool read_setting(char **path, void **extra, GucSource source) {
     FILE *file = **path ? fopen(*path, "rb") : NULL;

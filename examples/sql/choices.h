@@ -29,6 +29,7 @@ typedef struct {
     tdl_choice choice;
     Bytes names[NAMES];
     const Documents *documents;
+    bool has_classes;
 } Choice;
 
 /* A session, with a copy of its choice; `next` leads to another of the same slot, or to another free place, `newer` and `older` to those used after
@@ -171,7 +172,7 @@ static Documents *documents_of(Choices *all, const Bytes *texts, Failure *why) {
 }
 
 static bool is_of(const Session *it, const Choice *choice) {
-    return it->of.documents == choice->documents && !memcmp(&it->of.choice, &choice->choice, sizeof choice->choice)
+    return it->of.documents == choice->documents && it->of.has_classes == choice->has_classes && !memcmp(&it->of.choice, &choice->choice, sizeof choice->choice)
            && is_equal(it->of.names[ENCODING], choice->names[ENCODING]) && is_equal(it->of.names[STEM], choice->names[STEM]);
 }
 
@@ -181,7 +182,7 @@ static Session *session_of(Choices *all, const Choice *choice, Failure *why) {
     Bytes forms = { (const uint8_t *)&choice->choice, sizeof choice->choice };
     uint64_t hash = hashed(hashed(hashed(choice->documents->number, forms), names[ENCODING]), names[STEM]);
     uint32_t slot = (uint32_t)(hash % SLOTS);
-    Session made = { .of.choice = choice->choice, .of.documents = choice->documents, .slot = slot }, *place;
+    Session made = { .of.choice = choice->choice, .of.documents = choice->documents, .of.has_classes = choice->has_classes, .slot = slot }, *place;
     for (Session *it = all->slots[slot]; it; it = it->next)
         if (is_of(it, choice))
             return use(all, it);
@@ -189,7 +190,10 @@ static Session *session_of(Choices *all, const Choice *choice, Failure *why) {
     if (why->status == TDL_OK)
         why->status = tdl_share(&made.handle, (tdl_handle *)&choice->documents->handle, &choice->choice, names[ENCODING].at, names[ENCODING].length,
                                 names[STEM].at, names[STEM].length);
+    if (why->status == TDL_OK && choice->has_classes)
+        why->status = tdl_load_classes(&made.handle, TDL_NONE, why->reason, sizeof why->reason, &why->length);
     if (why->status != TDL_OK) {
+        tdl_close(&made.handle);
         free((void *)made.of.names[0].at);
         return NULL;
     }
@@ -201,6 +205,92 @@ static Session *session_of(Choices *all, const Choice *choice, Failure *why) {
     *(all->newest ? &all->newest->newer : &all->oldest) = place;
     all->slots[slot] = all->newest = place;
     return place;
+}
+
+/* Returns a choice of two forms without options, but the stem of links that GS1 has for all. */
+static Choice plain_choice(uint8_t from, uint8_t to, const Documents *documents) {
+    Choice made = { .names = { { (const uint8_t *)"", 0 }, { TDL_STEM } }, .documents = documents };
+    made.choice.size = sizeof made.choice;
+    made.choice.from = from;
+    made.choice.to = to;
+    made.choice.filter = TDL_ANY_FILTER;
+    made.choice.gcp = TDL_ANY_GCP;
+    return made;
+}
+
+/* Returns the status of the canonical link of a text in a form: TDL_OK, TDL_NO or TDL_MEMORY. */
+static uint32_t reads(Choices *all, const Documents *documents, uint8_t form, Bytes text) {
+    Choice choice = plain_choice(form, TDL_CANON, documents);
+    uint8_t out[TDL_ROOM];
+    size_t len;
+    Failure why = { 0 };
+    Session *session = session_of(all, &choice, &why);
+    return session ? tdl_translate(&session->handle, text.at, text.length, out, sizeof out, &len) : TDL_MEMORY;
+}
+
+static size_t count_of(Bytes text, const char *set) {
+    size_t count = 0;
+    while (count < text.length && text.at[count] && strchr(set, text.at[count]))
+        count++;
+    return count;
+}
+
+static bool begins(Bytes text, const char *with, bool is_any_case) {
+    size_t n = 0;
+    for (; with[n]; n++)
+        if (n == text.length || (is_any_case && text.at[n] >= 'A' && text.at[n] <= 'Z' ? text.at[n] + 32 : text.at[n]) != (uint8_t)with[n])
+            return false;
+    return true;
+}
+
+/* Returns a text of digits alone as a GTIN or an SSCC: whether it has such a length, its element string in `out`, and its name. */
+static bool as_key(Bytes text, uint8_t out[20], Bytes *element, const char **name) {
+    size_t wanted = text.length == 18 ? 18 : 14, padded = wanted - text.length;
+    if (count_of(text, "0123456789") != text.length || (text.length != 8 && text.length != 18 && (text.length < 12 || text.length > 14)))
+        return false;
+    *name = wanted == 18 ? "sscc" : "gtin";
+    memcpy(out, wanted == 18 ? "00" : "01", 2);
+    memset(out + 2, '0', padded);
+    memcpy(out + 2 + padded, text.at, text.length);
+    *element = (Bytes){ out, wanted + 2 };
+    return true;
+}
+
+/* Finds the one form that reads a text, among gtin and sscc too, in the order that `python3 -m tdl csv --from any` has; none if two could be meant.
+   Returns TDL_OK, TDL_NO or TDL_MEMORY. */
+static uint32_t form_that_reads(Choices *all, const Documents *documents, Bytes text, const char **name) {
+    static const struct { const char *begin; bool is_any_case; uint8_t form; } STARTS[] = {
+        { "http://", true, TDL_LINK }, { "https://", true, TDL_LINK }, { "urn:epc:tag:", false, TDL_TAG }, { "urn:epc:id:", false, TDL_PURE },
+        { "(", false, TDL_BRACKETED },
+    };
+    uint8_t key[20];
+    uint32_t one, other;
+    Bytes element;
+    for (; text.length && strchr(" \t", text.at[0]); text.length--)
+        text.at++;
+    for (; text.length && strchr(" \t", text.at[text.length - 1]);)
+        text.length--;
+    for (size_t n = 0; n < sizeof STARTS / sizeof *STARTS; n++)
+        if (begins(text, STARTS[n].begin, STARTS[n].is_any_case)) {
+            *name = FORMS[STARTS[n].form];
+            return reads(all, documents, STARTS[n].form, text);
+        }
+    if (!text.length)
+        return TDL_NO;
+    other = reads(all, documents, TDL_RAW, text);
+    if (as_key(text, key, &element, name))
+        one = reads(all, documents, TDL_RAW, element);
+    else {
+        *name = FORMS[TDL_HEX];
+        one = text.length % 4 || count_of(text, "0123456789ABCDEFabcdef") != text.length ? TDL_NO : reads(all, documents, TDL_HEX, text);
+    }
+    if (one > TDL_NO || other > TDL_NO)
+        return TDL_MEMORY;
+    if (one == TDL_NO && other == TDL_OK && !as_key(text, key, &element, name))
+        *name = FORMS[TDL_RAW];
+    else if (other == TDL_OK)
+        return TDL_NO;
+    return one == TDL_OK || other == TDL_OK ? TDL_OK : TDL_NO;
 }
 
 /* Returns the form that this is the name of, or -1. */

@@ -1,7 +1,8 @@
 /* tdl for SQLite: translations by libtdl. Build: gcc -O2 -fPIC -shared -I../sql -o tdl.so tdl.c $(pkg-config --cflags --libs tdl)
 
    tdl(SOURCE, TARGET, VALUE, [NAME, OPTION]..) gives the translation, or NULL if there is none, and tdl_reason(..) why there is none.
-   tdl_canon(SOURCE, VALUE) gives the canonical link, and tdl_valid(SOURCE, VALUE) whether there is one. A connection keeps its sessions (choices.h). */
+   tdl_canon(SOURCE, VALUE) gives the canonical link, and tdl_valid(SOURCE, VALUE) whether there is one. tdl_any(VALUE) gives the one form that reads
+   it, and tdl_class(LINK, [GCP]) its class URI. A connection keeps its sessions (choices.h). */
 #include <sqlite3ext.h>
 #include "choices.h"
 
@@ -143,6 +144,49 @@ static void valid(sqlite3_context *context, int count, sqlite3_value **given) {
         sqlite3_result_int(context, status == TDL_OK);
 }
 
+static void any(sqlite3_context *context, int count, sqlite3_value **given) {
+    Kept *kept = sqlite3_user_data(context);
+    Failure why = { 0 };
+    const char *name;
+    uint32_t status = TDL_MEMORY;
+    (void)count;
+    if (sqlite3_value_type(given[0]) == SQLITE_NULL)
+        return;
+    Bytes text = bytes_of(given[0]);
+    Documents *documents = documents_of(&kept->choices, NO_TEXTS, &why);
+    if (documents)
+        status = form_that_reads(&kept->choices, documents, text, &name);
+    if (status > TDL_NO)
+        sqlite3_result_error_nomem(context);
+    else if (status == TDL_OK)
+        sqlite3_result_text(context, name, -1, SQLITE_STATIC);
+}
+
+static void class_of(sqlite3_context *context, int count, sqlite3_value **given) {
+    Kept *kept = sqlite3_user_data(context);
+    Choice choice = plain_choice(TDL_LINK, TDL_CANON, NULL);
+    Failure why = { 0 };
+    Session *session = NULL;
+    uint8_t out[TDL_ROOM];
+    size_t len;
+    if (sqlite3_value_type(given[0]) == SQLITE_NULL)
+        return;
+    if (count > 1 && sqlite3_value_type(given[1]) != SQLITE_NULL && !number_of(given[1], 1, 12, &choice.choice.gcp)) {
+        sqlite3_result_error(context, "gcp is a number from 1 to 12", -1);
+        return;
+    }
+    choice.documents = documents_of(&kept->choices, NO_TEXTS, &why);
+    choice.has_classes = true;
+    if (choice.documents)
+        session = session_of(&kept->choices, &choice, &why);
+    Bytes text = bytes_of(given[0]);
+    uint32_t status = session ? tdl_class_uri(&session->handle, text.at, text.length, out, sizeof out, &len) : TDL_MEMORY;
+    if (status > TDL_NO)
+        sqlite3_result_error_nomem(context);
+    else if (status == TDL_OK)
+        sqlite3_result_text(context, (const char *)out, (int)len, SQLITE_TRANSIENT);
+}
+
 static void leave(void *all) {
     Kept *kept = all;
     if (--kept->users)
@@ -157,6 +201,7 @@ int sqlite3_tdl_init(sqlite3 *database, char **error, const sqlite3_api_routines
     SQLITE_EXTENSION_INIT2(api);
     static const struct { const char *name; int count; void (*call)(sqlite3_context *, int, sqlite3_value **); } FUNCTIONS[] = {
         { "tdl", -1, translate }, { "tdl_reason", -1, reason }, { "tdl_canon", 2, translate }, { "tdl_valid", 2, valid },
+        { "tdl_any", 1, any }, { "tdl_class", 1, class_of }, { "tdl_class", 2, class_of },
     };
     const int how = SQLITE_UTF8 | SQLITE_DETERMINISTIC | SQLITE_INNOCUOUS;
     Kept *kept = calloc(1, sizeof *kept);
