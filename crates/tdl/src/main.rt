@@ -12,6 +12,7 @@ use gs_port::{Whole, write_whole};
 use gs_port_system::{HostFiles, StdinSource, StdoutSink, TcpDoor};
 use help::pieces_of;
 use messages::{say_file, say_kind, say_place, say_reason, say_wrong};
+use std::fs::File;
 use std::io::ErrorKind;
 use std::process::ExitCode;
 use std::{env, io};
@@ -91,7 +92,19 @@ fn run_over_system(rt: HostRuntime, arguments: &[String]) -> Status {
     status
 }
 
+/// Opens the root folder in the place of a standard stream that is closed, by the file of the system that tells of open ones. Otherwise the
+/// next file would get the stream's descriptor. A folder cannot be read, and what is open for reading cannot be written.
+fn in_its_place(rt: HostRuntime, stream: &str) -> Option<File> {
+    match File::open(&rt, stream) {
+        Err(error) if error.kind() == ErrorKind::NotFound => File::open(&rt, "/").ok(),
+        _ => None,
+    }
+}
+
 fn main(rt: HostRuntime) -> ExitCode {
+    let _input = in_its_place(rt, "/proc/self/fdinfo/0");
+    let _output = in_its_place(rt, "/proc/self/fdinfo/1");
+    let _errors = in_its_place(rt, "/proc/self/fdinfo/2");
     let words = match all_arguments(&rt) {
         Ok(words) => words,
         Err(error) => {
