@@ -47,7 +47,8 @@ def measure_postgres(server: Server) -> None:
         rows = 500_000
         server.ask(READS % rows, "VACUUM ANALYZE reads", of=OWN)
         rows_a_second(server, "PostgreSQL, a call of the library for each row", rows, "SELECT count(tdl_canon(epc, 'hex')) FROM reads")
-        server.ask(f"CREATE TABLE labels AS SELECT n AS id, '(01)80614141123458(21)' || n AS label FROM generate_series(1, {MIXED}) n", "VACUUM ANALYZE labels", of=OWN)
+        labels = f"CREATE TABLE labels AS SELECT n AS id, '(01)80614141123458(21)' || n AS label FROM generate_series(1, {MIXED}) n"
+        server.ask(labels, "VACUUM ANALYZE labels", of=OWN)
         mixed = "SELECT count(tdl_translate(label, 'bracketed', 'hex', filter => %s, gcp => %s)) FROM labels"
         rows_a_second(server, "PostgreSQL, with constant options", MIXED, mixed % ("3", "7"))
         rows_a_second(server, "PostgreSQL, with 56 choices of options", MIXED, mixed % ("id % 8", "6 + id % 7"))
