@@ -10,7 +10,8 @@ canonical GS1 Digital Link. A text without a translation raises `Rejected`, whic
 from typing import TYPE_CHECKING
 
 if TYPE_CHECKING:
-    from .errors import FilesRejected, ProgramError, Rejected
+    from .errors import FilesRejected, ProgramError, Rejected, Wrong
+    from .events.calls import Events, epcis, epcis_lines
     from .frames import Column
     from .options import Form, Target
     from .tables import BUILT_IN, GS1, Counts, check
@@ -24,6 +25,7 @@ __all__ = [
     "Column",
     "Counts",
     "Dumps",
+    "Events",
     "FilesRejected",
     "Form",
     "GS1",
@@ -31,12 +33,16 @@ __all__ = [
     "Rejected",
     "Target",
     "Translator",
+    "Wrong",
     "canon",
     "check",
+    "epcis",
+    "epcis_lines",
 ]
 
 _MODULES = {
-    "errors": ("FilesRejected", "ProgramError", "Rejected"),
+    "errors": ("FilesRejected", "ProgramError", "Rejected", "Wrong"),
+    "events.calls": ("Events", "epcis", "epcis_lines"),
     "frames": ("Column",),
     "options": ("Form", "Target"),
     "tables": ("BUILT_IN", "GS1", "Counts", "check"),

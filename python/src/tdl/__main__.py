@@ -16,7 +16,7 @@ from importlib import import_module  # noqa: E402
 from types import ModuleType  # noqa: E402
 from typing import List, Optional  # noqa: E402
 
-from .errors import FilesRejected, Wrong  # noqa: E402
+from .errors import FilesRejected  # noqa: E402
 from .files import keep_standard_streams  # noqa: E402
 
 # each command: the module with its arguments and its run, and what it is for
@@ -62,7 +62,7 @@ def main(words: Optional[List[str]] = None) -> int:
         return int(module_of(asked.command).run(asked))
     except FilesRejected as error:
         return _failed(asked, f"the file of --{error.which} is rejected: {error.reason}", 3)
-    except (Wrong, ValueError) as error:
+    except ValueError as error:
         return _failed(asked, str(error), 2)
     except BrokenPipeError:
         os.dup2(os.open(os.devnull, os.O_WRONLY), 1)

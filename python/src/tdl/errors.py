@@ -4,7 +4,7 @@ from __future__ import annotations
 from typing import Optional, Tuple
 
 
-class Wrong(Exception):
+class Wrong(ValueError):
     """An input that is not in the format that it has to have, or lacks something that is asked for."""
 
 

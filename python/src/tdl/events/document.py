@@ -13,7 +13,7 @@ from ..pool import pool_of
 from ..tables import check
 from .job import Counts, Job, Worker, Written
 from .lines import LineWorker
-from .parts import CHUNK, LARGEST, Part
+from .parts import CHUNK, Part
 
 REJECTED = ("event", "field", "text", "reason")
 LISTED = ("identifier",)
@@ -62,12 +62,17 @@ def without_collector() -> Iterator[None]:
             gc.enable()
 
 
+def _first(head: bytes) -> bytes:
+    """Returns the first byte of a document after a byte order mark and white space, or nothing if more has to be read."""
+    return b"" if MARK.startswith(head) else head.removeprefix(MARK).lstrip()[:1]
+
+
 def parts_of(stream: BinaryIO, is_inline: bool) -> Iterator[Part]:
     """Returns the parts of a document, by its first character that is not white space."""
     head = stream.read(CHUNK)
-    while not (start := head[len(MARK) if head.startswith(MARK) else 0 :].lstrip()[:1]) or (start == MARK[:1] and len(head) < len(MARK)):
-        more = stream.read(CHUNK)
-        if not more or len(head) > LARGEST:
+    while not (start := _first(head)):
+        more = stream.read(max(CHUNK, len(head)))
+        if not more:
             break
         head += more
     if start in (b"{", b"["):

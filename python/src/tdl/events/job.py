@@ -73,18 +73,21 @@ class Worker:
 
     def write(self, piece: Part) -> Written:
         """Returns what is written of a part."""
-        return self.written(piece.located())
+        (written,) = self.written_each([piece.located()])
+        return written
 
-    def written(self, located: Located) -> Written:
-        """Returns what is written of a part whose identifiers are found."""
-        found = located.found
-        # (the identifier that markup divides is listed as any other)
-        asked = (text for text, _, _, style in found if style < FOREIGN or (self._has_list and style is DIVIDED))
+    def written_each(self, parts: List[Located]) -> List[Written]:
+        """Returns what is written of parts whose identifiers are found."""
+        # (an identifier that markup divides is listed as any other)
+        asked = (text for part in parts for text, _, _, style in part.found if style < FOREIGN or (self._has_list and style is DIVIDED))
         answers = self._identities.answers(asked)
-        listed = [_listed(text, answers) for text, _, _, _ in found] if self._has_list else []
-        pieces, rejected, counts = _replaced(located, answers)
+        return [self._written(part, answers) for part in parts]
+
+    def _written(self, part: Located, answers: Dict[str, Answer]) -> Written:
+        listed = [_listed(text, answers) for text, _, _, _ in part.found] if self._has_list else []
+        pieces, rejected, counts = _replaced(part, answers)
         # (a line may have bytes that are not UTF-8)
-        return Written("".join(pieces).encode(located.codec, "surrogateescape"), listed, rejected, counts, located.events)
+        return Written("".join(pieces).encode(part.codec, "surrogateescape"), listed, rejected, counts, part.events)
 
     def close(self) -> None:
         """Ends its runs of the program."""

@@ -13,7 +13,8 @@ from .parts import CHUNK, DEEPEST
 SPACE, GAP = re.compile(r"[ \t\n\r]*"), re.compile(r"[ \t\n\r,]*")
 # a number is whole only before a character that no number has
 DIGITS, NUMBER = frozenset("-0123456789"), re.compile(r"[-+.0-9Ee]+")
-# all of a text but its brackets, of which those in strings are none; and a bracket
+# all of a text but its brackets, of which those in strings are none; a bracket; and an array or an object that has none in it
+EMPTY = re.compile(r"\[\]|\{\}")
 PLAIN, BRACKET = re.compile(r'"(?:[^"\\]|\\.)*"|[^][{}"]+', re.DOTALL), re.compile(r'"(?:[^"\\]|\\.)*"|[][{}]', re.DOTALL)
 # an error of the decoder this near to the end of a text may only mean that the text goes on
 NEAR = 32
@@ -83,7 +84,7 @@ def is_deeper(text: str, at: int, end: int, most: int) -> bool:
         return False
     left = PLAIN.sub("", text[at:end])
     for _ in range(most):
-        left = left.replace("[]", "").replace("{}", "")
+        left = EMPTY.sub("", left)
         if not left:
             return False
     return True
@@ -164,14 +165,15 @@ class JsonText:
         while True:
             try:
                 found, end = decode(self.text, at)
-                if not self._is_number_open(at) or not self._read_as_much(at, most):
-                    break
             except RecursionError:
                 raise self.too_deep(at, depth) from None
             except ValueError as error:
                 wrong, why = fault(self.text, at, error)
-                if not self._is_cut(wrong, error) or not self._read_as_much(at, most):
-                    raise self.wrong(wrong, why) from None
+                if self._is_cut(wrong, error) and self._read_as_much(at, most):
+                    continue
+                raise self.wrong(wrong, why) from None
+            if not self._is_number_open(at) or not self._read_as_much(at, most):
+                break
         if is_deeper(self.text, at, end, DEEPEST - depth):
             raise self.too_deep(at, depth)
         return found, end

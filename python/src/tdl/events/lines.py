@@ -48,12 +48,20 @@ def _located(text: str, number: int) -> Tuple[Located, str]:
     return cut(text, walker.borders, walker.found, 1, CODEC), ""
 
 
+def located_line(line: bytes, number: int) -> Tuple[Located, str]:
+    """Returns a line with its identifiers found, or why it is left as it is. A blank line is, without a reason."""
+    try:
+        text = line.decode(CODEC)
+    except UnicodeDecodeError:
+        return _left(line.decode(CODEC, "surrogateescape")), NOT_JSON
+    return _located(text, number) if text.strip() else (_left(text), "")
+
+
 def lines_of(piece: bytes) -> Tuple[Located, List[Rejection], int]:
-    """Returns lines with their identifiers found, the lines that are left as they are, and the number of all. A blank line is not among them."""
+    """Returns lines with their identifiers found, the lines that are left as they are with a reason, and the number of all."""
     kept, raw, found, refused, events, number = [""], [], [], [], 0, 0  # type: List[str], List[str], List[Found], List[Rejection], int, int
     for number, line in enumerate(_split(piece), 1):
-        text = line.decode(CODEC, "surrogateescape")
-        one, reason = (_left(text), "") if not text.strip() else _located(text, number) if _is_text(line) else (_left(text), NOT_JSON)
+        one, reason = located_line(line, number)
         kept[-1] += one.kept[0]
         kept += one.kept[1:]
         raw += one.raw
@@ -69,15 +77,6 @@ def _split(piece: bytes) -> List[bytes]:
     return [line + b"\n" for line in lines] + [last] * bool(last)
 
 
-def _is_text(line: bytes) -> bool:
-    """Returns whether a line is UTF-8."""
-    try:
-        line.decode(CODEC)
-    except UnicodeDecodeError:
-        return False
-    return True
-
-
 class LineWorker:
     """Translates lines, by kept runs of the program."""
 
@@ -87,7 +86,7 @@ class LineWorker:
     def write(self, piece: bytes) -> Written:
         """Returns what is written of lines."""
         located, refused, lines = lines_of(piece)
-        data, listed, rejected, counts, _ = self._worker.written(located)
+        ((data, listed, rejected, counts, _),) = self._worker.written_each([located])
         told = sorted([*rejected, *refused], key=lambda row: row.event)
         return Written(data, listed, told, counts._replace(rejected=len(told)), lines)
 
