@@ -326,7 +326,8 @@ NO_SCHEMES = [
     "urn:epc:id:cpi:061414112345.0123456789012345678.1", "urn:epc:id:upui:1234567.09876.51qIgY", "urn:epc:id:upui:1234567.098765.",
     "urn:epc:id:usdod:CAGEI.5678", "urn:epc:id:usdod:CAGEY.05", "urn:epc:id:adi:2S194..",
     "urn:epc:id:bic:CSQU3054384", "urn:epc:id:bic:CSQX3054383", "urn:epc:id:imovn:9176188",
-    "urn:epc:id:gid:1.2", "urn:epc:id:sgtin:0614141.81234", "urn:epc:idpat:cpi:0614141.123ABC.1", "urn:epc:id:cpi:0614141.123ABC.*", "urn:epc:tag:cpi-96:0.0614141.12345.1",
+    "urn:epc:id:gid:1.2", "urn:epc:id:sgtin:0614141.81234",
+    "urn:epc:idpat:cpi:0614141.123ABC.1", "urn:epc:id:cpi:0614141.123ABC.*", "urn:epc:tag:cpi-96:0.0614141.12345.1",
 ]
 
 
