@@ -41,6 +41,8 @@ def set_all(monkeypatch: pytest.MonkeyPatch, name: str, value: int) -> None:
     for module in MODULES:
         if hasattr(module, name):
             monkeypatch.setattr(module, name, value)
+        if name == "LARGEST" and hasattr(module, "SURE"):
+            monkeypatch.setattr(module, "SURE", value // 4)
 
 
 def found_in(data: bytes, is_inline: bool, stream: Optional[Any] = None) -> Found:

@@ -3,11 +3,10 @@ from __future__ import annotations
 
 import fcntl
 import os
-import pickle
 import select
 import signal
 from contextlib import suppress
-from typing import Callable, Dict, Generic, List, NoReturn, Optional, Protocol, Tuple, TypeVar, Union
+from typing import Any, BinaryIO, Callable, Dict, Generic, List, NoReturn, Optional, Protocol, Tuple, TypeVar, Union
 
 from . import interrupts
 from .errors import ProgramError
@@ -63,6 +62,25 @@ def _done(worker: Worker[Piece, Done], piece: Piece) -> Union[Done, Exception]:
         return error
 
 
+def _dump(what: object, into: BinaryIO) -> None:
+    """Sends something on."""
+    # (only here and below, since a command that has one process needs nothing of it)
+    import pickle
+
+    pickle.dump(what, into, pickle.HIGHEST_PROTOCOL)
+    into.flush()
+
+
+def _load(file: BinaryIO) -> Any:
+    """Returns what comes next. Raises `EOFError` if it does not come whole."""
+    import pickle
+
+    try:
+        return pickle.load(file)
+    except pickle.UnpicklingError:
+        raise EOFError from None
+
+
 def _serve(make: Callable[[], Worker[Piece, Done]], given: int, done: int, others: List[int]) -> NoReturn:
     """Does the pieces that come by a pipe until it is closed, which it is when the parent ends."""
     status = 1
@@ -73,8 +91,7 @@ def _serve(make: Callable[[], Worker[Piece, Done]], given: int, done: int, other
         worker = make()
         with open(given, "rb") as pieces, open(done, "wb") as written, suppress(EOFError, BrokenPipeError):
             while True:
-                pickle.dump(_done(worker, pickle.load(pieces)), written, pickle.HIGHEST_PROTOCOL)
-                written.flush()
+                _dump(_done(worker, _load(pieces)), written)
         worker.close()
         status = 0
     finally:
@@ -105,16 +122,15 @@ class Child(Generic[Piece, Done]):
         """Gives the process a piece."""
         self.number = number
         with suppress(BrokenPipeError):
-            pickle.dump(piece, self._given, pickle.HIGHEST_PROTOCOL)
-            self._given.flush()
+            _dump(piece, self._given)
 
     def receive(self) -> Union[Done, Exception]:
         """Returns what became of the piece. Raises `ProgramError` if the process has ended."""
         self.number = None
         try:
-            done: Union[Done, Exception] = pickle.load(self._done)
+            done: Union[Done, Exception] = _load(self._done)
             return done
-        except (EOFError, pickle.UnpicklingError):
+        except EOFError:
             status = self.end()
         how = f"was ended by {signal.Signals(-status).name}" if status < 0 else f"ended with status {status}"
         raise ProgramError(f"a process of this command {how}")

@@ -12,7 +12,6 @@ from ..files import lines_come, reading, writing
 from ..pool import pool_of
 from ..tables import check
 from .job import Counts, Job, Worker, Written
-from .lines import LineWorker
 from .parts import CHUNK, Part
 
 REJECTED = ("event", "field", "text", "reason")
@@ -97,6 +96,9 @@ def translate(job: Job) -> Counts:
         files = opened.enter_context(writing(job.output, job.listed, job.rejected, is_synced=job.is_synced))
         output = Output(*files)
         if job.is_of_lines:
+            # (only here, since a document in XML needs nothing of it)
+            from .lines import LineWorker
+
             lines = pool_of(job.processes, lambda: LineWorker(job.how), output.write_at_once)
             opened.callback(lines.close)
             for piece in lines_come(file, lines.wait):

@@ -11,6 +11,8 @@ from .json_walk import CODEC, Walk, Walker
 from .parts import CHUNK, LARGEST, Located, Part, cut
 
 MARK = "\ufeff"
+# the most characters that have not too many bytes
+SURE = LARGEST // 4
 # the longest text between two events that is kept for the next ones
 SHORT = 256
 
@@ -36,7 +38,7 @@ def is_event(found: object) -> bool:
 
 def is_long(text: str) -> bool:
     """Returns whether an event has too many bytes."""
-    return len(text) > LARGEST or (4 * len(text) > LARGEST and len(text.encode("utf-8", "surrogatepass")) > LARGEST)
+    return len(text) > LARGEST or len(text.encode("utf-8", "surrogatepass")) > LARGEST
 
 
 class JsonSource:
@@ -84,7 +86,7 @@ class JsonSource:
             return at + 1
         while True:
             event, end = text.value(at, 0, LARGEST)
-            if is_long(text.text[at:end]):
+            if end - at > SURE and is_long(text.text[at:end]):
                 raise text.too_long(at, LARGEST)
             if self._is_list and not is_event(event):
                 raise text.wrong(at, "not an EPCIS document: the type is not that of an event")

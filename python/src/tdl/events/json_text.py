@@ -78,11 +78,9 @@ def fault(text: str, at: int, error: ValueError) -> Tuple[int, str]:
     return least - (error.width if isinstance(error, _Strict) else 1), str(error)
 
 
-def is_deeper(text: str, at: int, end: int, most: int) -> bool:
-    """Returns whether more arrays and objects than so many are in one another in a value between two places."""
-    if text.count("[", at, end) + text.count("{", at, end) <= most:
-        return False
-    left = PLAIN.sub("", text[at:end])
+def is_deeper(text: str, most: int) -> bool:
+    """Returns whether more arrays and objects than so many are in one another."""
+    left = PLAIN.sub("", text)
     for _ in range(most):
         left = EMPTY.sub("", left)
         if not left:
@@ -172,16 +170,16 @@ class JsonText:
                 if self._is_cut(wrong, error) and self._read_as_much(at, most):
                     continue
                 raise self.wrong(wrong, why) from None
-            if not self._is_number_open(at) or not self._read_as_much(at, most):
+            if self.text[at] not in DIGITS or not self._is_number_open(at) or not self._read_as_much(at, most):
                 break
-        if is_deeper(self.text, at, end, DEEPEST - depth):
+        # (most values have too few brackets for that)
+        if self.text.count("[", at, end) + self.text.count("{", at, end) > DEEPEST - depth and is_deeper(self.text[at:end], DEEPEST - depth):
             raise self.too_deep(at, depth)
         return found, end
 
     def _is_number_open(self, at: int) -> bool:
         """Returns whether a number at a place may go on after the text."""
-        number = NUMBER.match(self.text, at) if self.text[at] in DIGITS else None
-        return number is not None and number.end() == len(self.text)
+        return NUMBER.match(self.text, at).end() == len(self.text)  # type: ignore[union-attr]
 
     def _is_cut(self, wrong: int, error: ValueError) -> bool:
         """Returns whether an error at a place may only mean that the text goes on."""

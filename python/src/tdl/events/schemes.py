@@ -18,7 +18,6 @@ SCHEMES = {
     "usdod": rf"{OWNER}\.{NUMBER}",
 }
 _URI = re.compile(r"urn:epc:(id|idpat):([a-z]+):(.*)")
-_BODIES = {scheme: re.compile(body) for scheme, body in SCHEMES.items()}
 _ESCAPE = re.compile("%..")
 # ISO 6346: the values of letters, which leave out the multiples of 11
 LETTERS = dict(zip("ABCDEFGHIJKLMNOPQRSTUVWXYZ", (value for value in range(10, 39) if value % 11)))
@@ -53,7 +52,7 @@ _FURTHER: Dict[str, Callable[[str], bool]] = {"bic": _is_container, "cpi": _has_
 def is_of_other_scheme(text: str) -> bool:
     """Returns whether a text is a valid EPC URI, or pattern of all serials, of a scheme that this project does not translate."""
     uri = _URI.fullmatch(text)
-    body = uri and _BODIES.get(uri[2])
+    body = uri and SCHEMES.get(uri[2])
     if not uri or not body:
         return False
     instance = uri[3]
@@ -61,4 +60,4 @@ def is_of_other_scheme(text: str) -> bool:
         if not instance.endswith(".*"):
             return False
         instance = f"{instance[:-1]}0"
-    return bool(body.fullmatch(instance)) and _FURTHER.get(uri[2], bool)(instance)
+    return bool(re.fullmatch(body, instance)) and _FURTHER.get(uri[2], bool)(instance)
