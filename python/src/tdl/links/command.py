@@ -37,6 +37,7 @@ def add(parser: argparse.ArgumentParser) -> None:
     source.add_argument("--back", metavar="LINKSET", help="make a table of this linkset; a workbook if FILE ends in .xlsx")
     source.add_argument("--merge", nargs="+", metavar="FILE", help="make one linkset of linksets and tables")
     source.add_argument("--diff", nargs=2, metavar=("OLD", "NEW"), help="tell what differs between linksets or tables; the status is 1 if anything does")
+    source.add_argument("--heaviest", metavar="FILE", help="write the requests with the largest replies of a linkset, for tdl resolve")
     parser.add_argument("-o", "--output", default="-", metavar="FILE", help="the file to write; else the standard output")
     parser.add_argument("--sheet", metavar="NAME", help="the sheet of the workbook; else the first")
     parser.add_argument("--column", type=column, action="append", default=[], metavar="NAME=HEADER", help="the table calls column NAME so; again for more")
@@ -52,8 +53,8 @@ def add(parser: argparse.ArgumentParser) -> None:
 
 # the options that only some kinds of work have
 ONLY: Dict[str, Tuple[str, ...]] = {
-    "sheet": ("table", "merge", "diff"),
-    "column": ("table", "merge", "diff"),
+    "sheet": ("table", "merge", "diff", "heaviest"),
+    "column": ("table", "merge", "diff", "heaviest"),
     "strict": ("table",),
     "prefer": ("merge",),
     "csv": ("diff",),
@@ -65,9 +66,9 @@ def run(asked: argparse.Namespace) -> int:
     # (only here, since other commands need nothing of it)
     from . import work
 
-    kind = next(name for name in ("back", "merge", "diff", "table") if getattr(asked, name) is not None)
+    kind = next(name for name in ("back", "merge", "diff", "heaviest", "table") if getattr(asked, name) is not None)
     for name, kinds in ONLY.items():
         if getattr(asked, name) not in (None, False, []) and kind not in kinds:
             raise ValueError(f"--{name} is not an option of {'a table' if kind == 'table' else f'--{kind}'}")
-    works = {"table": work.make_linkset, "back": work.make_table, "merge": work.merge_files, "diff": work.compare}
+    works = {"table": work.make_linkset, "back": work.make_table, "merge": work.merge_files, "diff": work.compare, "heaviest": work.ask_heaviest}
     return works[kind](asked)

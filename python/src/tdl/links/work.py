@@ -14,6 +14,7 @@ from .columns import KNOWN
 from .diff import HEAD, differences, store_of, summary
 from .doubtful import lines_of
 from .faults import Fault
+from .heaviest import FORMS, heaviest
 from .linkset import MOST_BYTES, MOST_LINKS, Context, Options, check_part, parts_of, text_of
 from .merge import merge
 from .source import links_of
@@ -74,6 +75,16 @@ def compare(asked: argparse.Namespace) -> int:
         stream.write(text.encode("utf-8"))
     _tell(summary(found))
     return 1 if found else 0
+
+
+def ask_heaviest(asked: argparse.Namespace) -> int:
+    """Writes the heads of the requests with the largest replies, and returns the status."""
+    found = heaviest(links_of(_source(asked.heaviest, asked), "heaviest", _options(asked)))
+    with writing(asked.output) as (stream,):
+        stream.write("".join(reply.head() for reply in found).encode("ascii"))
+    for reply in found:
+        _tell(f"{reply.anchor}: some {reply.size:,} bytes {FORMS[reply.form]}")
+    return 0
 
 
 def _options(asked: argparse.Namespace) -> Options:
