@@ -18,6 +18,9 @@ CONNECTION, SECONDS, MEMORY = 1_000, 10, 500
 DEFAULT = "gs1:defaultLink"
 RELATIONS = [DEFAULT, DEFAULT, "gs1:pip", "related", "https://voc.example/x"]
 LANGUAGES: list[list[str]] = [[], ["en"], ["de"], ["de-AT", "fr"]]
+# attributes that a reply has, and one that is ignored
+MORE: list[dict[str, Any]] = [
+    {"title": "Äpfel"}, {"title": ""}, {"type": "text/html"}, {"title*": [{"value": "x", "language": "de"}]}, {"note": ["a"]}, {"media": 7}]
 Content = list[dict[str, Any]]
 
 
@@ -42,7 +45,7 @@ def drawn_target(chance: random.Random) -> dict[str, Any]:
     target: dict[str, Any] = {"href": f"https://shop.example/{chance.randrange(10_000)}"}
     target["hreflang"] = chance.choice(LANGUAGES)
     if chance.random() < 0.3:
-        target.update(chance.choice([{"title": "Äpfel"}, {"title": ""}, {"type": "text/html"}, {"title*": [{"value": "x", "language": "de"}]}, {"note": ["a"]}, {"media": 7}]))
+        target.update(chance.choice(MORE))
     return target
 
 

@@ -217,8 +217,9 @@ def test_merge_agrees(links: Links) -> None:
 
 def test_merge_languages(links: Links) -> None:
     """Default links that languages tell apart stay beside each other; one without a language clashes with all."""
-    for name, languages in (("a", ["en"]), ("b", ["de"]), ("c", ["DE", "fr"]), ("d", [])):
-        target = {"href": f"https://{name}.example/", **({"hreflang": languages} if languages else {})}
+    each: dict[str, list[str]] = {"a": ["en"], "b": ["de"], "c": ["DE", "fr"], "d": []}
+    for name, languages in each.items():
+        target: dict[str, Any] = {"href": f"https://{name}.example/", "hreflang": languages}
         links.put(f"{name}.json", linkset_of({ITEM: {"gs1:defaultLink": [target]}}))
     statuses = [merged(links, *those)[0].status for those in (("a.json", "b.json"), ("a.json", "c.json"), ("b.json", "c.json"), ("a.json", "d.json"))]
     assert statuses == [0, 0, 1, 1]
@@ -230,7 +231,8 @@ def test_merge_is_that_of_the_program(links: Links) -> None:
     """Without a clash the links are those of `tdl merge`."""
     from tools.common import printed
 
-    one = {ITEM: {"gs1:defaultLink": [{"href": PAGE, "hreflang": ["en"], "title*": [{"value": "Äpfel", "language": "de", "x": 1}], "media": "print", "note": ["x"]}]}}
+    target = {"href": PAGE, "hreflang": ["en"], "title*": [{"value": "Äpfel", "language": "de", "x": 1}], "media": "print", "note": ["x"]}
+    one: dict[str, Any] = {ITEM: {"gs1:defaultLink": [target]}}
     two = {f"https://a.example{ITEM}/10/A": {"https://ref.gs1.org/voc/pip": [{"href": PAGE}]}, ITEM: one[ITEM]}
     for name, content in (("one.json", one), ("two.json", two), ("none.json", {})):
         links.put(name, linkset_of(content))

@@ -29,7 +29,7 @@ def read(folder: Path, content: bytes, sheet: Optional[str] = None) -> list[Row]
 def cells(folder: Path, *those: str, shared: Optional[str] = None) -> list[tuple[int, str, str]]:
     """Returns the cells of a row."""
     (only,) = read(folder, workbooks.workbook({"one": [row(*those)]}, shared=shared))
-    return [tuple(cell) for cell in only.cells]
+    return [(cell.place, cell.kind, cell.text) for cell in only.cells]
 
 
 KINDS = [

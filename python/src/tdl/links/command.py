@@ -5,6 +5,8 @@ import argparse
 import re
 from typing import Dict, Tuple
 
+from ..files import judge_names
+
 EPILOG = """\
 Columns, in any order: `anchor` (a link, its path, or an element string), or one for each AI, `01`, `10`, `21` ..; `href`; `linkType`, where
 an empty cell means gs1:defaultLink; `hreflang`, languages separated by spaces; `title`; `type`; `context`; `title*`. Other names begin with #.
@@ -70,5 +72,8 @@ def run(asked: argparse.Namespace) -> int:
     for name, kinds in ONLY.items():
         if getattr(asked, name) not in (None, False, []) and kind not in kinds:
             raise ValueError(f"--{name} is not an option of {'a table' if kind == 'table' else f'--{kind}'}")
+    read = getattr(asked, kind)
+    for path in read if isinstance(read, list) else [read]:
+        judge_names(path, {"output": asked.output}, is_in_place=False)
     works = {"table": work.make_linkset, "back": work.make_table, "merge": work.merge_files, "diff": work.compare, "heaviest": work.ask_heaviest}
     return works[kind](asked)

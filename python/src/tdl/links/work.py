@@ -30,7 +30,7 @@ def make_linkset(asked: argparse.Namespace) -> int:
         built.faults.append(Fault(1, 0, "href", "empty", "the table has no rows; --empty yes writes a linkset without links"))
     if built.faults or (asked.strict and built.doubts):
         return _reject(built)
-    _write(asked.output, built.contexts, options)
+    _write(asked, built.contexts, options)
     for line in lines_of(built.doubts):
         _tell(line)
     _tell_written(asked, built.contexts, f"{_count(built.rows, 'row')}, {_count(len(built.contexts), 'anchor')}, 0 rejected")
@@ -40,7 +40,7 @@ def make_linkset(asked: argparse.Namespace) -> int:
 def make_table(asked: argparse.Namespace) -> int:
     """Writes the table of a linkset, and returns the status."""
     rows = table_of(asked.back, _options(asked))
-    with writing(asked.output) as (stream,):
+    with writing(asked.output, is_synced=asked.is_synced) as (stream,):
         stream.write(workbook_of(rows) if is_workbook(asked.output) else csv_of(rows).encode("utf-8"))
     _tell(_count(len(rows) - 1, "row"))
     return 0
@@ -58,7 +58,7 @@ def merge_files(asked: argparse.Namespace) -> int:
         _tell(f"nothing is written: {_count(len(merged.undecided), 'default link')} rejected")
         return 1
     contexts = contexts_of(merged.links)
-    _write(asked.output, contexts, options)
+    _write(asked, contexts, options)
     for line in merged.decided:
         _tell(f"warning: {line}")
     _tell_written(asked, contexts, f"{_count(len(merged.links), 'link')}, {_count(len(contexts), 'anchor')}, {len(merged.decided):,} left out")
@@ -71,7 +71,7 @@ def compare(asked: argparse.Namespace) -> int:
     old, new = (store_of(links_of(_source(file, asked), "diff", options)) for file in asked.diff)
     found = list(differences(old, new))
     text = csv_of([HEAD, *found]) if asked.csv else "".join(f"{difference}\n" for difference in found)
-    with writing(asked.output) as (stream,):
+    with writing(asked.output, is_synced=asked.is_synced) as (stream,):
         stream.write(text.encode("utf-8"))
     _tell(summary(found))
     return 1 if found else 0
@@ -80,7 +80,7 @@ def compare(asked: argparse.Namespace) -> int:
 def ask_heaviest(asked: argparse.Namespace) -> int:
     """Writes the heads of the requests with the largest replies, and returns the status."""
     found = heaviest(links_of(_source(asked.heaviest, asked), "heaviest", _options(asked)))
-    with writing(asked.output) as (stream,):
+    with writing(asked.output, is_synced=asked.is_synced) as (stream,):
         stream.write("".join(reply.head() for reply in found).encode("ascii"))
     for reply in found:
         _tell(f"{reply.anchor}: some {reply.size:,} bytes {FORMS[reply.form]}")
@@ -101,14 +101,14 @@ def _source(path: str, asked: argparse.Namespace) -> Source:
     return Source(path, asked.sheet, naming)
 
 
-def _write(output: str, contexts: List[Context], options: Options) -> None:
+def _write(asked: argparse.Namespace, contexts: List[Context], options: Options) -> None:
     """Writes a linkset that the program accepts, whole or in parts."""
     for part in parts_of(contexts):
         try:
             check_part(part, options)
         except FilesRejected as error:
             raise ProgramError(f"`tdl check` rejects the linkset: {error}") from error
-    with writing(output) as (stream,):
+    with writing(asked.output, is_synced=asked.is_synced) as (stream,):
         stream.write(text_of(contexts).encode("utf-8"))
 
 
