@@ -191,7 +191,7 @@ def test_a_million_rows(links: Links) -> None:
 # merging
 
 
-A = {ITEM: {"gs1:defaultLink": [{"href": "https://a.example/"}], "gs1:pip": [{"href": PAGE}]}}
+A: dict[str, Any] = {ITEM: {"gs1:defaultLink": [{"href": "https://a.example/"}], "gs1:pip": [{"href": PAGE}]}}
 
 
 def merged(links: Links, *words: str) -> Any:
