@@ -101,7 +101,7 @@ def edits(text: str) -> Iterator[tuple[str, str, str, str]]:
 def status_of(printed: list[str]) -> int:
     """Returns the status that belongs to what is printed."""
     firsts = {line.split(" ")[0] for line in printed}
-    is_rejected = any(re.search(r" [1-9][0-9,]* rejected$", line) for line in printed)
+    is_rejected = any(re.search(r" [1-9][0-9,]* rejected$|^[0-9,]+ anchors? differs?: ", line) for line in printed)
     return 3 if "refused" in firsts else 2 if "usage:" in firsts else 1 if "no" in firsts or is_rejected else 0
 
 

@@ -115,6 +115,8 @@ HEAD = "anchor,href,linkType,hreflang\n"
 Faults = list[tuple[int, str, str]]
 WRONG: list[tuple[str, list[str], Faults]] = [
     ("anchor,page,href,HREF,17,8040,1\n", [], [(1, "page", "column"), (1, "HREF", "column"), (1, "17", "column"), (1, "8040", "column"), (1, "1", "column")]),
+    ("anchor,href\n", [], [(1, "href", "empty")]),
+    ("anchor,href\n", [], [(1, "href", "empty")]),
     ("title,10,# 01\nA,B,C\n", [], [(1, "anchor", "column"), (1, "href", "column")]),
     (f"01,href,,\n09506000134352,{PAGE},,x\n", [], [(2, "D", "column")]),
     (f"01,10,href\n09506000134352,1.20E+05,{PAGE}\n,,{PAGE}\n,A,{PAGE}\n", [], [(2, "10", "power"), (3, "01", "key"), (4, "01", "key")]),
@@ -122,7 +124,7 @@ WRONG: list[tuple[str, list[str], Faults]] = [
     (f"01,254,href\n09506000134352,A,{PAGE}\n", [], [(2, "254", "attributes")]),
     (f"anchor,10,href\n{ITEM},A,{PAGE}\n{ITEM}?17=261231,,{PAGE}\n", [], [(2, "anchor", "anchors"), (3, "anchor", "attributes")]),
     (f"{HEAD}/01/1,{PAGE}\n(01)09506000134352(21)A B,{PAGE}\n0109506000134353,{PAGE}\nhttps://a.example/,{PAGE}\n\"/01\n/1\",{PAGE}\n", [],
-     [(2, "anchor", "length"), (3, "anchor", "char"), (4, "anchor", "check"), (5, "anchor", "path"), (6, "anchor", "path")]),
+     [(2, "anchor", "length"), (3, "anchor", "space"), (4, "anchor", "check"), (5, "anchor", "path"), (6, "anchor", "space")]),
     (f"{HEAD}{ITEM},https://shop.example/ü,a b,en;de\n{ITEM},,Gs1:pip,english_language\n{ITEM},{'x' * 2_049},anchor,#N/A\n", [],
      [(2, "href", "bad-href"), (2, "linkType", "link-type"), (2, "hreflang", "language"), (3, "href", "bad-href"), (3, "linkType", "link-type"),
       (3, "hreflang", "language"), (4, "href", "bad-href"), (4, "linkType", "link-type"), (4, "hreflang", "formula")]),
@@ -137,7 +139,7 @@ WRONG: list[tuple[str, list[str], Faults]] = [
 ]
 ROWS_OF_TRIAL = [(3, "01", "check"), (4, "01", "power"), (5, "10", "char"), (6, "linkType", "default-link"), (6, "href", "bad-href"), (7, "01", "key"),
                  (8, "href", "duplicate"), (9, "01", "check")]
-CELLS_OF_TYPES = [(2, "01", "number"), (5, "01", "number"), (5, "10", "number"), (6, "01", "number"), (6, "10", "date"), (7, "01", "number")]
+CELLS_OF_TYPES = [(5, "10", "number"), (6, "10", "date"), (7, "01", "number")]
 Wrong = tuple[str, bytes, list[str], Faults]
 BOOKS_OF_ROWS: list[Wrong] = [
     ("cells.xlsx", (DATA / "cells_of_types.xlsx").read_bytes(), [], CELLS_OF_TYPES),
@@ -286,9 +288,9 @@ def drawn_target(chance: random.Random) -> dict[str, Any]:
 def test_linksets_become_tables_and_the_same_links(tables: Tables, number: int) -> None:
     linkset = json.dumps(drawn_linkset(random.Random(number)))
     table = tables.run("--back", tables.put("drawn.json", linkset))[1]
-    first = tables.run(tables.put("drawn.csv", table))[1]
+    first = tables.run(tables.put("drawn.csv", table), "--empty", "yes")[1]
     again = tables.run("--back", tables.put("first.json", first))[1]
-    second = tables.run(tables.put("again.csv", again))[1]
+    second = tables.run(tables.put("again.csv", again), "--empty", "yes")[1]
     assert first and tables.links(first) == tables.links(linkset)
     assert second == first
     assert sorted(again.splitlines()) == sorted(table.splitlines())
@@ -346,10 +348,10 @@ def test_templates_are_judged_as_the_program_judges_each_alone(tables: Tables) -
     ("table.csv", b"PK\x03\x04", [], "table.csv is a workbook"),
     ("table.csv", b"01,href\n", ["--sheet", "links"], "--sheet is an option for workbooks"),
     ("table.csv", b"01,href\n", ["--tables", "table.csv"], "the file of --tables is rejected: json syntax"),
-    ("table.csv", b"01,href\n", ["-o", "no/out.json"], "No such file or directory"),
+    ("table.csv", b"01,href\n", ["--empty", "yes", "-o", "no/out.json"], "No such file or directory"),
     *of_books(
         ("table.xlsx", b"01,href\n", [], "table.xlsx is not an XLSX workbook"),
-        ("table.xlsx", workbook(("one", FORMULAS), ("two", [])), ["--sheet", "three"], "table.xlsx has no sheet three: it has one, two"),
+        ("table.xlsx", workbook(("one", FORMULAS), ("two", [])), ["--sheet", "three"], "table.xlsx: it has no sheet three: it has one, two"),
     ),
 ), ids=lambda part: part if isinstance(part, str) else "")
 def test_names_a_file_that_is_no_table(tables: Tables, name: str, content: bytes, words: list[str], part: str) -> None:
@@ -360,8 +362,8 @@ def test_names_a_file_that_is_no_table(tables: Tables, name: str, content: bytes
 
 
 def test_names_the_package_that_a_workbook_needs(tables: Tables) -> None:
-    without = "import sys; sys.modules['openpyxl'] = None; from tdl.__main__ import main; sys.exit(main(['links', 'table.xlsx']))"
-    tables.put("table.xlsx", b"01,href\n")
+    without = "import sys; sys.modules['openpyxl'] = None; from tdl.__main__ import main; sys.exit(main(['links', '--back', 'links.json', '-o', 'x.xlsx']))"
+    tables.put("links.json", '{"linkset":[]}')
     status, told = run(sys.executable, "-c", without, cwd=tables.room, env=tables.env)
     assert status == 2 and "Debian's package python3-openpyxl" in told and "Traceback" not in told, told
 

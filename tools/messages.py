@@ -26,7 +26,7 @@ def cells_of(line: str) -> list[str]:
 
 def is_row(cells: list[str]) -> bool:
     """Whether these are the cells of a message: its text, an example, its meaning, and what to do."""
-    return len(cells) == 4 and bool(re.match(r"`(?:no|refused|row) ", cells[0]))
+    return len(cells) == 4 and bool(re.match(r"`(?:no|refused|row|warning:) ", cells[0]))
 
 
 def rows() -> Iterator[tuple[str, Optional[tuple[list[str], str]]]]:
@@ -34,7 +34,7 @@ def rows() -> Iterator[tuple[str, Optional[tuple[list[str], str]]]]:
     for line in DOCUMENT.read_text("utf-8").splitlines():
         cells = cells_of(line)
         if is_row(cells):
-            texts = [] if cells[0].startswith("`row ") else TEXT.findall(cells[1])
+            texts = [] if cells[0].startswith(("`row ", "`warning: ")) else TEXT.findall(cells[1])
             content = "".join(text * int(times.replace(",", "") or 1) for times, text in texts[1:])
             yield cells[0].strip("`"), (texts[0][1].split(" "), content) if texts else None
 

@@ -16,6 +16,7 @@ from .rows import Entry
 STEM = "https://id.gs1.org"
 FORMS: Tuple[Form, ...] = ("link", "bracketed", "raw")
 PLACED, NUMBER = re.compile(r"At bytes? [^:]*: "), re.compile("[0-9]+")
+BLANK = re.compile(r"\s")
 EXTRA = re.compile("[?&]([0-9]+)=")
 
 
@@ -42,14 +43,17 @@ def asked_of(entry: Entry) -> Tuple[Form, str]:
 def read_anchors(entries: Sequence[Entry], columns: Columns, tables: Optional[str]) -> Tuple[List[str], List[Fault]]:
     """Returns the path of what each row names, such as /01/09506000134352/10/ABC, or nothing for a wrong one, and the faults."""
     paths, faults = [""] * len(entries), []
-    asked = [asked_of(entry) if entry.anchor or entry.elements else ("", "") for entry in entries]
+    asked: List[Tuple[str, str]] = []
+    for entry in entries:
+        blank = _blank_fault(entry, columns)
+        faults += blank
+        asked.append(asked_of(entry) if (entry.anchor or entry.elements) and not blank else ("", ""))
     for form in FORMS:
         places = [place for place, (of, _) in enumerate(asked) if of == form]
         if not places:
             continue
         with Translator(form, tables=tables) as run:
-            # (a line break is in no text, and a byte 0 in none either)
-            answers = run.translate_list([asked[place][1].replace("\n", "\0") for place in places])
+            answers = run.translate_list([asked[place][1] for place in places])
         for place, answer in zip(places, answers):
             fault = _fault(entries[place], answer, columns)
             if fault:
@@ -57,6 +61,16 @@ def read_anchors(entries: Sequence[Entry], columns: Columns, tables: Optional[st
             elif isinstance(answer, str):
                 paths[place] = answer[len(STEM) :]
     return paths, faults
+
+
+def _blank_fault(entry: Entry, columns: Columns) -> List[Fault]:
+    """Returns the fault of a cell that has white space within: what stands behind it may be another anchor."""
+    cells = [("anchor", entry.anchor), *entry.elements]
+    name, text, found = next(((name, text, found) for name, text in cells for found in [BLANK.search(text)] if found), ("", "", None))
+    if found is None:
+        return []
+    what = "a line break" if found[0] in "\n\r" else "a space" if found[0] == " " else ascii(found[0])
+    return [columns.fault(entry.row, name, "space", f"a cell names one item, and here is {what} at character {found.start()}", text)]
 
 
 def _fault(entry: Entry, answer: Answer, columns: Columns) -> Optional[Fault]:

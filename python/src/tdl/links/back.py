@@ -9,6 +9,7 @@ from ..errors import FilesRejected, Rejected
 from ..translator import Translator
 from .anchors import STEM, linked
 from .columns import NAMES
+from .link import is_tagged, is_texts
 from .linkset import Options, check_file, check_part, context_of, parts_of
 from .table import NotATable
 from .targets import VOCABULARY, relation_of
@@ -24,15 +25,13 @@ def table_of(path: str, options: Options) -> List[Sequence[str]]:
 
     Raises `FilesRejected` if the program rejects the linkset, and `NotATable` if a table cannot hold a link.
     """
-    contexts = _contexts(path, options)
-    with Translator("link", tables=options.tables) as run:
-        anchors = run.translate_list([linked(context["anchor"]) for context in contexts])
+    contexts, anchors = read_linkset(path, "back", options)
     rows: List[Sequence[str]] = [NAMES]
     unfit: List[str] = []
     for number, (context, anchor) in enumerate(zip(contexts, anchors)):
-        for place, relation, target in _links(context, options.voc or VOCABULARY):
+        for place, relation, target in targets_of(context, options.voc or VOCABULARY):
             texts = [" ".join(_languages(target)), _text(target, "title"), _text(target, "type")]
-            cells = ["" if isinstance(anchor, Rejected) else anchor[len(STEM) :], target["href"], relation, *texts]
+            cells = [anchor, target["href"], relation, *texts]
             rows.append(cells)
             unfit += [f"/linkset/{number}/{place}: {why}" for why in _misfits(cells, target)]
     if unfit:
@@ -40,37 +39,46 @@ def table_of(path: str, options: Options) -> List[Sequence[str]]:
     return rows
 
 
-def _contexts(path: str, options: Options) -> List[Dict[str, Any]]:
+def read_linkset(path: str, name: str, options: Options) -> Tuple[List[Dict[str, Any]], List[str]]:
+    """Returns the contexts of a linkset that the program accepts, whole or in parts, and the path of the anchor of each, empty for one that is too
+    long with a host before it. `name` is that of the option that gives the file."""
+    contexts = _contexts(path, name, options)
+    with Translator("link", tables=options.tables) as run:
+        anchors = run.translate_list([linked(context["anchor"]) for context in contexts])
+    return contexts, ["" if isinstance(anchor, Rejected) else anchor[len(STEM) :] for anchor in anchors]
+
+
+def _contexts(path: str, name: str, options: Options) -> List[Dict[str, Any]]:
     """Returns the contexts of a linkset that the program accepts, whole or in parts."""
     try:
         check_file(path, options)
         is_large = False
     except FilesRejected as error:
         if error.which != "links" or error.reason not in LARGE:
-            raise FilesRejected(f"refused {'back' if error.which == 'links' else error.which} {error.reason}") from error
+            raise FilesRejected(f"refused {name if error.which == 'links' else error.which} {error.reason}") from error
         is_large = True
     try:
         contexts = json.loads(Path(path).read_bytes())["linkset"]
         if is_large:
-            _check_large(contexts, options)
+            _check_large(contexts, name, options)
     except (ValueError, KeyError, TypeError, AttributeError, RecursionError) as error:
-        raise error if isinstance(error, FilesRejected) else FilesRejected(f"refused back json {error}") from error
+        raise error if isinstance(error, FilesRejected) else FilesRejected(f"refused {name} json {error}") from error
     found: List[Dict[str, Any]] = contexts
     return found
 
 
-def _check_large(contexts: List[Dict[str, Any]], options: Options) -> None:
+def _check_large(contexts: List[Dict[str, Any]], name: str, options: Options) -> None:
     """Checks a linkset that is more than one process serves."""
     first = 0
     for part in parts_of([context_of(context) for context in contexts]):
         try:
             check_part(part, options)
         except FilesRejected as error:
-            raise FilesRejected(f"refused back {error.reason}, of the {len(part):,} contexts from {first} on") from error
+            raise FilesRejected(f"refused {name} {error.reason}, of the {len(part):,} contexts from {first} on") from error
         first += len(part)
 
 
-def _links(context: Dict[str, Any], vocabulary: str) -> Iterator[Tuple[str, str, Target]]:
+def targets_of(context: Dict[str, Any], vocabulary: str) -> Iterator[Tuple[str, str, Target]]:
     """Yields the links of a context: where each stands in it, its link type and its target, those of one link type in their order."""
     named: Dict[str, List[str]] = {}
     for name, targets in context.items():
@@ -87,20 +95,9 @@ def _text(target: Target, name: str) -> str:
     return found if isinstance(found, str) else ""
 
 
-def _is_texts(value: object) -> bool:
-    return isinstance(value, list) and all(isinstance(it, str) for it in value)
-
-
 def _languages(target: Target) -> List[str]:
-    found: List[str] = target["hreflang"] if _is_texts(target.get("hreflang")) else []
+    found: List[str] = target["hreflang"] if is_texts(target.get("hreflang")) else []
     return found
-
-
-def _is_tagged(value: object) -> bool:
-    """Returns whether a value is that of an attribute whose name ends in a star."""
-    return isinstance(value, list) and all(
-        isinstance(it, dict) and isinstance(it.get("value"), str) and isinstance(it.get("language", ""), str) for it in value
-    )
 
 
 def _misfits(cells: Sequence[str], target: Target) -> Iterator[str]:
@@ -115,6 +112,6 @@ def _misfits(cells: Sequence[str], target: Target) -> Iterator[str]:
     if languages.split() != _languages(target):
         yield "a language is empty or has a space"
     for name, value in target.items():
-        is_kept = _is_tagged(value) if name.endswith("*") else isinstance(value, str) if name == "media" else _is_texts(value)
+        is_kept = is_tagged(value) if name.endswith("*") else isinstance(value, str) if name == "media" else is_texts(value)
         if value and is_kept and name not in NAMES:
             yield f"there is no column for {name!r}"

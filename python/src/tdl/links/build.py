@@ -5,42 +5,39 @@ from typing import Dict, Iterator, List, NamedTuple, Optional, Sequence, Tuple
 
 from ..inspector.rows import Rows
 from .anchors import read_anchors
-from .columns import Columns
+from .columns import Columns, Naming, is_name
+from .doubtful import doubts_of
 from .faults import Fault
+from .link import Link, more_of
 from .linkset import MOST_BYTES, MOST_LINKS, Context, Options, context_of
 from .rows import Entry, read_rows
 from .table import read_table
 from .targets import DEFAULT, MULTIPLE, VOCABULARY, href_faults, language_faults, relation_faults, relation_of, template_faults
 
 
-class Link(NamedTuple):
-    """The link of a row. Its anchor is empty if the row names nothing."""
+class Source(NamedTuple):
+    """A table as a file: its path, the sheet of a workbook or None, and what --column says."""
 
-    anchor: str
-    relation: str
-    href: str
-    languages: Tuple[str, ...]
-    title: str
-    type: str
-
-    def target(self) -> Dict[str, object]:
-        """Returns the link's target in a linkset."""
-        members = {"href": self.href, "hreflang": self.languages, "title": self.title, "type": self.type}
-        return {name: value for name, value in members.items() if value}
+    path: str
+    sheet: Optional[str]
+    naming: Naming
 
 
 class Built(NamedTuple):
-    """The contexts of a linkset, the number of rows that they were made of, and what is wrong with these."""
+    """The links of a table, the contexts of their linkset, the number of rows, what is wrong with these, and what is doubtful."""
 
+    links: List[Link]
     contexts: List[Context]
     rows: int
     faults: List[Fault]
+    doubts: List[Fault]
 
 
-def build(path: str, sheet: Optional[str], options: Options) -> Built:
-    """Makes a linkset of a table. It has no contexts if anything is wrong."""
+def build(source: Source, options: Options) -> Built:
+    """Makes a linkset of a table. It has neither links nor contexts if anything is wrong."""
+    path, sheet, naming = source
     rows = Rows(options.tables)
-    columns, entries, damaged = read_rows(path, read_table(path, sheet), rows)
+    columns, entries, damaged = read_rows(path, read_table(path, sheet, lambda text: is_name(text, naming)), rows, naming)
     anchors, faults = read_anchors(entries, columns, options.tables)
     links = [_link(entry, anchor, options.voc or VOCABULARY) for entry, anchor in zip(entries, anchors)]
     for entry, link in zip(entries, links):
@@ -51,11 +48,15 @@ def build(path: str, sheet: Optional[str], options: Options) -> Built:
     faults = damaged + [fault for fault in faults if (fault.row, fault.place) not in wrong]
     contexts = [] if faults else contexts_of(links)
     faults += _too_large(contexts, entries, links, columns)
-    return Built(contexts, len(entries), sorted(faults))
+    if faults:
+        return Built([], [], len(entries), sorted(faults), [])
+    return Built(links, contexts, len(entries), [], sorted(doubts_of([entry.row for entry in entries], links, columns)))
 
 
 def _link(entry: Entry, anchor: str, vocabulary: str) -> Link:
-    return Link(anchor, relation_of(entry.relation, vocabulary), entry.href, tuple(entry.languages.split()), entry.title, entry.type)
+    languages = tuple(entry.languages.split())
+    more = more_of(entry.context, entry.tagged, languages)
+    return Link(anchor, relation_of(entry.relation, vocabulary), entry.href, languages, entry.title, entry.type, more)
 
 
 def contexts_of(links: Sequence[Link]) -> List[Context]:
@@ -108,7 +109,7 @@ def _clashes(entries: Sequence[Entry], links: Sequence[Link], columns: Columns) 
             yield columns.fault(entry.row, "href", "duplicate", f"row {earlier} has the same link", link.href)
         elif link.relation == DEFAULT:
             known, languages = defaults.setdefault(link.anchor, {}), [language.lower() for language in link.languages]
-            clash = _alike(known, languages)
+            clash = alike(known, languages)
             if clash:
                 sentence = f"row {clash} is a default link of this item too; give each its own languages, or the link type {MULTIPLE}"
                 yield columns.fault(entry.row, "linkType", "default-link", sentence)
@@ -116,7 +117,7 @@ def _clashes(entries: Sequence[Entry], links: Sequence[Link], columns: Columns) 
                 known.setdefault(language, entry.row)
 
 
-def _alike(known: Dict[str, int], languages: Sequence[str]) -> Optional[int]:
+def alike(known: Dict[str, int], languages: Sequence[str]) -> Optional[int]:
     """Returns the row of a default link that no language tells apart from one with these, or None."""
     if not languages:
         return next(iter(known.values()), None)

@@ -2,15 +2,19 @@
 from __future__ import annotations
 
 import re
-from typing import Dict, Iterable, List, NamedTuple, Sequence, Tuple
+from typing import Dict, Iterator, List, NamedTuple, Tuple
 
 from ..inspector.rows import Rows
-from .columns import Columns, columns_of, letters
+from ..workbook import letters
+from .columns import Columns, Naming, columns_of
 from .faults import Fault
-from .table import Cell, Damaged, NotATable
+from .table import Cell, Cells, Damaged, NotATable, TableRow
 
 # digits as a spreadsheet writes them in short: 9.50600E+12
 POWER = re.compile(r"[0-9](?:[.,][0-9]+)?E\+[0-9]{2,}")
+# the columns of an entry besides those of what it names, and those whose blanks count
+OTHERS = ("href", "linkType", "hreflang", "title", "type", "context", "title*")
+TITLES = ("title", "title*")
 ERRORS = frozenset({"#NULL!", "#DIV/0!", "#VALUE!", "#REF!", "#NAME?", "#NUM!", "#N/A"})
 AGAIN = "enter the value again in a cell of the format text"
 DAMAGED = {
@@ -35,6 +39,8 @@ class Entry(NamedTuple):
     languages: str
     title: str
     type: str
+    context: str
+    tagged: str
 
 
 class Table(NamedTuple):
@@ -45,32 +51,32 @@ class Table(NamedTuple):
     faults: List[Fault]
 
 
-def read_rows(path: str, rows: Iterable[Sequence[Cell]], tables: Rows) -> Table:
+def read_rows(path: str, rows: Iterator[TableRow], tables: Rows, naming: Naming) -> Table:
     """Returns the rows of a table. Raises `NotATable` if it is empty."""
-    filled = ((number, cells) for number, cells in enumerate(rows, 1) if any(not isinstance(cell, str) or cell.strip() for cell in cells))
-    number, cells = next(filled, (0, ()))
+    nothing: TableRow = (0, [])
+    number, cells = next(rows, nothing)
     if not cells:
         raise NotATable(f"{path} is empty: its first row has the names of the columns")
-    columns, faults = columns_of(number, cells, tables)
+    columns, faults = columns_of(number, cells, tables, naming)
     table, names = Table(columns, [], faults), {place: name for name, place in columns.places.items()}
     if not faults:
-        for number, cells in filled:
+        for number, cells in rows:
             texts = _texts(number, cells, columns, names, faults)
             if any(map(str.strip, texts.values())):
                 table.entries.append(_entry(number, texts, columns, faults))
     return table
 
 
-def _texts(number: int, cells: Sequence[Cell], columns: Columns, names: Dict[int, str], faults: List[Fault]) -> Dict[str, str]:
+def _texts(number: int, cells: Cells, columns: Columns, names: Dict[int, str], faults: List[Fault]) -> Dict[str, str]:
     """Returns the texts of the cells that are not empty, by the names of their columns. A wrong one has an empty text."""
     texts: Dict[str, str] = {}
-    for place, cell in enumerate(cells):
+    for place, cell in cells:
         name = names.get(place)
-        text = cell.text if isinstance(cell, Damaged) else cell if name == "title" else cell.strip()
+        text = cell.text if isinstance(cell, Damaged) else cell if name in TITLES else cell.strip()
         if not text:
             continue
         if name:
-            word = _damage(cell, text, name)
+            word = _damage(cell, text, name, columns)
             texts[name] = "" if word else text
             if word:
                 faults.append(columns.fault(number, name, word, DAMAGED[word], text))
@@ -79,13 +85,21 @@ def _texts(number: int, cells: Sequence[Cell], columns: Columns, names: Dict[int
     return texts
 
 
-def _damage(cell: Cell, text: str, name: str) -> str:
+def _damage(cell: Cell, text: str, name: str, columns: Columns) -> str:
     """Returns the word for what is wrong with a cell whatever it is for, or nothing."""
     if isinstance(cell, Damaged):
-        return cell.word
+        return "" if cell.word == "number" and name in columns.checked and is_proved(text) else cell.word
     if text in ERRORS:
         return "formula"
     return "power" if name.isdigit() and POWER.fullmatch(text) else ""
+
+
+def is_proved(text: str) -> bool:
+    """Returns whether a number has lost no digits: it has 13, and the last is the check digit of the others."""
+    if len(text) != 13 or not text.isdigit():
+        return False
+    digits = [int(digit) for digit in text]
+    return (sum(digits[::2]) + 3 * sum(digits[1::2])) % 10 == 0
 
 
 def _entry(number: int, texts: Dict[str, str], columns: Columns, faults: List[Fault]) -> Entry:
@@ -99,4 +113,4 @@ def _entry(number: int, texts: Dict[str, str], columns: Columns, faults: List[Fa
         faults.append(columns.fault(number, next(iter(columns.keys), "anchor"), "key", "no element is a key; add one, such as (01) GTIN"))
     if has_anchor == bool(codes) or not (has_anchor or has_key) or not all(text for _, text in elements):
         anchor, elements = "", ()
-    return Entry(number, anchor, elements, *(texts.get(name, "") for name in ("href", "linkType", "hreflang", "title", "type")))
+    return Entry(number, anchor, elements, *(texts.get(name, "") for name in OTHERS))

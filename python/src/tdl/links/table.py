@@ -1,20 +1,19 @@
-"""Tables as files: the rows of a CSV file, and tables written."""
+"""Tables as files: the rows of a CSV file or a workbook, and tables written."""
 from __future__ import annotations
 
 import csv
 import io
 import sys
-from typing import Iterator, List, NamedTuple, Optional, Sequence, Union
+from typing import Callable, Iterator, List, NamedTuple, Optional, Sequence, Tuple, Union
+
+from ..workbook import Workbook, other_kind
 
 DELIMITERS = ",;\t"
 WORKBOOKS = (".xlsx", ".xlsm")
-# how other files begin, and what they are
-OTHERS = {
-    b"PK\x03\x04": "a workbook: save it as .xlsx, or as CSV in UTF-8",
-    b"\xd0\xcf\x11\xe0": "an old or encrypted workbook: save it as .xlsx without a password, or as CSV in UTF-8",
-    b"\xff\xfe": "UTF-16: save it as CSV in UTF-8",
-    b"\xfe\xff": "UTF-16: save it as CSV in UTF-8",
-}
+# the rows of a table, which is held whole: as many as a sheet has; and those of a CSV file, with its empty ones
+MOST_ROWS = 1_048_576
+# the words of docs/MESSAGES.md for the kinds of cells that are not texts
+DAMAGED = {"number": "number", "date": "date", "boolean": "truth", "error": "formula", "formula": "formula"}
 
 
 class NotATable(ValueError):
@@ -29,6 +28,9 @@ class Damaged(NamedTuple):
 
 
 Cell = Union[str, Damaged]
+# a row: its number, and the cells that are not empty, each with the place of its column
+Cells = List[Tuple[int, Cell]]
+TableRow = Tuple[int, Cells]
 
 
 def is_workbook(path: str) -> bool:
@@ -36,41 +38,50 @@ def is_workbook(path: str) -> bool:
     return path.lower().endswith(WORKBOOKS)
 
 
-def read_table(path: str, sheet: Optional[str]) -> Iterator[Sequence[Cell]]:
-    """Yields the rows of a table, empty ones too. Raises `NotATable` if the file is not one."""
-    if is_workbook(path):
-        from .workbook import read_workbook
+def read_table(path: str, sheet: Optional[str], is_name: Callable[[str], bool]) -> Iterator[TableRow]:
+    """Yields the rows of a table that are not empty. Raises `NotATable` or `NotAWorkbook` if the file is not one.
 
-        return read_workbook(path, sheet)
+    The delimiter of a CSV file is the one by which its first line has most names."""
+    if is_workbook(path):
+        return _read_workbook(path, sheet)
     if sheet is not None:
         raise NotATable("--sheet is an option for workbooks: name a file that ends in .xlsx")
-    return _read_csv(path)
+    return _read_csv(path, is_name)
 
 
-def _read_csv(path: str) -> Iterator[List[str]]:
+def _read_workbook(path: str, sheet: Optional[str]) -> Iterator[TableRow]:
+    with Workbook(path) as book:
+        for number, cells in book.rows(sheet):
+            found: Cells = [(place, text if kind == "text" else Damaged(DAMAGED[kind], text)) for place, kind, text in cells]
+            if any(not isinstance(cell, str) or cell.strip() for _, cell in found):
+                yield number, found
+
+
+def _read_csv(path: str, is_name: Callable[[str], bool]) -> Iterator[TableRow]:
     csv.field_size_limit(sys.maxsize)
     with open(path, "rb") as stream:
-        begin = stream.read(4)
-    for sign, other in OTHERS.items():
-        if begin.startswith(sign):
-            raise NotATable(f"{path} is {other}")
-    row = 1
+        other = other_kind(stream.read(4))
+    if other:
+        raise NotATable(f"{path} is {other}")
+    row = 0
     with open(path, encoding="utf-8-sig", newline="") as lines:
         try:
-            delimiter = _delimiter(lines.readline())
+            delimiter = _delimiter(lines.readline(), is_name)
             lines.seek(0)
-            for row, cells in enumerate(csv.reader(lines, delimiter=delimiter, strict=True), 2):
-                yield cells
+            for row, cells in enumerate(csv.reader(lines, delimiter=delimiter, strict=True), 1):
+                if row > MOST_ROWS:
+                    raise NotATable(f"{path} has more than {MOST_ROWS:,} rows: split it; tdl-shard takes several linksets")
+                found: Cells = [(place, cell) for place, cell in enumerate(cells) if cell]
+                if any(not cell.isspace() for cell in cells if cell):
+                    yield row, found
         except csv.Error as error:
-            raise NotATable(f"{path}: row {row} is not CSV: {error}") from error
+            raise NotATable(f"{path}: row {row + 1} is not CSV: {error}") from error
         except UnicodeDecodeError:
             raise NotATable(f"{path}: line {_line_not_utf8(path)} is not UTF-8: save the table as CSV in UTF-8") from None
 
 
-def _delimiter(first: str) -> str:
+def _delimiter(first: str, is_name: Callable[[str], bool]) -> str:
     """Returns the delimiter by which the first line has most names of columns."""
-    from .columns import is_name
-
     def names(delimiter: str) -> int:
         return sum(map(is_name, next(csv.reader([first], delimiter=delimiter), [])))
 
