@@ -32,7 +32,9 @@ def _index(column: str, names: List[str], has_header: bool) -> int:
 def new_names(job: Job, base: str, names: List[str]) -> List[str]:
     """Returns the names of the new columns, the last that of the reasons: `BASE_reason`, or if that is taken `BASE_FORM_reason`."""
     base = base if job.name is None else job.name
-    added = [f"{base}_{word}" for word in (*("link" if target == "canon" else target for target in job.targets), *job.split)]
+    words = ["link" if target == "canon" else target for target in job.targets] + list(job.split)
+    words += ["form"] * (job.source == "any") + ["repaired"] * job.is_repaired
+    added = [f"{base}_{word}" for word in words]
     reason = f"{base}_reason" if f"{base}_reason" not in names else f"{added[0]}_reason"
     for name in (*added, reason):
         if name in names:
