@@ -68,7 +68,7 @@ def add_translation(parser: argparse.ArgumentParser) -> None:
 def add(parser: argparse.ArgumentParser) -> None:
     """Adds the arguments of `csv`."""
     parser.epilog = "The status is 1 if a record was rejected. Written files appear when all is done."
-    parser.add_argument("file", nargs="?", default="-", help="the CSV file in UTF-8; else, or for -, the standard input")
+    parser.add_argument("file", nargs="?", default="-", help="the CSV file in UTF-8, or an XLSX workbook; else, or for -, the standard input")
     which = parser.add_mutually_exclusive_group(required=True)
     which.add_argument("-c", "--column", help="the name of the column that has texts, or its number from 1")
     told = "a column that has the values of an element, such as 01=gtin; once for each element"
@@ -76,6 +76,7 @@ def add(parser: argparse.ArgumentParser) -> None:
     add_translation(parser)
     parser.add_argument("--rejected", metavar="FILE", help="a second file with the rejected records and their numbers")
     parser.add_argument("-d", "--delimiter", type=delimiter, default=",", metavar="C", help="the character between fields; else a comma")
+    parser.add_argument("--sheet", metavar="NAME", help="the sheet of a workbook; else its first")
     parser.add_argument("-H", "--no-header-row", dest="has_header", action="store_false", help="the file has no header: columns are numbers")
 
 
@@ -104,6 +105,7 @@ def job_of(asked: argparse.Namespace) -> Job:
         asked.source or "link", asked.column, tuple(asked.elements), targets, judged(asked.split), asked.name, options=options,
         delimiter=getattr(asked, "delimiter", ","), has_header=getattr(asked, "has_header", True), processes=asked.jobs, is_synced=asked.is_synced,
         is_repaired=asked.is_repaired, fnc1=tuple(asked.fnc1), is_base64=is_base64,
+        sheet=getattr(asked, "sheet", None),
     )
 
 

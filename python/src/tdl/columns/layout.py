@@ -4,6 +4,7 @@ from __future__ import annotations
 from typing import List, NamedTuple, Tuple
 
 from ..errors import Wrong
+from ..kinds import judge_head
 from .job import Job
 from .records import encoded, parted, quoted
 from .source import Source
@@ -47,6 +48,8 @@ def new_names(job: Job, base: str, names: List[str]) -> List[str]:
 def layout_of(source: Source, job: Job) -> Layout:
     """Returns the layout of a file, whose header is taken."""
     columns = [column for _, column in job.elements] if job.elements else [job.column or ""]
+    if job.has_header:
+        judge_head(source.head)
     if job.has_header and not source.names:
         raise Wrong("the file is empty, and has no header")
     if not source.names:
