@@ -4,7 +4,7 @@ from __future__ import annotations
 import re
 from typing import TYPE_CHECKING, Any, Dict, List, NamedTuple, Optional, Sequence, Tuple
 
-from .cells import ROUNDED, Cells, Group, Read, Reasons, Spelling, trimmed, ungrouped
+from .cells import ROUNDED, UNSAID, Cells, Group, Read, Reasons, Spelling, trimmed, ungrouped
 from .derived import CLASS, DERIVED, LINK, numbers_of
 from .lines import Lines
 from .options import path_of
@@ -16,11 +16,13 @@ if TYPE_CHECKING:
 CANON = "canon"
 LINK_OPTIONS, CLASS_OPTIONS = ("tables", "keys_only", "program", "engine"), ("tables", "prefixes", "gcp", "program")
 # reasons that no repair changes
-KEPT = (b"ambiguous ", b"fnc1?", b"rounded")
+KEPT = (b"ambiguous ", UNSAID, b"rounded")
 # reasons of a repaired cell that say more than those of the cell
-TELLING = (b"ambiguous ", b"check ", b"rounded", b"fnc1?")
+TELLING = (b"ambiguous ", b"check ", b"rounded", UNSAID)
 # digits that are no element string with a key of fixed length
 BARE = rb"[0-9]{1,15}|[0-9]{17}"
+# what may be a bare number to be repaired
+NUMERIC = rb"[0-9][0-9.-]*"
 
 
 class Answered(NamedTuple):
@@ -139,6 +141,9 @@ class Answers:
         found = Answered([[b""] * count for _ in self._targets], dict(read.reasons), [b""] * count * self._how.is_any, {})
         for group in read.groups:
             self._put(group, found)
+        for place, reason in read.reasons.items():
+            if found.forms and reason == UNSAID:
+                found.forms[place] = b"raw"
         return found
 
     def _put(self, group: Group, found: Answered) -> None:
@@ -221,8 +226,9 @@ class Answers:
 
         assert self._judge
         places = [place for place, reason in found.reasons.items() if not reason.startswith(KEPT)]
-        # (digits that raw reads may also be a number that lost zeros)
-        places += [place for place, form in enumerate(found.forms) if form == b"raw" and place not in found.reasons and re.fullmatch(BARE, cells[place])]
+        # (what raw reads may also be a number that lost zeros, or one with .0 or hyphens)
+        raw = (place for place, form in enumerate(found.forms) if form == b"raw" and place not in found.reasons)
+        places += [place for place in raw if re.fullmatch(NUMERIC, cells[place])]
         tried = [(place, repaired) for place in sorted(places) for repaired in repairs_of(self._how.source, cells[place])]
         judged = self._judge.answer([repaired.text for _, repaired in tried])
         by_place: Dict[int, List[Try]] = {}

@@ -10,6 +10,8 @@ ANY, BLANKS = "any", b" \t"
 FNC1, FNC1_SPELLINGS, AS_THEY_STAND = b"\x1d", ("<GS>", "|", "^]", "{GS}"), "none"
 GROUPED = rb"(?:0[xX])?([0-9A-Fa-f]+(?:[ -][0-9A-Fa-f]+)*)"
 MARKS_OF_BITS = (b"x", b"X", b" ", b"-")
+# why a cell with a spelling of FNC1 that nothing was said of is not read
+UNSAID = b"fnc1?"
 # bare numbers: their digits, and the code of the element that they are with the length of its value
 DIGITS = {"gtin": rb"(?:[0-9]{8}|[0-9]{12,14})", "sscc": rb"[0-9]{18}"}
 CODES = {"gtin": (b"01", 14), "sscc": (b"00", 18)}
@@ -146,7 +148,7 @@ class Cells:
                 whole = b"\n".join(cells)
         for spelling in self._unsaid:
             if spelling in whole:
-                wrong.update((at, b"fnc1?") for at, cell in enumerate(cells) if spelling in cell)
+                wrong.update((at, UNSAID) for at, cell in enumerate(cells) if spelling in cell)
         return cells, wrong
 
     def _numbers(self, form: str, cells: List[bytes]) -> Tuple[List[bytes], Reasons]:
