@@ -29,11 +29,17 @@ def unchecked(digits: str, dice: random.Random) -> str:
     return digits[:-1] + str((int(digits[-1]) + dice.randrange(1, 10)) % 10)
 
 
-def gtin(dice: random.Random, size: int, first: str = "123567890") -> str:
-    """Returns a GTIN of a size. No element string that raw reads begins so: `first` has no 4, 1 comes before no date, and 8 before no 0."""
+def number(dice: random.Random, size: int, first: str) -> str:
+    """Returns a number of a size with a check digit. No element that raw reads before a key begins so: `first` has no 4, and 1, 2, 3 and 8
+    come before digits that no such code has."""
     begin = dice.choice(first)
-    begin += {"1": "0", "8": "9"}.get(begin, "")
+    begin += {"1": "0", "2": "3", "3": "0", "8": "9"}.get(begin, "")
     return checked(begin + "".join(dice.choice("0123456789") for _ in range(size - 1 - len(begin))))
+
+
+def gtin(dice: random.Random, size: int, first: str = "123567890") -> str:
+    """Returns a GTIN of a size that raw does not read."""
+    return number(dice, size, first)
 
 
 def sscc(dice: random.Random, first: str = "35679") -> str:
@@ -48,9 +54,14 @@ def tag(dice: random.Random) -> tuple[str, str, int]:
     return f"{bits:024X}", checked(f"{indicator}0614141{item:05}"), serial
 
 
-def of_gtin(number: str) -> str:
+def of_gtin(bare: str) -> str:
     """Returns the link of a GTIN."""
-    return f"{STEM}/01/{number.zfill(14)}"
+    return f"{STEM}/01/{bare.zfill(14)}"
+
+
+def grouped(text: str, size: int, between: str) -> str:
+    """Returns a text in groups of a size."""
+    return between.join(text[at : at + size] for at in range(0, len(text), size))
 
 
 def tidy(form: str, dice: random.Random) -> Cell:
@@ -59,17 +70,17 @@ def tidy(form: str, dice: random.Random) -> Cell:
     linked = f"{of_gtin(item)}/21/{serial}"
     pure = f"0614141.{item[0]}{item[8:13]}.{serial}"
     if form == "gtin":
-        number = gtin(dice, dice.choice((8, 12, 13, 14)))
-        return Cell(number, of_gtin(number), form)
+        bare = gtin(dice, dice.choice((8, 12, 13, 14)))
+        return Cell(bare, of_gtin(bare), form)
     if form == "sscc":
-        number = sscc(dice)
-        return Cell(number, f"{STEM}/00/{number}", form)
+        bare = sscc(dice)
+        return Cell(bare, f"{STEM}/00/{bare}", form)
     texts = {
         "link": f"{dice.choice(('https', 'HTTPS', 'http'))}://shop.example/a/01/{item}/21/{serial}",
         "tag": f"urn:epc:tag:sgtin-96:3.{pure}",
         "pure": f"urn:epc:id:sgtin:{pure}",
         "bracketed": f"(01){item}(21){serial}",
-        "hex": dice.choice((bits, bits.lower(), f"0x{bits}", " ".join(bits[at : at + 4] for at in range(0, 24, 4)), "-".join(bits[at : at + 2] for at in range(0, 24, 2)))),
+        "hex": dice.choice((bits, bits.lower(), f"0x{bits}", grouped(bits, 4, " "), grouped(bits, 2, "-"))),
         "raw": dice.choice(("", "]C1", "]d2", "\x1d")) + f"01{item}21{serial}",
     }
     return Cell(texts[form], linked, form)
@@ -77,17 +88,17 @@ def tidy(form: str, dice: random.Random) -> Cell:
 
 def wrong(dice: random.Random) -> Cell:
     """Returns a cell that no form reads, and that nothing repairs."""
-    number, shortened = gtin(dice, 13), f"{dice.randrange(1, 10)}{dice.choice('.,')}{dice.randrange(10**5):05}E+{dice.randrange(11, 18)}"
-    false = unchecked(number, dice)
+    item, brief = gtin(dice, 13), f"{dice.randrange(1, 10)}{dice.choice('.,')}{dice.randrange(10**5):05}E+{dice.randrange(11, 18)}"
+    false = unchecked(item, dice)
     return dice.choice((
         Cell(false, "", "gtin", "check 0"),
         Cell(unchecked(sscc(dice), dice), "", "sscc", "check 0"),
-        Cell(shortened, "", "", "rounded"),
-        Cell(f"EAN {number}", "", "", "form"),
+        Cell(brief, "", "", "rounded"),
+        Cell(f"EAN {item}", "", "", "form"),
         Cell("urn:epc:idpat:sgtin:0614141.*.*", "", "", "form"),
         Cell("", "", "", "empty"),
-        Cell(f"01{number.zfill(14)}21A{dice.choice(('<GS>', '|', '^]', '{GS}'))}10B", "", "raw", "fnc1?"),
-        Cell(f"(01){unchecked(number, dice).zfill(14)}", "", "bracketed", "check 1"),
+        Cell(f"01{item.zfill(14)}21A{dice.choice(('<GS>', '|', '^]', '{GS}'))}10B", "", "raw", "fnc1?"),
+        Cell(f"(01){unchecked(item, dice).zfill(14)}", "", "bracketed", "check 1"),
         Cell(dice.choice("2356"), "", "", "digits 1"),
     ))
 
@@ -96,10 +107,10 @@ def shortened(dice: random.Random, form: str) -> tuple[str, str]:
     """Returns a bare number without the zeros at its begin, and the whole one."""
     if form == "gtin":
         zeros = dice.choice((1, 2, 3))
-        short = checked(dice.choice("2356") + "".join(dice.choice("0123456789") for _ in range(10 - zeros)))
+        short = number(dice, 12 - zeros, "2356")
         return short, short.zfill(12)
     zeros = dice.choice((1, 2, 3))
-    short = checked(dice.choice("2356") + "95" + "".join(dice.choice("0123456789") for _ in range(14 - zeros)))
+    short = number(dice, 18 - zeros, "2356")
     return short, short.zfill(18)
 
 
@@ -111,24 +122,24 @@ def _spaced(text: str, between: str, dice: random.Random) -> str:
 def repaired(dice: random.Random) -> Cell:
     """Returns a cell that can be repaired in one way."""
     form = dice.choice(("gtin", "sscc"))
-    number = gtin(dice, dice.choice((8, 12, 13, 14))) if form == "gtin" else sscc(dice)
+    bare = gtin(dice, dice.choice((8, 12, 13, 14))) if form == "gtin" else sscc(dice)
     code = "01" if form == "gtin" else "00"
-    link = f"{STEM}/{code}/{number.zfill(14 if form == 'gtin' else 18)}"
+    link = f"{STEM}/{code}/{bare.zfill(14 if form == 'gtin' else 18)}"
     short, whole = shortened(dice, form)
     padded = f"{STEM}/{code}/{whole.zfill(14 if form == 'gtin' else 18)}"
     item = gtin(dice, 14, "23569")
     plain = tidy(dice.choice(FORMS), dice)
     ways: tuple[Callable[[], Cell], ...] = (
         lambda: Cell(short, padded, form, "", "zeros"),
-        lambda: Cell(f"{number}.0", link, form, "", "decimal"),
+        lambda: Cell(f"{bare}.0", link, form, "", "decimal"),
         lambda: Cell(f"{short}.0", padded, form, "", "decimal zeros"),
         lambda: Cell(f'="{plain.text}"', plain.link, plain.form, "", "formula"),
         lambda: Cell(f"'{plain.text}", plain.link, plain.form, "", "apostrophe"),
         lambda: Cell(f"{dice.choice(WIDE)}{plain.text}{dice.choice(WIDE)}", plain.link, plain.form, "", "blanks"),
         lambda: Cell(f"'{short}", padded, form, "", "apostrophe zeros"),
         lambda: Cell(f'="{short}"', padded, form, "", "formula zeros"),
-        lambda: Cell(_spaced(number, "-", dice), link, form, "", "hyphens"),
-        lambda: Cell(_spaced(number, dice.choice((" ", *WIDE)), dice), link, form, "", "blanks"),
+        lambda: Cell(_spaced(bare, "-", dice), link, form, "", "hyphens"),
+        lambda: Cell(_spaced(bare, dice.choice((" ", *WIDE)), dice), link, form, "", "blanks"),
         lambda: Cell(f"(0){sscc(dice, '3')}", "", "bracketed", "", "zeros"),
         lambda: Cell(f"(01) {item} (10) AB", f"{of_gtin(item)}/10/AB", "bracketed", "", "blanks"),
         lambda: Cell(f"(1){item}", of_gtin(item), "bracketed", "", "zeros"),

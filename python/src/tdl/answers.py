@@ -16,9 +16,10 @@ if TYPE_CHECKING:
 CANON = "canon"
 LINK_OPTIONS, CLASS_OPTIONS = ("tables", "keys_only", "program", "engine"), ("tables", "prefixes", "gcp", "program")
 # reasons that no repair changes
-KEPT = (b"ambiguous ", UNSAID, b"rounded")
+DOUBT = b"ambiguous "
+KEPT = (DOUBT, UNSAID, b"rounded")
 # reasons of a repaired cell that say more than those of the cell
-TELLING = (b"ambiguous ", b"check ", b"rounded", UNSAID)
+TELLING = (b"check ", b"rounded", UNSAID)
 # digits that are no element string with a key of fixed length
 BARE = rb"[0-9]{1,15}|[0-9]{17}"
 # what may be a bare number to be repaired
@@ -50,6 +51,16 @@ def _reject(found: Answered, place: int, reason: bytes) -> None:
         column[place] = b""
     if found.forms:
         found.forms[place] = b""
+
+
+def _explain(found: Answered, place: int, tries: List[Try]) -> None:
+    """Gives a cell the reason of a repaired one, if that says more."""
+    for one in tries:
+        if one.reason.startswith(TELLING):
+            found.reasons[place] = one.reason
+            if found.forms:
+                found.forms[place] = one.form.encode("ascii")
+            return
 
 
 def cells_of(printed: bytes) -> Tuple[List[bytes], Reasons]:
@@ -214,10 +225,12 @@ class Answers:
             if len(read) + len(as_it_stands) > 1:
                 forms = [*(one.form for one in read), *as_it_stands]
                 _reject(found, place, b"ambiguous %b %b" % tuple(form.encode("ascii") for form in forms[:2]))
+            elif any(one.reason.startswith(DOUBT) for one in tries):
+                _reject(found, place, next(one.reason for one in tries if one.reason.startswith(DOUBT)))
             elif read:
                 chosen[place] = read[0].repaired
             elif not as_it_stands:
-                found.reasons[place] = next((one.reason for one in tries if one.reason.startswith(TELLING)), found.reasons[place])
+                _explain(found, place, tries)
         self._replace(chosen, found)
 
     def _tried(self, cells: List[bytes], found: Answered) -> Dict[int, List[Try]]:

@@ -6,7 +6,7 @@ from string import ascii_letters, digits
 from typing import Dict, FrozenSet, List, Optional, Sequence, Tuple
 from urllib.parse import quote_from_bytes, unquote_to_bytes
 
-from ..cells import ROUNDED
+from ..cells import BLANKS, ROUNDED
 from ..errors import Rejected
 from ..known import known_of
 from ..options import File, path_of
@@ -19,6 +19,8 @@ ELEMENT = re.compile(rb"[/?&]([0-9]+)[/=]([^/?&]*)")
 PLACED = frozenset({b"unknown", b"escape", b"length", b"char", b"check", b"date"})
 CODED = frozenset({b"repeat", b"keys", b"extra"})
 SERIALS = (b"21", b"254")
+# elements that are bare numbers, whose cells can be repaired
+BARE_NUMBERS = {b"00": "sscc", b"01": "gtin", b"02": "gtin"}
 
 
 def judged(codes: Sequence[str]) -> Tuple[str, ...]:
@@ -70,6 +72,22 @@ class Elements:
         self._order = [self._keys[0], *(number for number in range(len(codes)) if number != self._keys[0])]
         query = b"&".join(self._codes[number] + b"=%b" for number in self._order[1:])
         self._plain = b"%b/%b/%%b" % (STEM, self._codes[self._keys[0]]) + (b"?" + query if query else b"")
+
+    def repair(self, columns: Sequence[List[bytes]]) -> Tuple[List[List[bytes]], List[bytes]]:
+        """Returns the values with the GTINs and SSCCs that could be repaired in one way, and for each record what was done, with the names of
+        the columns."""
+        from ..repairs import repairs_of
+
+        changed = [list(column) for column in columns]
+        told: List[List[bytes]] = [[] for _ in columns[0]]
+        for code, name, column in zip(self._codes, self._names, changed):
+            form = BARE_NUMBERS.get(code)
+            for place, value in enumerate(column if form else ()):
+                found = repairs_of(form or "", value.strip(BLANKS))
+                if len(found) == 1:
+                    column[place] = found[0].text
+                    told[place] += [name, *found[0].words]
+        return changed, [b" ".join(words) for words in told]
 
     def compose(self, columns: Sequence[List[bytes]]) -> Tuple[List[bytes], Dict[int, bytes]]:
         """Returns the link of each record, and the reasons of those without one, which have an empty text."""

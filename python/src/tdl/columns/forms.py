@@ -37,14 +37,19 @@ class Forms:
     def answer(self, columns: List[List[bytes]], wrong: Reasons) -> Fields:
         """Returns the new fields. `columns` has a list of values for each element, or the list of texts; records with a reason in `wrong`
         are not asked for."""
+        repaired: List[List[bytes]] = []
+        if self._elements and self._is_repaired:
+            columns, words = self._elements.repair(columns)
+            repaired = [words]
         texts, unasked = self._texts(columns)
         reasons = {**unasked, **wrong}
         if not reasons:
-            return self._translated(texts)
+            found = self._translated(texts)
+            return Fields(found.columns + repaired, found.reasons)
         places = [place for place in range(len(texts)) if place not in reasons]
         found = self._translated([texts[place] for place in places])
         reasons.update((places[number], reason) for number, reason in found.reasons.items())
-        return Fields([_spread(column, places, len(texts)) for column in found.columns], reasons)
+        return Fields([_spread(column, places, len(texts)) for column in found.columns] + repaired, reasons)
 
     def _texts(self, columns: List[List[bytes]]) -> Tuple[List[bytes], Reasons]:
         """Returns the text of each record, and why there is none or it is not one line."""
@@ -61,7 +66,7 @@ class Forms:
             columns += [[values[number] for values in split] for number in range(len(self._codes))]
         if self._is_any:
             columns.append(found.forms)
-        if self._is_repaired:
+        if self._is_repaired and not self._elements:
             columns.append([found.repaired.get(place, b"") for place in range(len(texts))])
         named = self._elements.named if self._elements else None
         return Fields(columns, {place: named(texts[place], reason) for place, reason in found.reasons.items()} if named else found.reasons)
