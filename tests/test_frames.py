@@ -77,3 +77,20 @@ def test_texts_of_any_form(module: Environment) -> None:
     forms = [("gtin", "zeros", None), ("bracketed", "", None), (None, None, "gtin"), (None, None, "any")]
     printed = f"no form\nok {item}\n".encode()
     assert done.stdout == f"{forms}\n{[item]} {item} {printed!r}\n", done.stderr
+
+
+@pytest.mark.parametrize("source, target, text, sentence", [
+    ("any", "canon", "x", "No form begins so."),
+    ("any", "canon", "4012345678901", "Two forms read this cell, gtin and raw. Name the form of the column."),
+    ("any", "canon", "61414112345", "11 digits are neither a GTIN, which has 8, 12, 13 or 14, nor an SSCC, which has 18. Lost zeros can be repaired."),
+    ("any", "canon", "4006381333932", "The check digit is wrong."),
+    ("gtin", "canon", "12x", "Character 3 is not a digit. A GTIN has 8, 12, 13 or 14 digits."),
+    ("sscc", "canon", "1", "An SSCC has 18 digits."),
+    ("bracketed", "gtin-8", "(01)80614141123458", "The GTIN has more digits than this form."),
+    ("bracketed", "gtin-8", "(00)106141412345678908", "The text names no GTIN."),
+])
+def test_sentences(module: Environment, source: str, target: str, text: str, sentence: str) -> None:
+    """Each reason of a cell has a sentence."""
+    script = "import sys, tdl\ntry: tdl.Translator(*sys.argv[1:3]).translate(sys.argv[3])\nexcept tdl.Rejected as error: print(error.sentence)"
+    done = subprocess.run([sys.executable, "-c", script, source, target, text], env=module, capture_output=True, text=True, check=False)
+    assert done.stdout == f"{sentence}\n", done.stderr
