@@ -6,10 +6,13 @@ import os
 import random
 import subprocess
 import sys
+import tempfile
 from pathlib import Path
+from unittest import mock
 
 import pytest
 
+from tdl.__main__ import main
 from tests import untidy
 
 Environment = dict[str, str]
@@ -32,10 +35,13 @@ def column_of(texts: list[str]) -> str:
     return into.getvalue()
 
 
-def added(module: Environment, texts: list[str], *words: object) -> list[list[str]]:
-    """Returns the new fields of each text."""
-    rows = list(csv.reader(io.StringIO(command(module, "csv", "-c", "c", *words, given=column_of(texts))[1], newline="")))
-    return [row[2:] for row in rows[1:]]
+def added(module: Environment, texts: list[str], *words: str) -> list[list[str]]:
+    """Returns the new fields of each text. The command runs in this process, which saves the start of another."""
+    with tempfile.TemporaryDirectory() as folder, mock.patch.dict(os.environ, {"TDL": module["TDL"]}):
+        Path(folder, "in.csv").write_bytes(column_of(texts).encode("utf-8", "surrogateescape"))
+        main(["csv", "-c", "c", *words, f"{folder}/in.csv", "-o", f"{folder}/out.csv", "--no-sync"])
+        written = Path(folder, "out.csv").read_bytes().decode("utf-8", "surrogateescape")
+    return [row[2:] for row in list(csv.reader(io.StringIO(written, newline="")))[1:]]
 
 
 def cells_wanted(whole: bool) -> int:

@@ -1,13 +1,10 @@
 """The table of docs/TUTORIAL.md, 'Your column looks like this': each command gives the fields that it shows."""
-import csv
-import io
 import re
 import shlex
-import subprocess
-import sys
 
 import pytest
 
+from tests.test_cells import added
 from tools.repository import TOP
 
 HEAD = "| Cell | Options | New fields |"
@@ -34,8 +31,4 @@ def test_there_are_twenty() -> None:
 @pytest.mark.parametrize("cell, options, wanted", rows())
 def test_a_row(module: dict[str, str], cell: str, options: str, wanted: str) -> None:
     """The options of a row give its fields."""
-    into = io.StringIO()
-    csv.writer(into, lineterminator="\n").writerows([["n", "c"], ["1", cell]])
-    words = [sys.executable, "-m", "tdl", "csv", "-c", "c", *shlex.split(options)]
-    done = subprocess.run(words, input=into.getvalue(), env=module, stdout=subprocess.PIPE, text=True, check=False)
-    assert ",".join(list(csv.reader(io.StringIO(done.stdout)))[1][2:]) == wanted
+    assert [",".join(fields) for fields in added(module, [cell], *shlex.split(options))] == [wanted]
