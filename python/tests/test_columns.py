@@ -15,7 +15,8 @@ SRC = Path(__file__).resolve().parent.parent / "src"
 sys.path.append(str(SRC))
 
 from tdl import Translator  # noqa: E402
-from tdl.columns import forms, source  # noqa: E402
+from tdl import answers  # noqa: E402
+from tdl.columns import source  # noqa: E402
 from tdl.columns.job import Job  # noqa: E402
 from tdl.columns.records import Reader  # noqa: E402
 from tdl.columns.translation import translate_csv  # noqa: E402
@@ -66,6 +67,11 @@ class Elements(unittest.TestCase):
         self.assertEqual(links[:3], ["/01/80614141123458/10/ABC/21/6789", "/01/00614141123452/21/6790", "/01/00614141123452/21/6791"])
         self.assertEqual((links[4], links[8:]), ("/01/80614141123458/10/ABC", ["/01/80614141123458/21/6%2F7", "/01/80614141123458/10/A%2CB/21/1"]))
 
+    def test_a_serial_may_look_like_a_shortened_number(self):
+        given = "gtin,serial\n80614141123458,6.7E+5\n8.06141E+13,1\n"
+        found = self.added("-e", "01=gtin", "-e", "21=serial", given=given)
+        self.assertEqual(found[1:], [["https://id.gs1.org/01/80614141123458/21/6.7E%2B5", ""], ["", "rounded gtin"]])
+
     def test_several_forms_and_values(self):
         words = ("-e", "01=gtin", "-e", "21=serial", "-e", "10=lot", "--to", "hex", "--to", "link", "--split", "01,10", "--gcp", "7", "--filter", "3")
         found = self.added(*words)
@@ -115,6 +121,7 @@ class Ways(unittest.TestCase):
 
     def answer(self, epc):
         """The link of a tag with this company prefix, its reference and check digit: they are those of BITS."""
+        epc = epc.strip(" ")
         if len(epc) == 24:
             return LINK.replace("6789", str(int(epc[-9:], 16))), ""
         return "", "odd" if len(epc) % 2 else "digit 20" if "x" in epc else "reading"
@@ -180,7 +187,7 @@ class Ways(unittest.TestCase):
         self.addCleanup(kept.close)
         # (one run of the program for all files; after a fork a process has a run of its own)
         keeper = mock.Mock(print_answers=kept.print_answers)
-        changed = mock.patch.object(forms, "Translator", return_value=keeper)
+        changed = mock.patch.object(answers, "Translator", return_value=keeper)
         changed.start()
         self.addCleanup(changed.stop)
         dice = random.Random(7)
@@ -248,7 +255,7 @@ class Jsonl(unittest.TestCase):
         found = run("jsonl", "-e", "01=i.gtin", "-e", "21=i.sn", "--split", "01,21", given=given)[1].splitlines()
         self.assertEqual(found[0], '{"i":{"gtin":614141123452,"sn":"7"},"gtin_01":"00614141123452","gtin_21":"7"}')
         reasons = [line.split(',"gtin_reason":')[1] for line in found[1:]]
-        self.assertEqual(reasons, ['"check gtin"}', '"member gtin"}', '"missing gtin"}', '"rounded sn"}'])
+        self.assertEqual(reasons, ['"check gtin"}', '"member gtin"}', '"missing gtin"}', '"missing gtin"}'])
 
     def test_a_file_appears_when_it_is_whole(self):
         with tempfile.TemporaryDirectory() as folder:

@@ -67,7 +67,7 @@ class Records(unittest.TestCase):
             (["-c", "id"], b"id,id\n", "several columns are named id: give its number, 1 to 2"),
             (["-c", "id"], b"id,id_link\n", "the file has a column id_link already: name the new ones by --name"),
             (["-c", "id"], b"", "the file is empty"),
-            (["-c", "id"], b'id\n"a\n', "the record at line 2 is not CSV: unexpected end of data"),
+            (["-c", "id"], b'id\n"a\n', "the record at line 2 is not CSV: the quote that line 2 opens is not closed"),
             (["-c", "id"], "id\n".encode("utf-16"), "UTF-16"),
             (["-c", "id", "--gcp", "13"], b"id\nx\n", "gcp is a number from 1 to 12, not 13"),
             (["-c", "id", "-j", "0"], b"id\n", "the number of processes is 1 to 256"),
@@ -109,7 +109,7 @@ class Files(unittest.TestCase):
         for jobs in (1, 2):
             words = ("-c", "EPC", "--from", "hex", "--to", "link", "-j", jobs)
             self.assertEqual(run(*words, self.path("in.csv"))[1].decode(), "EPC,EPC_link,EPC_reason\n" + line * 1_999 + "\n\n" + line * 2_000)
-            self.assertIn("the record at line 5002 is not CSV: unexpected end of data", run(*words, self.path("open.csv"))[2])
+            self.assertIn("the record at line 5002 is not CSV: the quote that line 5002 opens is not closed", run(*words, self.path("open.csv"))[2])
 
     def test_a_file_appears_when_it_is_whole(self):
         self.path("in.csv").write_text(f'EPC\n{BITS}\n"a')

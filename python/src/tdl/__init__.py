@@ -7,7 +7,7 @@
 A text has one of the forms `hex`, `tag`, `pure`, `raw`, `bracketed` and `link`, and is translated to one of these or to `canon`, the
 canonical GS1 Digital Link. A text without a translation raises `Rejected`, which says why and where.
 """
-from typing import TYPE_CHECKING
+from typing import TYPE_CHECKING, List
 
 if TYPE_CHECKING:
     from .errors import FilesRejected, ProgramError, Rejected, Wrong
@@ -48,6 +48,11 @@ _MODULES = {
     "tables": ("BUILT_IN", "GS1", "Counts", "check"),
     "translator": ("Classes", "Dumps", "Translator", "canon"),
 }
+
+
+def __dir__() -> List[str]:
+    """Returns the names of the module, those that are not imported yet too."""
+    return sorted({*globals(), *__all__})
 
 
 def __getattr__(name: str) -> object:

@@ -18,6 +18,7 @@ from typing import List, Optional  # noqa: E402
 
 from .errors import FilesRejected  # noqa: E402
 from .files import keep_standard_streams  # noqa: E402
+from .kinds import shown  # noqa: E402
 
 # each command: the module with its arguments and its run, and what it is for
 COMMANDS = {
@@ -74,7 +75,8 @@ def main(words: Optional[List[str]] = None) -> int:
 
 
 def _failed(asked: argparse.Namespace, sentence: str, status: int) -> int:
-    interrupts.tell(f"tdl {asked.command}: {sentence}")
+    # (a name of a file or of a column may have control characters)
+    interrupts.tell(f"tdl {asked.command}: {shown(sentence)}")
     return status
 
 

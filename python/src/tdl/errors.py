@@ -36,9 +36,10 @@ class Rejected(Exception):
     @property
     def sentence(self) -> str:
         """The reason as the inspector's page says it, or the reason itself if the page has no sentence for it."""
+        from .cell_reasons import sentence_of_cell
         from .inspector.reasons import sentence_of
 
-        return sentence_of(self.source, self.text, self.reason, self.tables)
+        return sentence_of_cell(self.source, self.reason) or sentence_of(self.source, self.text, self.reason, self.tables)
 
     def __reduce__(self) -> "Tuple[type[Rejected], Tuple[bytes, str, str, Optional[str]]]":
         return type(self), (self.text, self.reason, self.source, self.tables)

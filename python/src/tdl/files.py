@@ -54,9 +54,13 @@ def wait(file: int) -> None:
     is_ready(file, None)
 
 
-def lines_come(file: int, waits: Callable[[int], None] = wait) -> Iterator[bytes]:
-    """Yields the whole lines that have come, and at the end the rest. `waits` waits until more can be read."""
-    rest = bytearray()
+def lines_come(file: int, waits: Callable[[int], None] = wait, begun: bytes = b"") -> Iterator[bytes]:
+    """Yields the whole lines that have come, after the bytes that were read before, and at the end the rest. `waits` waits until more can be
+    read."""
+    end = begun.rfind(b"\n") + 1
+    if end:
+        yield begun[:end]
+    rest = bytearray(begun[end:])
     waits(file)
     while block := os.read(file, BLOCK):
         end = block.rfind(b"\n") + 1

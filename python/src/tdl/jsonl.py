@@ -3,18 +3,20 @@ from __future__ import annotations
 
 import argparse
 import json
+import os
 from contextlib import ExitStack
-from typing import Any, Dict, List, NamedTuple, NoReturn, Optional, Tuple
+from itertools import chain, repeat
+from typing import Any, Callable, Dict, Iterable, Iterator, List, NamedTuple, NoReturn, Optional, Tuple, Union
 
 from .columns.command import add_translation, element, job_of, told
 from .columns.elements import Elements, keys_among
 from .columns.forms import Forms
 from .columns.job import Job, Total
 from .columns.layout import new_names
-from .files import lines_come, reading, writing
+from .files import BLOCK, lines_come, reading, writing
+from .json_items import BLANK, Array, Items
+from .kinds import MARK, is_begun, judge_begin
 from .pool import pool_of
-
-BLANK = b" \t\r\n"
 
 
 class Line(NamedTuple):
@@ -71,23 +73,28 @@ class Writer:
         self._is_composed = bool(codes)
         *self._added, self._reason = new_names(job, names[0], [])
         self._labels = [_json(name.encode("utf-8", "surrogateescape")) + b":" for name in self._added]
-        self._forms = Forms(job, Elements(codes, names, keys) if codes else None)
+        self._forms = Forms(job, Elements(codes, names, keys, job.options.get("tables")) if codes else None)
 
     def close(self) -> None:
         """Ends the runs."""
         self._forms.close()
 
-    def write(self, piece: bytes) -> Written:
-        """Returns lines with their answers. Blank lines stay as they are."""
-        *raws, last = piece.split(b"\n")
-        lines = [self._read(raw + b"\n") for raw in raws] + ([self._read(last)] if last else [])
+    def write(self, piece: Union[bytes, Items]) -> Written:
+        """Returns lines, or the items of an array, with their answers. Blank lines stay as they are."""
+        if isinstance(piece, Items):
+            befores: Iterable[bytes] = piece.befores
+            raws = piece.items
+        else:
+            *whole, last = piece.split(b"\n")
+            befores, raws = repeat(b""), [*(line + b"\n" for line in whole), *filter(None, [last])]
+        lines = [self._read(raw) for raw in raws]
         wrong = {number: line.reason.encode("utf-8", "surrogateescape") for number, line in enumerate(lines) if line.reason}
         asked = [number for number, line in enumerate(lines) if line.found is not None and not line.reason]
         columns, found = self._forms.answer([[lines[number].values[at] for number in asked] for at in range(len(self._paths))], {})
         cells = dict(zip(asked, zip(*columns)))
         reasons = {**wrong, **{asked[number]: reason for number, reason in found.items()}}
-        written = [self._written(line, cells.get(number, ()), reasons.get(number, b"")) for number, line in enumerate(lines)]
-        return Written(b"".join(written), Total(sum(1 for line in lines if line.body), len(reasons)))
+        written = (self._written(line, cells.get(number, ()), reasons.get(number, b"")) for number, line in enumerate(lines))
+        return Written(b"".join(chain.from_iterable(zip(befores, written))), Total(sum(1 for line in lines if line.body), len(reasons)))
 
     def _read(self, raw: bytes) -> Line:
         body = raw.rstrip(BLANK)
@@ -128,8 +135,21 @@ class Writer:
         return line.body[:-1].rstrip(BLANK) + b"," * bool(line.found) + b",".join(members) + b"}" + line.end
 
 
+def begin_of(file: int, waits: Callable[[int], None]) -> Tuple[bytes, bytes]:
+    """Returns the mark of UTF-8 that a file begins with, or nothing, and the next bytes, with the first that is not blank."""
+    data = b""
+    while True:
+        waits(file)
+        block = os.read(file, BLOCK)
+        data += block
+        mark = MARK if data.startswith(MARK) else b""
+        if not block or (not is_begun(data) and data[len(mark) :].strip(BLANK)):
+            judge_begin(data)
+            return mark, data[len(mark) :]
+
+
 def translate_jsonl(job: Job, path: str, output: str) -> Total:
-    """Translates members of the lines of the file `path`. Each path may be `-`."""
+    """Translates members of the lines of the file `path`, or of the objects of its array. Each path may be `-`."""
     total = Total(0, 0)
     with ExitStack() as opened:
         file = opened.enter_context(reading(path))
@@ -143,16 +163,23 @@ def translate_jsonl(job: Job, path: str, output: str) -> Total:
 
         pool = pool_of(job.processes, lambda: Writer(job), sink)
         opened.callback(pool.close)
-        for lines in lines_come(file, pool.wait):
-            pool.submit(lines)
+        mark, begun = begin_of(file, pool.wait)
+        stream.write(mark)
+        array = Array(file, begun, pool.wait) if begun.lstrip(BLANK).startswith(b"[") else None
+        pieces: Iterator[Union[bytes, Items]] = lines_come(file, pool.wait, begun)
+        if array:
+            pieces = array.pieces()
+        for piece in pieces:
+            pool.submit(piece)
         pool.finish()
+        stream.write(array.rest if array else b"")
     return total
 
 
 def add(parser: argparse.ArgumentParser) -> None:
     """Adds the arguments of `jsonl`."""
     parser.epilog = "The status is 1 if a line was rejected. A written file appears when all is done."
-    parser.add_argument("file", nargs="?", default="-", help="the file of JSON lines; else, or for -, the standard input")
+    parser.add_argument("file", nargs="?", default="-", help="the file of JSON lines, or of an array of objects; else, or for -, the standard input")
     which = parser.add_mutually_exclusive_group(required=True)
     which.add_argument("-c", "--column", metavar="MEMBER", help="the member that has texts; one of an inner object by its whole way, such as read.epc")
     told = "a member that has the values of an element, such as 01=gtin; once for each element"

@@ -21,9 +21,9 @@ class Lines:
     `ProgramError` say that a text could not be answered.
     """
 
-    def __init__(self, words: Sequence[str], source: str, tables: Optional[str], program: Optional[str], library: Optional[Library] = None) -> None:
-        self._engine: Engine = library or Pipe(words, source, tables, program)
-        if library:
+    def __init__(self, words: Sequence[str], source: str, tables: Optional[str], program: Optional[str], engine: Optional[Engine] = None) -> None:
+        self._engine: Engine = engine or Pipe(words, source, tables, program)
+        if isinstance(engine, Library):
             _ALIVE.add(self)
 
     def translate(self, text: Text) -> str:

@@ -7,11 +7,15 @@ import os
 import re
 from typing import Dict, List, Literal, Optional, Union
 
-Form = Literal["hex", "tag", "pure", "raw", "bracketed", "link"]
-Target = Literal["hex", "tag", "pure", "raw", "bracketed", "link", "canon"]
+Form = Literal["hex", "tag", "pure", "raw", "bracketed", "link", "any", "gtin", "sscc"]
+Target = Literal["hex", "tag", "pure", "raw", "bracketed", "link", "canon", "gtin-8", "gtin-12", "gtin-13", "gtin-14", "sscc", "class"]
 File = Union[str, "os.PathLike[str]"]
 FORMS = ("hex", "tag", "pure", "raw", "bracketed", "link")
 TARGETS = (*FORMS, "canon")
+# the forms that only this module has, and all
+CELL_FORMS, CELL_TARGETS = (*FORMS, "any", "gtin", "sscc"), (*TARGETS, "gtin-8", "gtin-12", "gtin-13", "gtin-14", "sscc", "class")
+# tag bits that are read may be in base64
+BASE64 = "base64"
 ENGINES = ("library", "pipe")
 STEM = re.compile(r"https?://[!\"$-.0->@-~][!\"$->@-~]*(?<!/)")
 MOST_OF_STEM = 1_024

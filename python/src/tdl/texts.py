@@ -9,6 +9,14 @@ Text = Union[str, bytes]
 Answer = Union[str, Rejected]
 
 
+class Translated(str):
+    """An answer to a text of any form, or to one that may be repaired: `form` is its form, and `repaired` says what was done to it, or is
+    empty."""
+
+    form = ""
+    repaired = ""
+
+
 class Engine(Protocol):
     """What answers texts: runs of the program, or sessions of the library."""
 

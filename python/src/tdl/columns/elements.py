@@ -3,22 +3,24 @@ from __future__ import annotations
 
 import re
 from string import ascii_letters, digits
-from typing import Dict, List, Optional, Sequence, Tuple
+from typing import Dict, FrozenSet, List, Optional, Sequence, Tuple
 from urllib.parse import quote_from_bytes, unquote_to_bytes
 
+from ..cells import BLANKS, ROUNDED
 from ..errors import Rejected
-from ..options import File
+from ..known import known_of
+from ..options import File, path_of
 from ..translator import Translator
 
 STEM = b"https://id.gs1.org"
 UNRESERVED = f"{ascii_letters}{digits}-._~".encode()
 CODE = re.compile(r"[0-9]{2,4}")
 ELEMENT = re.compile(rb"[/?&]([0-9]+)[/=]([^/?&]*)")
-# how spreadsheets write a number of many digits: the others are lost
-ROUNDED = re.compile(rb"[0-9](?:[.,][0-9]*)?[Ee]\+[0-9]+")
 PLACED = frozenset({b"unknown", b"escape", b"length", b"char", b"check", b"date"})
 CODED = frozenset({b"repeat", b"keys", b"extra"})
 SERIALS = (b"21", b"254")
+# elements that are bare numbers, whose cells can be repaired
+BARE_NUMBERS = {b"00": "sscc", b"01": "gtin", b"02": "gtin"}
 
 
 def judged(codes: Sequence[str]) -> Tuple[str, ...]:
@@ -61,14 +63,31 @@ def _quoted(value: bytes) -> bytes:
 class Elements:
     """Composes links of values. Each value is that of a code, and stands in a column with a name, which the reasons name."""
 
-    def __init__(self, codes: Sequence[str], names: Sequence[str], keys: Sequence[int]) -> None:
+    def __init__(self, codes: Sequence[str], names: Sequence[str], keys: Sequence[int], tables: Optional[File] = None) -> None:
         self._codes = [code.encode("ascii") for code in codes]
         self._names = [name.encode("utf-8", "surrogateescape") for name in names]
+        self._tables, self._numbers = tables, None  # type: Optional[File], Optional[FrozenSet[str]]
         self._name_of = dict(zip(self._codes, self._names))
         self._keys = list(keys)
         self._order = [self._keys[0], *(number for number in range(len(codes)) if number != self._keys[0])]
         query = b"&".join(self._codes[number] + b"=%b" for number in self._order[1:])
         self._plain = b"%b/%b/%%b" % (STEM, self._codes[self._keys[0]]) + (b"?" + query if query else b"")
+
+    def repair(self, columns: Sequence[List[bytes]]) -> Tuple[List[List[bytes]], List[bytes]]:
+        """Returns the values with the GTINs and SSCCs that could be repaired in one way, and for each record what was done, with the names of
+        the columns."""
+        from ..repairs import repairs_of
+
+        changed = [list(column) for column in columns]
+        told: List[List[bytes]] = [[] for _ in columns[0]]
+        for code, name, column in zip(self._codes, self._names, changed):
+            form = BARE_NUMBERS.get(code)
+            for place, value in enumerate(column if form else ()):
+                found = repairs_of(form or "", value.strip(BLANKS))
+                if len(found) == 1:
+                    column[place] = found[0].text
+                    told[place] += [name, *found[0].words]
+        return changed, [b" ".join(words) for words in told]
 
     def compose(self, columns: Sequence[List[bytes]]) -> Tuple[List[bytes], Dict[int, bytes]]:
         """Returns the link of each record, and the reasons of those without one, which have an empty text."""
@@ -87,12 +106,18 @@ class Elements:
 
     def _reason(self, values: List[bytes], key: Optional[int]) -> bytes:
         """Returns why no link is made of values, or nothing."""
-        rounded = next((name for name, value in zip(self._names, values) if ROUNDED.fullmatch(value)), None)
+        rounded = next((at for at, value in enumerate(values) if re.fullmatch(ROUNDED, value) and self._is_number(at)), None)
         if rounded is not None:
-            return b"rounded " + rounded
+            return b"rounded " + self._names[rounded]
         if key is None:
             return b"missing " + self._names[self._keys[0]] if len(self._keys) == 1 else b"key"
         return b""
+
+    def _is_number(self, at: int) -> bool:
+        """Returns whether an element is only digits, by the tables. Others, such as a serial, may look like a number that was shortened."""
+        if self._numbers is None:
+            self._numbers = known_of(path_of(self._tables)).numbers
+        return self._codes[at].decode("ascii") in self._numbers
 
     def _link(self, values: List[bytes], key: int) -> bytes:
         pairs = [(self._codes[number], _quoted(values[number])) for number in self._order if number != key and values[number]]

@@ -13,7 +13,9 @@ class Job:
 
     Texts of the form `source` are in `column`, or `elements` has the code of each element with its column; then `source` is `link`. `split`
     are codes of elements whose values are wanted, `name` is that of the new columns instead of the first column's, and `is_synced` says
-    whether the written files are on the disk before the end.
+    whether the written files are on the disk before the end. `fnc1` are
+    spellings of FNC1, and `is_base64` says whether tag bits are in base64. `sheet`
+    is that of a workbook, else its first.
     """
 
     source: Form
@@ -26,6 +28,10 @@ class Job:
     has_header: bool = True
     processes: int = 1
     is_synced: bool = True
+    is_repaired: bool = False
+    fnc1: Tuple[str, ...] = ()
+    is_base64: bool = False
+    sheet: Optional[str] = None
     options: Dict[str, Any] = field(default_factory=dict)
 
 

@@ -4,6 +4,7 @@ from __future__ import annotations
 from typing import List, NamedTuple, Tuple
 
 from ..errors import Wrong
+from ..kinds import judge_head
 from .job import Job
 from .records import encoded, parted, quoted
 from .source import Source
@@ -32,7 +33,9 @@ def _index(column: str, names: List[str], has_header: bool) -> int:
 def new_names(job: Job, base: str, names: List[str]) -> List[str]:
     """Returns the names of the new columns, the last that of the reasons: `BASE_reason`, or if that is taken `BASE_FORM_reason`."""
     base = base if job.name is None else job.name
-    added = [f"{base}_{word}" for word in (*("link" if target == "canon" else target for target in job.targets), *job.split)]
+    words = ["link" if target == "canon" else target for target in job.targets] + list(job.split)
+    words += ["form"] * (job.source == "any") + ["repaired"] * job.is_repaired
+    added = [f"{base}_{word}" for word in words]
     reason = f"{base}_reason" if f"{base}_reason" not in names else f"{added[0]}_reason"
     for name in (*added, reason):
         if name in names:
@@ -45,6 +48,8 @@ def new_names(job: Job, base: str, names: List[str]) -> List[str]:
 def layout_of(source: Source, job: Job) -> Layout:
     """Returns the layout of a file, whose header is taken."""
     columns = [column for _, column in job.elements] if job.elements else [job.column or ""]
+    if job.has_header:
+        judge_head(source.head)
     if job.has_header and not source.names:
         raise Wrong("the file is empty, and has no header")
     if not source.names:

@@ -5,6 +5,7 @@ import os
 import stat
 import sys
 from time import monotonic
+from typing import Optional
 
 from .job import Total
 
@@ -14,11 +15,12 @@ PAUSE, WIDTH = 0.2, 20
 class Progress:
     """A line on a terminal: how far the work is."""
 
-    def __init__(self, file: int) -> None:
-        self._file, self._began, self._next = file, monotonic(), 0.0
+    def __init__(self, file: Optional[int]) -> None:
+        """Shows how much of a file was read, if it is named."""
+        self._file, self._began, self._next = 0 if file is None else file, monotonic(), 0.0
         self._is_shown = os.isatty(2)
         found = os.fstat(self._file)
-        self._size = found.st_size if stat.S_ISREG(found.st_mode) else 0
+        self._size = found.st_size if file is not None and stat.S_ISREG(found.st_mode) else 0
 
     def show(self, total: Total) -> None:
         """Shows the records, how many a second, the seconds left, and the rejected ones."""

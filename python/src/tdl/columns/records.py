@@ -3,7 +3,9 @@ from __future__ import annotations
 
 import csv
 import io
-from typing import Dict, List, NamedTuple, Optional, Tuple
+import re
+from itertools import chain
+from typing import Dict, Iterator, List, NamedTuple, Optional, Tuple
 
 from ..errors import Wrong
 
@@ -40,10 +42,45 @@ def count_lines(data: bytes) -> int:
     return data.count(b"\n") + (data.count(b"\r") - data.count(b"\r\n") if b"\r" in data else 0)
 
 
-def not_csv(before: int, lines: List[str], error: csv.Error) -> Wrong:
-    """Returns the error of lines whose first record is not CSV: a quote that is not closed is found only lines after it."""
+def open_quote(text: str, delimiter: str) -> int:
+    """Returns the place of the quote that opens the field which the end of a text leaves open."""
+    ends, at = re.compile(f"[\r\n{re.escape(delimiter)}]"), 0
+    while at < len(text):
+        if text.startswith('"', at):
+            close = text.find('"', at + 1)
+            while close >= 0 and text.startswith('"', close + 1):
+                close = text.find('"', close + 2)
+            if close < 0:
+                return at
+            at = close + 1
+        found = ends.search(text, at)
+        at = found.end() if found else len(text)
+    return at
+
+
+def not_csv(before: int, lines: List[str], delimiter: str, error: Optional[csv.Error] = None) -> Wrong:
+    """Returns the error of lines whose first record is not CSV: it has this error, or a quote that is not closed."""
     empty = next((number for number, line in enumerate(lines) if line.strip("\r\n")), 0)
-    return Wrong(f"the record at line {before + empty + 1} is not CSV: {error}")
+    if error and not str(error).startswith("unexpected end"):
+        return Wrong(f"the record at line {before + empty + 1} is not CSV: {error}")
+    text = "".join(lines)
+    opened = count_lines(encoded(text[: open_quote(text, delimiter)]))
+    return Wrong(f"the record at line {before + empty + 1} is not CSV: the quote that line {before + opened + 1} opens is not closed")
+
+
+def records_of(lines: List[str], delimiter: str) -> Iterator[Tuple[List[str], int, bool]]:
+    """Yields the fields of each record that is not empty, the number of lines to its end, and whether a quote is still open there. After a
+    quote that should end its field, the field goes on to the next delimiter or line end."""
+    is_open: List[bool] = []
+
+    def ended() -> Iterator[str]:
+        is_open.append(True)
+        yield from ()
+
+    reader = csv.reader(chain(lines, ended()), delimiter=delimiter)
+    for fields in reader:
+        if fields:
+            yield fields, reader.line_num, bool(is_open)
 
 
 def parted(raw: bytes) -> Tuple[bytes, bytes]:
@@ -90,25 +127,49 @@ class Reader:
 
     def _by_csv(self, chunk: Chunk) -> Records:
         bodies, ends, rows, reasons = [], [], [], {}  # type: List[bytes], List[bytes], List[List[str]], Dict[int, bytes]
-        for fields, raw in self._parsed(chunk):
+        for fields, raw, reason in self._parsed(chunk):
             body, end = parted(encoded(raw))
             if len(fields) != self._width:
                 body += self._bytes * (self._width - len(fields))
-                reasons[len(bodies)] = b"fields %d" % len(fields)
-            rows.append(fields if len(fields) == self._width else [""] * self._width)
+                reason = reason or b"fields %d" % len(fields)
+            if reason:
+                reasons[len(bodies)] = reason
+            rows.append([""] * self._width if reason else fields)
             bodies.append(body)
             ends.append(end)
         return Records(bodies, ends, [[encoded(fields[index]) for fields in rows] for index in self._indexes], reasons)
 
-    def _parsed(self, chunk: Chunk) -> List[Tuple[List[str], str]]:
-        """Returns the fields of each record, and the record as it stands in the file."""
+    def _parsed(self, chunk: Chunk) -> List[Tuple[List[str], str, bytes]]:
+        """Returns the fields of each record, the record as it stands in the file, and why it is rejected, or nothing."""
         lines = lines_of(chunk.data)
         reader, begun, found = csv.reader(lines, delimiter=self._delimiter, strict=True), 0, []
         try:
             for fields in reader:
                 if fields:
-                    found.append((fields, "".join(lines[begun : reader.line_num])))
+                    found.append((fields, "".join(lines[begun : reader.line_num]), b""))
                     begun = reader.line_num
-        except csv.Error as error:
-            raise not_csv(chunk.before + begun, lines[begun:], error) from error
+        except csv.Error:
+            return self._judged(chunk.before, lines)
         return found
+
+    def _judged(self, before: int, lines: List[str]) -> List[Tuple[List[str], str, bytes]]:
+        """Returns what `_parsed` does of lines with records that are not CSV: such a record alone is rejected, by the number of its line."""
+        begun, found = 0, []
+        try:
+            for fields, end, is_open in records_of(lines, self._delimiter):
+                if is_open:
+                    raise not_csv(before + begun, lines[begun:], self._delimiter)
+                raw = "".join(lines[begun:end])
+                empty = next(number for number, line in enumerate(lines[begun:end]) if line.strip("\r\n"))
+                found.append((fields, raw, b"" if self._is_strict(raw) else b"quote %d" % (before + begun + empty + 1)))
+                begun = end
+        except csv.Error as error:
+            raise not_csv(before + begun, lines[begun:], self._delimiter, error) from error
+        return found
+
+    def _is_strict(self, raw: str) -> bool:
+        """Returns whether a record is CSV."""
+        try:
+            return '"' not in raw or bool(list(csv.reader(io.StringIO(raw, newline=""), delimiter=self._delimiter, strict=True)))
+        except csv.Error:
+            return False

@@ -5,13 +5,11 @@ import csv
 import os
 from typing import Callable, Iterator, List, Optional, Tuple
 
-from ..errors import Wrong
 from ..files import is_ready, wait
-from .records import Chunk, count_lines, encoded, lines_of, not_csv
+from ..kinds import MARK, is_begun, judge_begin
+from .records import Chunk, count_lines, encoded, lines_of, not_csv, records_of
 
 BLOCK = 262_144
-MARK = "\ufeff".encode()
-UTF16 = (b"\xff\xfe", b"\xfe\xff")
 
 
 class Source:
@@ -20,10 +18,9 @@ class Source:
     def __init__(self, file: int, delimiter: str) -> None:
         self._file, self._delimiter = file, delimiter
         self._data, self._is_at_end, self._before = bytearray(), False, 0
-        while len(self._data) < len(MARK) and not self._is_at_end:
+        while is_begun(bytes(self._data)) and not self._is_at_end:
             self._read(wait)
-        if self._data.startswith(UTF16):
-            raise Wrong("the file is UTF-16: save it as UTF-8")
+        judge_begin(bytes(self._data))
         self.mark = MARK if self._data.startswith(MARK) else b""
         del self._data[: len(self.mark)]
         while (first := self._first()) is None:
@@ -87,7 +84,7 @@ class Source:
             fields: List[str] = next(filter(None, reader), [])
         except csv.Error as error:
             if reader.line_num < len(lines) or self._is_at_end:
-                raise not_csv(0, lines, error) from error
+                raise not_csv(0, lines, self._delimiter, error) from error
             return None
         return (fields, encoded("".join(lines[: reader.line_num]))) if fields or self._is_at_end else None
 
@@ -100,12 +97,12 @@ class Source:
         return min(end, body + (2 if self._data.startswith(b"\r\n", body) else 1)) if body else 0
 
     def _end_by_csv(self, end: int) -> int:
-        lines = self._lines()
-        reader, whole = csv.reader(lines, delimiter=self._delimiter, strict=True), 0
+        lines, whole = self._lines(), 0
         try:
-            for _ in reader:
-                whole = reader.line_num
+            for _, line, is_open in records_of(lines, self._delimiter):
+                if is_open and not self._is_at_end:
+                    return len(encoded("".join(lines[:whole])))
+                whole = line
         except csv.Error:
-            is_wrong = reader.line_num < len(lines) or self._is_at_end
-            return end if is_wrong else len(encoded("".join(lines[:whole])))
+            pass
         return end

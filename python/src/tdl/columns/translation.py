@@ -40,22 +40,38 @@ class Output:
         self.progress.show(self.total)
 
 
+def is_workbook(path: str) -> bool:
+    """Returns whether a path names a workbook."""
+    return path.lower().endswith((".xlsx", ".xlsm"))
+
+
+def _book(opened: ExitStack, path: str, job: Job) -> Source:
+    """Returns the records of a workbook."""
+    # (its modules take time to load)
+    from ..workbook import Workbook
+    from .book import BookSource
+
+    return BookSource(opened.enter_context(Workbook(path)), job.sheet, job.delimiter)
+
+
 def translate_csv(job: Job, path: str, output: str, rejected: Optional[str] = None) -> Total:
     """Translates columns of the file `path`. Each path may be `-`. Writes the rejected records to a second file if it is named."""
+    if job.sheet is not None and not is_workbook(path):
+        raise ValueError("--sheet is an option for workbooks, whose names end in .xlsx")
     codes = [code for code, _ in job.elements]
     keys: List[int] = keys_among(codes, job.options.get("tables"), job.options.get("program")) if codes else []
     before = csv.field_size_limit(sys.maxsize)
     try:
         with ExitStack() as opened:
-            file = opened.enter_context(reading(path))
+            file = None if is_workbook(path) else opened.enter_context(reading(path))
             answered, refused = opened.enter_context(writing(output, rejected, is_synced=job.is_synced))
             out = Output(answered, refused, Progress(file))
             opened.callback(out.progress.end)
-            source = Source(file, job.delimiter)
+            source = _book(opened, path, job) if file is None else Source(file, job.delimiter)
             layout = layout_of(source, job)
 
             def make() -> Worker:
-                return Worker(job, layout, Elements(codes, layout.names, keys) if codes else None)
+                return Worker(job, layout, Elements(codes, layout.names, keys, job.options.get("tables")) if codes else None)
 
             pool = pool_of(job.processes, make, out.write)
             opened.callback(pool.close)
