@@ -234,7 +234,8 @@ def test_merge_is_that_of_the_program(links: Links) -> None:
     target = {"href": PAGE, "hreflang": ["en"], "title*": [{"value": "Äpfel", "language": "de", "x": 1}], "media": "print", "note": ["x"]}
     one: dict[str, Any] = {ITEM: {"gs1:defaultLink": [target]}}
     two: dict[str, Any] = {f"https://a.example{ITEM}/10/A": {"https://ref.gs1.org/voc/pip": [{"href": PAGE}]}, ITEM: one[ITEM]}
-    for name, content in (("one.json", one), ("two.json", two), ("none.json", {})):
+    contents: dict[str, dict[str, Any]] = {"one.json": one, "two.json": two, "none.json": {}}
+    for name, content in contents.items():
         links.put(name, linkset_of(content))
     wanted = printed(links.program, "merge", "--links", "one.json", "--second", "two.json", cwd=links.folder)
     links.put("merged.json", merged_text(links, "one.json", "two.json"))
