@@ -6,7 +6,7 @@ from functools import lru_cache
 from typing import Optional
 
 PREFIX = "gs1:"
-# The link types of the GS1 Web Vocabulary, https://ref.gs1.org/voc/, release 1.15, as this project knows them: compare them with your copy.
+# The link types of the GS1 Web Vocabulary, https://ref.gs1.org/voc/, as of 2024, as far as this project knows them: compare them with your copy.
 GS1 = frozenset(
     """
     activityIdeas allergenInfo appDownload brandHomepageClinical brandHomepagePatient careersInfo certificationInfo
