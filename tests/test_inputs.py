@@ -5,8 +5,11 @@ import json
 import random
 import subprocess
 import sys
+import threading
 
 import pytest
+
+from tools.common import PATIENCE
 
 Environment = dict[str, str]
 BITS, LINK = "3074257BF7194E4000001A85", "https://id.gs1.org/01/80614141123458/21/6789"
@@ -119,16 +122,20 @@ def test_an_array_is_answered_as_it_comes(module: Environment) -> None:
     words = [sys.executable, "-m", "tdl", "jsonl", "-c", "epc", "--from", "hex", "--to", "link"]
     with subprocess.Popen(words, env=module, stdin=subprocess.PIPE, stdout=subprocess.PIPE, stderr=subprocess.DEVNULL, bufsize=0) as talking:
         assert talking.stdin and talking.stdout
+        watch = threading.Timer(PATIENCE, talking.kill)
+        watch.daemon = True
+        watch.start()
         for begin in ("[\n", ",\n"):
             talking.stdin.write(f'{begin}{{"epc":"{BITS}"}}'.encode())
             wanted = f'{begin}{{"epc":"{BITS}","epc_link":"{LINK}"}}'.encode()
             found = b""
-            while len(found) < len(wanted):
-                found += talking.stdout.read(len(wanted) - len(found))
+            while len(found) < len(wanted) and (more := talking.stdout.read(len(wanted) - len(found))):
+                found += more
             assert found == wanted
         talking.stdin.write(b"]")
         talking.stdin.close()
         assert (talking.stdout.read(), talking.wait()) == (b"]", 0)
+        watch.cancel()
 
 
 @pytest.mark.parametrize("command, words, given", [
