@@ -4,6 +4,7 @@
 #include <stddef.h>
 #include <stdio.h>
 #include <stdlib.h>
+#include <string.h>
 #include <sys/mman.h>
 #include <sys/stat.h>
 #include <sys/wait.h>
@@ -20,21 +21,24 @@ struct tally { long requests, nine, same, otherwise, first, status; };
 
 static struct tally own, *told = &own;
 static long first, step;
-static char whole[MOST], got[MOST];
-static ssize_t length;
+// what is written to standard output and to standard error: by the whole run, and by a copy
+struct text { char at[MOST]; ssize_t length; };
+
+static struct text whole[2], got[2];
 static int status, out_of_memory, busy = 1;
 
 static long number(const char *name) { return atol(getenv(name)); }
 
 __attribute__((constructor)) static void begin(void) {
-    int file = open(getenv("TDL_TALLY"), O_RDWR), text = open(getenv("TDL_WHOLE"), O_RDONLY);
+    int file = open(getenv("TDL_TALLY"), O_RDWR), texts[] = { open(getenv("TDL_WHOLE"), O_RDONLY), open(getenv("TDL_ERRORS"), O_RDONLY) };
     void *page = mmap(0, sizeof own, PROT_READ | PROT_WRITE, MAP_SHARED, file, 0);
     first = number("TDL_FIRST"), step = number("TDL_STEP");
     status = number("TDL_STATUS"), out_of_memory = number("TDL_OUT_OF_MEMORY");
-    length = read(text, whole, MOST);
-    if (page == MAP_FAILED || length < 0)
+    for (int n = 0; n < 2; n++)
+        whole[n].length = read(texts[n], whole[n].at, MOST), close(texts[n]);
+    if (page == MAP_FAILED || whole[0].length < 0 || whole[1].length < 0)
         _exit(125);
-    close(file), close(text);
+    close(file);
     told = page;
     busy = 0;
 }
@@ -52,18 +56,34 @@ static void open_anew(int file) {
     dup2(again, file), close(again);
 }
 
+static int begins(const struct text *some, const char *all, ssize_t length) { return some->length <= length && !memcmp(some->at, all, some->length); }
+
+// whether this is nothing, or one line of the program's
+static int is_line(const struct text *some) {
+    return !some->length || (some->length > 6 && !memcmp(some->at, "tdl: ", 5) && memchr(some->at, '\n', some->length) == some->at + some->length - 1);
+}
+
 // what a copy ended with: its status, and what it wrote behind what was written before
-static void judge(int ended, int output) {
-    ssize_t n = pread(output, got, MOST, 0), i = 0;
-    while (i < n && i < length && got[i] == whole[i])
-        i++;
-    int prefix = i == n, code = WIFEXITED(ended) ? WEXITSTATUS(ended) : -1;
-    if (code == out_of_memory && prefix)
+static void judge(int ended, const int *outputs) {
+    for (int n = 0; n < 2; n++)
+        got[n].length = pread(outputs[n], got[n].at, MOST, 0);
+    int code = WIFEXITED(ended) ? WEXITSTATUS(ended) : -1, is_front = begins(&got[0], whole[0].at, whole[0].length);
+    int is_whole = is_front && got[0].length == whole[0].length && got[1].length == whole[1].length && begins(&got[1], whole[1].at, whole[1].length);
+    if (code == out_of_memory && is_front && is_line(&got[1]))
         told->nine++;
-    else if (code == status && prefix && n == length)
+    else if (code == status && is_whole)
         told->same++;
     else if (!told->otherwise++)
         told->first = told->requests, told->status = code;
+}
+
+// makes an output for a copy, with what was written to the process's own
+static int output_of(int file) {
+    int output = memfd_create("output", 0);
+    ssize_t before = pread(file, got[0].at, lseek(file, 0, SEEK_CUR), 0);
+    if (output < 0 || before < 0 || write(output, got[0].at, before) != before)
+        _exit(125);
+    return output;
 }
 
 // whether this is a copy, to which the request is refused
@@ -71,24 +91,21 @@ static int is_refused(void) {
     if (busy || ++told->requests < first || (told->requests - first) % step)
         return 0;
     busy = 1;
-    int output = memfd_create("output", 0), ended = -1;
-    ssize_t before = pread(1, got, lseek(1, 0, SEEK_CUR), 0);
-    if (output < 0 || before < 0 || write(output, got, before) != before)
-        _exit(125);
+    int outputs[] = { output_of(1), output_of(2) }, ended = -1;
     pid_t copy = fork();
     if (!copy) {
         open_anew(0);
         for (int file = 3; file < FILES; file++)
-            if (file != output)
+            if (file != outputs[0] && file != outputs[1])
                 open_anew(file);
-        dup2(output, 1), dup2(output, 2), close(output);
+        dup2(outputs[0], 1), dup2(outputs[1], 2), close(outputs[0]), close(outputs[1]);
         alarm(SECONDS);
         return 1;
     }
     if (copy < 0 || waitpid(copy, &ended, 0) != copy)
         _exit(125);
-    judge(ended, output);
-    close(output);
+    judge(ended, outputs);
+    close(outputs[0]), close(outputs[1]);
     busy = 0;
     return 0;
 }

@@ -1,4 +1,4 @@
-"""A run of which a request for memory is refused ends with status 9 and a front of its output, or as if none were refused.
+"""A run of which a request for memory is refused ends with status 9, a front of its output and at most one line of errors, or as if none were refused.
 
 A C library, checks/memory.c, that cc builds stands in front of the system's `malloc`, `calloc` and `realloc`. At each request of a run it
 makes a copy of the process, by `fork`, with input, files and output of its own: to the copy this request is refused, and the process itself
@@ -40,20 +40,21 @@ RUNS = {
 @pytest.mark.needs("cc")
 @pytest.mark.parametrize("name", RUNS)
 def test_refused(program: Path, tmp_path: Path, pytestconfig: pytest.Config, name: str) -> None:
-    """Each copy ends with status 9 and a front of the output or as the whole run does, and so does the run itself."""
+    """Each copy ends with status 9 and a front of the output, or as the whole run does, and so does the run itself."""
     words, given = RUNS[name]
     command: list[str] = [str(program), *words.split()]
-    files = {file: tmp_path / file for file in ("t", "l", "tally", "whole", "given", "output")}
-    for path, content in zip(files.values(), (TWICE, LINKS, "\0" * 48, "", given, "")):
+    files = {file: tmp_path / file for file in ("t", "l", "tally", "whole", "failures", "given", "output", "errors")}
+    for path, content in zip(files.values(), (TWICE, LINKS, "\0" * 48, "", "", given, "", "")):
         path.write_text(content, "ascii")
     subprocess.run(["cc", "-O1", "-fno-builtin", "-shared", "-fPIC", "-o", "refuse.so", TOP / "checks" / "memory.c"], cwd=tmp_path, check=True)
     whole = subprocess.run(command, cwd=tmp_path, input=given.encode(), capture_output=True)
-    files["whole"].write_bytes(whole.stdout + whole.stderr)
-    told = {"TALLY": files["tally"], "WHOLE": files["whole"], "STATUS": whole.returncode, "FIRST": 1, "OUT_OF_MEMORY": OUT_OF_MEMORY}
+    files["whole"].write_bytes(whole.stdout)
+    files["failures"].write_bytes(whole.stderr)
+    told = {"TALLY": files["tally"], "WHOLE": files["whole"], "ERRORS": files["failures"], "STATUS": whole.returncode, "FIRST": 1, "OUT_OF_MEMORY": OUT_OF_MEMORY}
     told["STEP"] = 1 if pytestconfig.getoption("--whole") else EVERY
     env = {**os.environ, "LD_PRELOAD": f"{tmp_path}/refuse.so", **{f"TDL_{name}": str(value) for name, value in told.items()}}
-    with files["given"].open("rb") as opened, files["output"].open("r+b") as output:
-        done = subprocess.run(command, cwd=tmp_path, env=env, stdin=opened, stdout=output, stderr=subprocess.PIPE)
+    with files["given"].open("rb") as opened, files["output"].open("r+b") as output, files["errors"].open("r+b") as errors:
+        done = subprocess.run(command, cwd=tmp_path, env=env, stdin=opened, stdout=output, stderr=errors)
     tally = files["tally"].read_bytes()
     requests, nine, same, otherwise, number, status = (int.from_bytes(tally[at : at + 8], sys.byteorder, signed=True) for at in range(0, 48, 8))
     print(f"{name}: {requests} requests, {nine} refused with status 9 and a front, {same} as without, {otherwise} otherwise")
@@ -61,4 +62,5 @@ def test_refused(program: Path, tmp_path: Path, pytestconfig: pytest.Config, nam
         pytest.skip("the program was linked with a malloc of its own, in front of which nothing can stand")
     assert nine
     assert not otherwise, f"the first of them is request {number}, status {status}"
-    assert (done.returncode, files["output"].read_bytes() + done.stderr) == (whole.returncode, whole.stdout + whole.stderr)
+    got = done.returncode, files["output"].read_bytes(), files["errors"].read_bytes()
+    assert got == (whole.returncode, whole.stdout, whole.stderr)

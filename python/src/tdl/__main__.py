@@ -75,8 +75,8 @@ def main(words: Optional[List[str]] = None) -> int:
 
 
 def _failed(asked: argparse.Namespace, sentence: str, status: int) -> int:
-    # (a name of a file or of a column may have control characters)
-    interrupts.tell(f"tdl {asked.command}: {shown(sentence)}")
+    # (a name of a file or of a column may have control characters; a list of faults has lines)
+    interrupts.tell(f"tdl {asked.command}: " + "\n".join(map(shown, sentence.split("\n"))))
     return status
 
 
