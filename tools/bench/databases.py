@@ -52,6 +52,11 @@ def measure_postgres(server: Server) -> None:
         mixed = "SELECT count(tdl_translate(label, 'bracketed', 'hex', filter => %s, gcp => %s)) FROM labels"
         rows_a_second(server, "PostgreSQL, with constant options", MIXED, mixed % ("3", "7"))
         rows_a_second(server, "PostgreSQL, with 56 choices of options", MIXED, mixed % ("id % 8", "6 + id % 7"))
+        entries = "string_agg(format(',{\"prefix\":\"9%s\",\"length\":9}', to_char(n, 'FM00000')), '')"
+        document = """'{"version":1,"prefixes":[{"prefix":"0614141","length":7}' || """ + entries + " || ']}'"
+        server.ask(f"CREATE TABLE documents AS SELECT {document} AS doc FROM generate_series(1, 55000) n", of=OWN)
+        given = "SELECT count(tdl_translate(label, 'bracketed', 'hex', filter => 3, prefixes => (SELECT doc FROM documents))) FROM labels"
+        rows_a_second(server, "PostgreSQL, with 1.9 MB of company prefixes of a table", MIXED, given)
         rows_a_second(server, "PostgreSQL, the same without the call", rows, "SELECT count(epc || '') FROM reads")
     rows = 50_000
     server.ask(READS % rows)
@@ -70,15 +75,22 @@ def measure_sqlite(folder: Path) -> None:
     """Prints the rows a second of the processor in SQLite."""
     rows = f"WITH RECURSIVE n(i) AS (SELECT 0 UNION ALL SELECT i + 1 FROM n WHERE i < {ROWS - 1}) "
     rows += f"INSERT INTO reads SELECT '{BITS[:16]}' || printf('%08X', i) FROM n;\n"
+    mixed = "tdl('bracketed', 'hex', '(01)80614141123458(21)' || rowid, 'filter', %s, 'gcp', %s)"
+    ways = {
+        "SQLite, a call for each row": (ROWS, "tdl('hex', 'link', epc)"),
+        "SQLite, with constant options": (MIXED, mixed % ("3", "7")),
+        "SQLite, with 56 choices of options": (MIXED, mixed % ("rowid % 8", "6 + rowid % 7")),
+        "SQLite, without the call": (ROWS, "epc || ''"),
+    }
     with tempfile.NamedTemporaryFile() as database:
         ask_sqlite(folder, f"CREATE TABLE reads (epc TEXT);\n{rows}", database.name)
-        for name, counted in (("SQLite, a call for each row", "tdl('hex', 'link', epc)"), ("SQLite, without the call", "epc || ''")):
+        for name, (count, counted) in ways.items():
             times = []
             for _ in range(3):
-                told = ask_sqlite(folder, f".timer on\nSELECT count({counted}) FROM reads;\n", database.name)
+                told = ask_sqlite(folder, f".timer on\nSELECT count({counted}) FROM (SELECT rowid, epc FROM reads LIMIT {count});\n", database.name)
                 user, system = there(re.search(r"user ([\d.]+) sys ([\d.]+)", told)).groups()
                 times.append(float(user) + float(system))
-            print(f"| {name} | {ROWS / min(times):,.0f} |")
+            print(f"| {name} | {count / min(times):,.0f} |")
 
 
 def main() -> int:
