@@ -11,7 +11,7 @@ from typing import Any, Iterator
 import pytest
 
 from tools.common import BOTH, PATIENCE, QUIET, begun, printed, temporary, there, until
-from tools.databases import BITS, CREATED, FORM_OF, LINK, OF_POSTGRES, OF_THE_LIBRARY, OWN, Server, begin_own, bulk
+from tools.databases import BITS, CREATED, FORM_OF, LINK, POSTGRES, SHARE, OF_POSTGRES, OF_THE_LIBRARY, OWN, Server, begin_own, bulk
 from tools.debian import lack
 from tools.tests import library_if_any
 
@@ -237,11 +237,16 @@ def test_settings(own: Server) -> None:
 
 @of_the_library
 def test_an_update_of_the_extension(own: Server) -> None:
-    """The functions after the update script are those of a new extension."""
+    """After the update from version 2.0, in which NULL for an option gave NULL, the functions are those of a new extension."""
     shown = ("SELECT p.oid::regprocedure || ' ' || proisstrict || ' ' || prosrc FROM pg_proc p JOIN pg_depend d ON d.objid = p.oid AND d.deptype = 'e' "
              "JOIN pg_extension e ON e.oid = d.refobjid AND e.extname = 'tdl' ORDER BY 1")
-    wanted = own.ask(shown, of=OWN)
-    assert "tdl_valid(text,text) false pg_tdl_valid" in wanted
+    new = (POSTGRES / "tdl--2.1.sql").read_text("ascii")
+    old = new.partition("-- Returns whether")[0].replace("IMMUTABLE", "IMMUTABLE STRICT")
+    (own.room / SHARE.relative_to("/") / "extension" / "tdl--2.0.sql").write_text(old, "ascii")
+    own.ask("CREATE DATABASE updated")
+    assert own.ask("CREATE EXTENSION tdl VERSION '2.0'", "SELECT count(*) FILTER (WHERE proisstrict) FROM pg_proc WHERE proname LIKE 'tdl_%'", of="updated") == "4"
+    own.ask("ALTER EXTENSION tdl UPDATE", of="updated")
+    assert own.ask(shown, of="updated") == own.ask(shown, of=OWN) and "tdl_valid(text,text) false pg_tdl_valid" in own.ask(shown, of=OWN)
 
 
 @of_the_library

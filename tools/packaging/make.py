@@ -1,6 +1,6 @@
 """make [FOLDER] [--program FILE] [--library FOLDER]: makes the packages: the .deb of the program, those of the library (libtdl1, libtdl-dev), a
-.tar.gz with the files of the three, a wheel of the Python module with the program, the library and the table documents in it, an image for
-containers (packaging/image.py), and SHA256SUMS of all.
+.tar.gz with the files of the three, those over the library (postgresql-15-tdl, libtdl-sqlite), a wheel of the Python module with the program, the
+library and the table documents in it, an image for containers (packaging/image.py), and SHA256SUMS of all.
 
 FOLDER is packaging/out where it is not given. Program and library are those of bin/build, which have to be current, or FILE and those of a
 folder. It needs no network and no rights. A .deb needs dpkg-deb, the site of the documents mkdocs, the module's part over the library a C
@@ -26,6 +26,7 @@ import backend
 from tools import image, library, messages, repository
 from tools.archive import FILE_MODE, FOLDER_MODE, LINK_MODE, PROGRAM_MODE, Files, folders_of, packed, tar_of
 from tools.common import run, there
+from tools.packaging import databases
 from tools.repository import PROGRAM, TOP, VERSION
 
 HERE = TOP / "packaging"
@@ -128,6 +129,12 @@ def symbols() -> str:
     return f"{library.SONAME} libtdl1 #MINVER#\n{listed}"
 
 
+def documents_of_library(when: int) -> Files:
+    """The documents of each package of the library and over it, by their names in its folder."""
+    changed = packed(changes(when).encode("utf-8"))
+    return {"copyright": ((HERE / "libtdl" / "copyright").read_bytes(), FILE_MODE), "changelog.gz": (changed, FILE_MODE)}
+
+
 def library_contents(folder: Path, when: int) -> list[Files]:
     """The files of the library's two packages: each path with its bytes and its mode."""
     whole = (folder / library.SONAME).read_bytes(), FILE_MODE
@@ -141,8 +148,7 @@ def library_contents(folder: Path, when: int) -> list[Files]:
         "usr/share/man/man3/tdl.3.gz": (packed((HERE / "man" / "tdl.3").read_bytes()), FILE_MODE),
     }
     for name, files in zip(LIBRARY_PACKAGES, (shared, for_compilers)):
-        files[f"usr/share/doc/{name}/copyright"] = ((HERE / "libtdl" / "copyright").read_bytes(), FILE_MODE)
-        files[f"usr/share/doc/{name}/changelog.gz"] = (packed(changes(when).encode("utf-8")), FILE_MODE)
+        files.update({f"usr/share/doc/{name}/{path}": entry for path, entry in documents_of_library(when).items()})
     return [dict(sorted(files.items())) for files in (shared, for_compilers)]
 
 
@@ -180,12 +186,12 @@ def make_deb(control: Path, files: Files, when: int, to: Path, more: dict[str, s
         subprocess.run(words, env=env, check=True, stdout=subprocess.DEVNULL)
 
 
-def make_debs(files: Files, of_library: list[Files], when: int, folder: Path) -> list[Path]:
+def make_debs(files: Files, of_library: list[Files], of_databases: dict[str, Files], when: int, folder: Path) -> list[Path]:
     """Writes the Debian packages, and returns their paths."""
     made = [folder / f"tdl_{VERSION}_amd64.deb"]
     make_deb(HERE / "control", files, when, made[0], {})
     for_linking: dict[str, str] = {"shlibs": f"libtdl 1 libtdl1 (>= {VERSION})\n", "symbols": symbols(), "triggers": "activate-noawait ldconfig\n"}
-    for name, some in zip(LIBRARY_PACKAGES, of_library):
+    for name, some in {**dict(zip(LIBRARY_PACKAGES, of_library)), **of_databases}.items():
         made.append(folder / f"{name}_{VERSION}_amd64.deb")
         make_deb(HERE / "libtdl" / f"{name}.control", some, when, made[-1], for_linking if name == LIBRARY_PACKAGES[0] else {})
     return made
@@ -228,7 +234,8 @@ def main() -> int:
     every = {path: entry for some in (files, *of_library) for path, entry in some.items()}
     made[0].write_bytes(packed(tar_of({f"tdl-{VERSION}/{path}": entry for path, entry in sorted(every.items())}, when)))
     if shutil.which("dpkg-deb"):
-        made += make_debs(files, of_library, when, given.folder)
+        of_databases = databases.contents(built, documents_of_library(when)) if built else {}
+        made += make_debs(files, of_library, of_databases, when, given.folder)
     else:
         print("make: there is no dpkg-deb, so no .deb is made", file=sys.stderr)
     least = least_c_library(program, extension or b"").replace(".", "_")
