@@ -23,10 +23,9 @@ from pathlib import Path
 from typing import Optional
 
 import backend
-from tools import image, library, messages, repository
+from tools import database_packages, image, library, messages, repository
 from tools.archive import FILE_MODE, FOLDER_MODE, LINK_MODE, PROGRAM_MODE, Files, folders_of, packed, tar_of
 from tools.common import run, there
-from tools.packaging import databases
 from tools.repository import PROGRAM, TOP, VERSION
 
 HERE = TOP / "packaging"
@@ -234,7 +233,7 @@ def main() -> int:
     every = {path: entry for some in (files, *of_library) for path, entry in some.items()}
     made[0].write_bytes(packed(tar_of({f"tdl-{VERSION}/{path}": entry for path, entry in sorted(every.items())}, when)))
     if shutil.which("dpkg-deb"):
-        of_databases = databases.contents(built, documents_of_library(when)) if built else {}
+        of_databases = database_packages.contents(built, documents_of_library(when)) if built else {}
         made += make_debs(files, of_library, of_databases, when, given.folder)
     else:
         print("make: there is no dpkg-deb, so no .deb is made", file=sys.stderr)

@@ -1,4 +1,4 @@
-"""databases: the files of the packages for PostgreSQL and SQLite: the extensions of examples/postgres and examples/sqlite over libtdl.so.1."""
+"""database_packages: the files of the packages for PostgreSQL and SQLite: the extensions of examples/postgres and examples/sqlite over libtdl.so.1."""
 import shutil
 import sys
 import tempfile
